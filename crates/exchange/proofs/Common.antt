@@ -1,12 +1,14 @@
 -- The names that proofs cite from elsewhere, passed on from one place. Declares nothing.
 pub use Rattle.exchange.specs.Prelude.{Alike, AllDistinct, Answers, AnswersDirection, AreDistinct, AtMostOne, Candidate, Consistent}
-pub use Rattle.exchange.specs.Prelude.{Direction, Fingerprint, FirstLine, HasBoundedRows, HasPlainVideoFeedback, Holds, IceCreds}
+pub use Rattle.exchange.specs.Prelude.{Direction, Fingerprint, FirstLine, HasBoundedRows, HasPlainVideoFeedback, HoldsMids, IceCreds}
 pub use Rattle.exchange.specs.Prelude.{IsCandidateLine, IsFromLine, IsPlain, IsPreferred, IsReading, Line, Lines, LockedStay}
 pub use Rattle.exchange.specs.Prelude.{MediaAttribute, MediaKind, MediaLine, MediaType, Negotiated, Outcome, PayloadParams, Proto}
 pub use Rattle.exchange.specs.Prelude.{RunReached}
-pub use Rattle.exchange.specs.Prelude.{Reading, Refuses, Sdp, Session, SessionAttribute, Setup, SimulcastLayer, bundled_of, creds}
-pub use Rattle.exchange.specs.Prelude.{direction_attribute, distinct, first, first_filled, has, is_held, is_listed, is_media, is_mid}
-pub use Rattle.exchange.specs.Prelude.{is_of_type, kind_rows, locked_types, made, maps, media_pwd, media_ufrag, mid_of, receives, row_attrs}
+pub use Rattle.exchange.specs.Prelude.{Reading, Refuses, Sdp, Session, SessionAttribute, Setup, SimulcastLayer, bundled_mids_of, creds}
+pub use Rattle.exchange.specs.Prelude.{direction_attribute, distinct, first, first_filled_list, has, is_mid_held, is_listed, is_media}
+pub use Rattle.exchange.specs.Prelude.{is_mid}
+pub use Rattle.exchange.specs.Prelude.{is_of_type, kind_rows, locked_types, made, maps_type, media_pwd, media_ufrag, mid_of, receives}
+pub use Rattle.exchange.specs.Prelude.{row_attrs}
 pub use Rattle.exchange.specs.Prelude.{rows, section_direction, section_mids, session_pwd, session_ufrag, types, types_of, versioned_text}
 pub use Rattle.exchange.specs.Prelude.{◌>>=◌}
 pub use Rattle.std.proofs.Common.{All, BTreeSet, Bool, Bor, Contains, Decides, Err, IfOk, IfSome, IsSomeAnd, IsTrue, List, MatchOption}
@@ -42,8 +44,9 @@ pub use Rattle.str0m_formats.specs.declared.round.rounds.Round.{Round}
 pub use Rattle.str0m_formats.specs.declared.row.codec_config.CodecConfig.{CodecConfig}
 pub use Rattle.str0m_formats.specs.round.Claimed.{times}
 pub use Rattle.str0m_formats.specs.round.RoundsPromises.{StaysLocked}
-pub use Rattle.str0m_sdp.proofs.{map_more, one_mapped, first_by_find_map, first_from_find_map, filter_map_more, filter_map_same}
-pub use Rattle.str0m_sdp.proofs.{count-append, uncounted, holds_before, holds_behind}
+pub use Rattle.str0m_sdp.proofs.{filter_map_next, filter_map_one_all, first_by_find_map, first_from_find_map, accessor_filter_map_more}
+pub use Rattle.str0m_sdp.proofs.{accessor_filter_map_same}
+pub use Rattle.str0m_sdp.proofs.{count-append, rows_uncounted, mids_holds_before, mids_holds_behind}
 pub use Rattle.str0m_sdp.specs.declared.attribute.MediaAttribute.TheVariants.{Fmtp, RtcpFb, Unused}
 pub use Rattle.str0m_sdp.specs.declared.attribute.media_type.MediaType.TheVariants.{Application, Audio, Unknown, Video}
 pub use Rattle.str0m_sdp.specs.declared.attribute.proto.Proto.TheVariants.{Sctp, Srtp}
@@ -51,7 +54,8 @@ pub use Rattle.str0m_sdp.specs.declared.attribute.setup.Setup.TheVariants.{ActPa
 pub use Rattle.str0m_sdp.specs.declared.label.TheConstants.{EXTMAP_ALLOW_MIXED, FIR, NACK, PLI, REMB, TRANSPORT_CC}
 pub use Rattle.str0m_sdp.specs.declared.session.error.SdpError.{SdpError}
 pub use Rattle.str0m_sdp.specs.declared.session.error.SdpError.TheVariants.{Inconsistent, Memory, ParseError}
-pub use Rattle.str0m_sdp.specs.section.RowAttributes.{feedback_attrs, feedback_line, fmtp_line, format_attrs, format_values, red_attrs}
+pub use Rattle.str0m_sdp.specs.section.RowAttributes.{feedback_attrs, row_feedback_line, row_fmtp_line, format_attrs, row_format_values}
+pub use Rattle.str0m_sdp.specs.section.RowAttributes.{red_attrs}
 pub use Rattle.str0m_sdp.specs.section.RowAttributes.{red_lines, rtx_attrs, rtx_lines}
 pub use Rattle.str0m_sdp.specs.session.SessionConsistency.{section_mid}
 pub use Rattle.str0m_signal.proofs.{joined-append, line_feeds, line_number}

@@ -20,15 +20,15 @@ pub use Rattle.str0m_sdp.specs.declared.section.media_line.MediaLine.{MediaLine}
 pub use Rattle.str0m_sdp.specs.declared.session.Sdp.{Sdp}
 pub use Rattle.str0m_sdp.specs.declared.session.Session.{Session}
 pub use Rattle.str0m_sdp.specs.section.Alike.{Alike}
-pub use Rattle.str0m_sdp.specs.section.Consistency.{Consistent, is_mid, maps, mid_of}
+pub use Rattle.str0m_sdp.specs.section.Consistency.{Consistent, is_mid, maps_type, mid_of}
 pub use Rattle.str0m_sdp.specs.section.MadeSection.{is_of_type, made}
 pub use Rattle.str0m_sdp.specs.section.RowAttributes.{row_attrs}
 pub use Rattle.str0m_sdp.specs.section.SectionAccessors.{rid_name_of, simulcast_of}
 pub use Rattle.str0m_sdp.specs.section.SectionDirection.{section_direction}
 pub use Rattle.str0m_sdp.specs.section.SectionRows.{HasBoundedRows, rows}
-pub use Rattle.str0m_sdp.specs.session.OrderedMids.{Holds, is_held}
-pub use Rattle.str0m_sdp.specs.session.PreferredFingerprint.{IsPreferred, first_filled}
-pub use Rattle.str0m_sdp.specs.session.SdpAccessors.{bundled_of}
+pub use Rattle.str0m_sdp.specs.session.OrderedMids.{HoldsMids, is_mid_held}
+pub use Rattle.str0m_sdp.specs.session.PreferredFingerprint.{IsPreferred, first_filled_list}
+pub use Rattle.str0m_sdp.specs.session.SdpAccessors.{bundled_mids_of}
 pub use Rattle.str0m_sdp.specs.session.Session.{versioned_text}
 pub use Rattle.str0m_sdp.specs.session.SessionConsistency.{AreDistinct, is_listed, section_mids}
 pub use Rattle.str0m_sdp.specs.session.Transport.{creds, media_creds, media_fingerprint, media_pwd, media_setup, media_ufrag, session_fingerprint, session_pwd, session_setup, session_ufrag}

@@ -13,5 +13,5 @@ pub use Rattle.str0m_formats.proofs.{ran_from}
 pub use Rattle.str0m_formats.proofs.Common.{take_more}
 pub use Rattle.str0m_formats.specs.declared.row.codec_config.CodecConfig.{CodecConfig}
 pub use Rattle.str0m_formats.specs.round.RoundsPromises.{Negotiates}
-pub use Rattle.str0m_sdp.proofs.{or_false}
+pub use Rattle.str0m_sdp.proofs.{rows_or_false}
 pub use Rattle.str0m_signal.proofs.Common.{Utf8, shadow}

@@ -1,6 +1,6 @@
 -- What one more finding changes.
 use Rattle.lint.proofs.Common.{◌≡◌, ◌||◌, ℕ, Bool, true, false, cond, List, [], ◌∷◌, ◌++◌, Some, None, min, max, refl, ap, ◌∙◌, arith}
-use Rattle.lint.proofs.Common.{append-nil, filter_map-append, cons_option, list_any, or_false}
+use Rattle.lint.proofs.Common.{append-nil, filter_map-append, cons_option, list_any, rows_or_false}
 use Rattle.lint.specs.Code.{is_refusal, is_end, is_unread_code, is_change}
 use Rattle.lint.specs.Findings.{AddsOne, Ends, KeepsUnread, OnlyChanges, SaysElse, ends, is_changed, is_refused, lines_kept, line_if}
 use Rattle.lint.specs.Findings.{lines_of_kind}
@@ -46,7 +46,7 @@ added_any : (is : Code → Bool) (line : ℕ) (code : Code) (old new : Notes) �
     → list_any (λ finding. is finding.code) new.findings ≡ (list_any (λ finding. is finding.code) old.findings || is code)
 added_any is line code old new (f, e, c, l) =
     ap (list_any (λ finding. is finding.code)) e ∙ list_any-append (λ finding. is finding.code) old.findings (f ∷ [])
-    ∙ ap (λ (b : Bool). list_any (λ finding. is finding.code) old.findings || b) (or_false (is f.code))
+    ∙ ap (λ (b : Bool). list_any (λ finding. is finding.code) old.findings || b) (rows_or_false (is f.code))
     ∙ ap (λ (k : Code). list_any (λ finding. is finding.code) old.findings || is k) c
 
 added_refusal : (line : ℕ) (code : Code) (old new : Notes) → AddsOne line code old new
@@ -63,8 +63,8 @@ pub keeps_none : (line : ℕ) (what : What) (old new : Notes) → AddsOne line (
 keeps_none line what old new a last = record {
   kept_are = added_lines is_unread_code line (Unseen what) old new a;
   ends_stay = added_lines is_end line (Unseen what) old new a ∙ append-nil (ends old.findings);
-  refused_stays = added_refusal line (Unseen what) old new a ∙ or_false (is_refused old.findings);
-  changed_stays = added_change line (Unseen what) old new a ∙ or_false (is_changed old.findings);
+  refused_stays = added_refusal line (Unseen what) old new a ∙ rows_or_false (is_refused old.findings);
+  changed_stays = added_change line (Unseen what) old new a ∙ rows_or_false (is_changed old.findings);
   last_stays = last;
 }
 
@@ -79,16 +79,16 @@ unread_line_is_kept line (Malformed misfit) old new is here a last = record {
   kept_are = added_lines is_unread_code line (Malformed misfit) old new a
       ∙ ap (λ (n : ℕ). lines_kept old.findings ++ n ∷ []) (clamped old.last line here);
   ends_stay = added_lines is_end line (Malformed misfit) old new a ∙ append-nil (ends old.findings);
-  refused_stays = added_refusal line (Malformed misfit) old new a ∙ or_false (is_refused old.findings);
-  changed_stays = added_change line (Malformed misfit) old new a ∙ or_false (is_changed old.findings);
+  refused_stays = added_refusal line (Malformed misfit) old new a ∙ rows_or_false (is_refused old.findings);
+  changed_stays = added_change line (Malformed misfit) old new a ∙ rows_or_false (is_changed old.findings);
   last_stays = last;
 }
 unread_line_is_kept line (Unknown unknown) old new is here a last = record {
   kept_are = added_lines is_unread_code line (Unknown unknown) old new a
       ∙ ap (λ (n : ℕ). lines_kept old.findings ++ n ∷ []) (clamped old.last line here);
   ends_stay = added_lines is_end line (Unknown unknown) old new a ∙ append-nil (ends old.findings);
-  refused_stays = added_refusal line (Unknown unknown) old new a ∙ or_false (is_refused old.findings);
-  changed_stays = added_change line (Unknown unknown) old new a ∙ or_false (is_changed old.findings);
+  refused_stays = added_refusal line (Unknown unknown) old new a ∙ rows_or_false (is_refused old.findings);
+  changed_stays = added_change line (Unknown unknown) old new a ∙ rows_or_false (is_changed old.findings);
   last_stays = last;
 }
 unread_line_is_kept line (Refused refusal) old new is here a last = absurd cc
@@ -105,7 +105,7 @@ pub ends_one : (line : ℕ) (unfit : Unfit) (old new : Notes) → IsNumbered old
 ends_one line unfit old new here a last = record {
   ends_are = added_lines is_end line (Unread unfit) old new a ∙ ap (λ (n : ℕ). ends old.findings ++ n ∷ []) (clamped old.last line here);
   kept_stay = added_lines is_unread_code line (Unread unfit) old new a ∙ append-nil (lines_kept old.findings);
-  refused_stays = added_refusal line (Unread unfit) old new a ∙ or_false (is_refused old.findings);
+  refused_stays = added_refusal line (Unread unfit) old new a ∙ rows_or_false (is_refused old.findings);
   last_stays = last;
 }
 
@@ -119,7 +119,7 @@ pub changes_one : (line : ℕ) (change : Change) (old new : Notes) → AddsOne l
 changes_one line change old new a = record {
   kept_stay = added_lines is_unread_code line (Changed change) old new a ∙ append-nil (lines_kept old.findings);
   ends_stay = added_lines is_end line (Changed change) old new a ∙ append-nil (ends old.findings);
-  refused_stays = added_refusal line (Changed change) old new a ∙ or_false (is_refused old.findings);
+  refused_stays = added_refusal line (Changed change) old new a ∙ rows_or_false (is_refused old.findings);
 }
 
 pub says_change : (line : ℕ) (change : Change) (old new : Notes) → AddsOne line (Changed change) old new → is_changed new.findings ≡ true
@@ -141,9 +141,9 @@ else_one line conflict old new a = record {
   only = record {
     kept_stay = added_lines is_unread_code line (Contradiction conflict) old new a ∙ append-nil (lines_kept old.findings);
     ends_stay = added_lines is_end line (Contradiction conflict) old new a ∙ append-nil (ends old.findings);
-    refused_stays = added_refusal line (Contradiction conflict) old new a ∙ or_false (is_refused old.findings);
+    refused_stays = added_refusal line (Contradiction conflict) old new a ∙ rows_or_false (is_refused old.findings);
   };
-  changed_stays = added_change line (Contradiction conflict) old new a ∙ or_false (is_changed old.findings);
+  changed_stays = added_change line (Contradiction conflict) old new a ∙ rows_or_false (is_changed old.findings);
 }
 
 pub else_none : (old : Notes) → SaysElse old old

@@ -9,7 +9,7 @@ use Rattle.lint.specs.declared.notes.Notes.{Notes}
 use Rattle.std.specs.List.{list_any}
 use Rattle.std.specs.Prelude.{◌≡◌, ◌==◌, ℕ, Bool, true, false, ◌&&◌, ◌||◌, not, Option, Some, None, Ok, Err, List, [], ◌∷◌, ◌++◌, if◌then◌else◌, filter_map, map, option_map, is_some}
 use Rattle.str0m_formats.specs.declared.round.negotiation_error.NegotiationError.TheVariants.{TypeTooLarge, ClaimedTwice, Exhausted, Memory}
-use Rattle.str0m_sdp.specs.section.Companions.{is_type}
+use Rattle.str0m_sdp.specs.section.Companions.{is_companion_type}
 
 -- some row of these fits it
 abbrev pub fits_some : List PayloadParams → PayloadParams → Bool
@@ -20,7 +20,7 @@ has_codec ours codec = list_any (λ row. same_codec row.spec.codec codec) ours
 
 -- a row has this payload type, in whatever role
 abbrev pub has_type : PayloadParams → ℕ → Bool
-has_type row pt = row.pt == pt || (is_type pt row.resend || is_type pt row.red)
+has_type row pt = row.pt == pt || (is_companion_type pt row.resend || is_companion_type pt row.red)
 
 -- a locked row that doesn't fit has the type
 unfoldable pub blocks : PayloadParams → PayloadParams → Bool
@@ -54,7 +54,7 @@ ArePartners remote receives (old ∷ before) [] partners = partners ≡ []
 -- of a row that fits, in a round that is accepted
 abbrev pub accepted_fate : Bool → List PayloadParams → List (Option ℕ) → PayloadParams → Fate
 accepted_fate receives after partners theirs =
-    if list_any (is_type theirs.pt) partners then Locked
+    if list_any (is_companion_type theirs.pt) partners then Locked
     else if is_type_taken receives after theirs then TakenType
     else OtherRow
 

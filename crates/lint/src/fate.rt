@@ -2,7 +2,7 @@
 ghost use Rattle.lint.specs.Fates.{ArePartners, IsPartner, accepted_fate, fate, fits_some, fitting_fate, has_codec, has_type, blocks, is_type_taken};
 ghost use Rattle.std.specs.List.{list_any};
 ghost use Rattle.std.specs.Prelude.{◌≡◌, IfOk, length};
-ghost use Rattle.str0m_sdp.specs.section.Companions.{is_type};
+ghost use Rattle.str0m_sdp.specs.section.Companions.{is_companion_type};
 
 use crate::code::Fate;
 use std::alloc::{AllocError, Global};
@@ -36,7 +36,7 @@ fn has_codec(rows: &[PayloadParams], codec: Codec) -> bool
 
 /// Whether it is this payload type.
 pub(crate) fn is_type(pt: Pt, found: Option<Pt>) -> bool
-    ensures { result ≡ is_type pt found }
+    ensures { result ≡ is_companion_type pt found }
 {
     match found {
         Some(it) => it == pt,
@@ -68,7 +68,7 @@ fn is_held(rows: &[PayloadParams], theirs: &PayloadParams) -> bool
 
 /// Whether a row goes with that of this type.
 fn has_partner(partners: &[Option<Pt>], pt: Pt) -> bool
-    ensures { result ≡ list_any (is_type pt) partners.now }
+    ensures { result ≡ list_any (is_companion_type pt) partners.now }
 {
     partners.iter().any(|partner| is_type(pt, *partner))
 }

@@ -1,18 +1,18 @@
 pub mod Common
 -- What crates above name of the laws of rooms, which are private as their code is.
 pub use Rattle.str0m_sdp.proofs.attribute.AttributeEqual.{media_Decides, session_Decides}
-pub use Rattle.str0m_sdp.proofs.section.MadeSectionConsistent.{frame_agrees}
+pub use Rattle.str0m_sdp.proofs.section.MadeSectionConsistent.{made_section_frame_agrees}
 pub use Rattle.str0m_sdp.proofs.section.MadeSectionRead.{DescribesRows}
 pub use Rattle.str0m_sdp.proofs.section.MadeSectionValues.{describes_read_back, format_line_printed, pairs_line_read, values_printed}
 pub use Rattle.str0m_sdp.proofs.section.MadeSectionValues.{values_read}
-pub use Rattle.str0m_sdp.proofs.section.MappingsFilterMap.{all_mapped, map_more, one_mapped}
-pub use Rattle.str0m_sdp.proofs.section.RowAttributesReads.{fmtp_lines, reads, red_reads}
+pub use Rattle.str0m_sdp.proofs.section.MappingsFilterMap.{filter_map_all, filter_map_next, filter_map_one_all}
+pub use Rattle.str0m_sdp.proofs.section.RowAttributesReads.{row_fmtp_lines, reads, red_reads}
 pub use Rattle.str0m_sdp.proofs.section.SectionAccessorsFinding.{first_by_find_map, first_from_find_map}
-pub use Rattle.str0m_sdp.proofs.section.SectionAccessorsLists.{filter_map_more, filter_map_same}
+pub use Rattle.str0m_sdp.proofs.section.SectionAccessorsLists.{accessor_filter_map_more, accessor_filter_map_same}
 pub use Rattle.str0m_sdp.proofs.section.SectionDirectionHolders.{mid_counted}
 pub use Rattle.str0m_sdp.proofs.section.SectionRowsBoundLaws.{rows_bounded}
-pub use Rattle.str0m_sdp.proofs.section.SectionRowsParts.{count-append, or_false, uncounted}
-pub use Rattle.str0m_sdp.proofs.section.TypeTablesMarks.{any_more, any_same}
+pub use Rattle.str0m_sdp.proofs.section.SectionRowsParts.{count-append, rows_or_false, rows_uncounted}
+pub use Rattle.str0m_sdp.proofs.section.TypeTablesMarks.{mark_any_more, mark_any_same}
 pub use Rattle.str0m_sdp.proofs.session.DistinctCandidatesLaws.{distinct_push}
-pub use Rattle.str0m_sdp.proofs.session.OrderedMids.{holds_before, holds_behind}
+pub use Rattle.str0m_sdp.proofs.session.OrderedMids.{mids_holds_before, mids_holds_behind}
 pub use Rattle.str0m_sdp.proofs.session.SessionLaws.{mids_apart}

@@ -40,13 +40,15 @@ pub use Rattle.str0m_formats.specs.round.Claimed.{times}
 pub use Rattle.str0m_formats.specs.round.Narrowing.{narrowed_telephone_max}
 pub use Rattle.str0m_formats.specs.row.PayloadParams.{types_of, AllTypesSmall}
 pub use Rattle.str0m_formats.specs.row.PlainRowBounds.{HoldsRowNumbers, IsBounded, IsByte}
-pub use Rattle.str0m_sdp.proofs.{values_printed, describes_read_back, pairs_line_read, values_read, format_line_printed, reads, fmtp_lines}
+pub use Rattle.str0m_sdp.proofs.{values_printed, describes_read_back, pairs_line_read, values_read, format_line_printed, reads}
+pub use Rattle.str0m_sdp.proofs.{row_fmtp_lines}
 pub use Rattle.str0m_sdp.proofs.{red_reads}
 pub use Rattle.str0m_sdp.specs.attribute.Bandwidth.{bandwidth_line}
-pub use Rattle.str0m_sdp.specs.attribute.Fmtp.{is_shown, shown_line}
+pub use Rattle.str0m_sdp.specs.attribute.Fmtp.{is_fmtp_shown, shown_fmtp_line}
 pub use Rattle.str0m_sdp.specs.attribute.MediaType.{media_type_text}
 pub use Rattle.str0m_sdp.specs.attribute.RtpMap.{map_of_spec, channels_text, rtp_map_text}
-pub use Rattle.str0m_sdp.specs.attribute.Simulcast.{name_text, id_text, layer_text, layers_text, sides_text, unless_munged}
+pub use Rattle.str0m_sdp.specs.attribute.Simulcast.{layer_name_text, restriction_id_text, layer_text, layers_text, simulcast_sides_text}
+pub use Rattle.str0m_sdp.specs.attribute.Simulcast.{unless_munged}
 pub use Rattle.str0m_sdp.specs.declared.attribute.MediaAttribute.TheVariants.{Fmtp, RtcpFb, RtpMap, Simulcast, Fingerprint, Setup, Mid}
 pub use Rattle.str0m_sdp.specs.declared.attribute.MediaAttribute.TheVariants.{Candidate, SsrcGroup, Unused}
 pub use Rattle.str0m_sdp.specs.declared.attribute.proto.Proto.TheVariants.{Sctp, Srtp}
@@ -57,9 +59,10 @@ pub use Rattle.str0m_sdp.specs.declared.session.Session.{Session}
 pub use Rattle.str0m_sdp.specs.declared.session.error.SdpError.{SdpError}
 pub use Rattle.str0m_sdp.specs.form.Printed.{attribute_line}
 pub use Rattle.str0m_sdp.specs.section.Consistency.{AgreesOnApt, NoneIff, IsMapped, NamesNoOther, apt_of, apt_among, apt_in, first_apt}
-pub use Rattle.str0m_sdp.specs.section.Consistency.{maps}
+pub use Rattle.str0m_sdp.specs.section.Consistency.{maps_type}
 pub use Rattle.str0m_sdp.specs.section.MediaLine.{formats_text, m_line, media_line_text, pts_text, port_text}
-pub use Rattle.str0m_sdp.specs.section.RowAttributes.{row_attrs, feedback_line, feedback_attrs, fmtp_line, format_values, format_attrs}
+pub use Rattle.str0m_sdp.specs.section.RowAttributes.{row_attrs, row_feedback_line, feedback_attrs, row_fmtp_line, row_format_values}
+pub use Rattle.str0m_sdp.specs.section.RowAttributes.{format_attrs}
 pub use Rattle.str0m_sdp.specs.section.RowAttributes.{rtx_lines, rtx_attrs, red_lines, red_attrs}
 pub use Rattle.str0m_sdp.specs.section.SectionRows.{KeepsToLine, IsInBounds, KeepsToLines}
 pub use Rattle.str0m_sdp.specs.session.Session.{origin_line, session_text}

@@ -4,8 +4,9 @@ use Rattle.exchange.proofs.Common.{IfSome, All, filter, filter_map, find, map, o
 use Rattle.exchange.proofs.Common.{append_cancel_left, All-append, All-cons, All-head, All-nil, All-tail, filter_map-append, AllPairs-cons}
 use Rattle.exchange.proofs.Common.{AllZip, cons_option, flat_map, list_any, ◌&&◌, ◌⊎◌, bytes_eq, codes, FormatParam, PayloadParams}
 use Rattle.exchange.proofs.Common.{direction_attribute, MediaAttribute, Proto, Srtp, Sctp, Setup, SimulcastLayer, EXTMAP_ALLOW_MIXED, FIR}
-use Rattle.exchange.proofs.Common.{NACK, PLI, REMB, TRANSPORT_CC, MediaLine, Sdp, is_mid, maps, is_of_type, made, feedback_attrs}
-use Rattle.exchange.proofs.Common.{feedback_line, fmtp_line, format_attrs, format_values, red_attrs, red_lines, row_attrs, rtx_attrs}
+use Rattle.exchange.proofs.Common.{NACK, PLI, REMB, TRANSPORT_CC, MediaLine, Sdp, is_mid, maps_type, is_of_type, made, feedback_attrs}
+use Rattle.exchange.proofs.Common.{row_feedback_line, row_fmtp_line, format_attrs, row_format_values, red_attrs, red_lines, row_attrs}
+use Rattle.exchange.proofs.Common.{rtx_attrs}
 use Rattle.exchange.proofs.Common.{rtx_lines, AreDistinct, section_mids, receives, Candidate, Direction}
 use Rattle.exchange.proofs.offer.OfferNameLaws.{Differ, Other, differ_from}
 use Rattle.exchange.proofs.offer.RuleLaws.{sections_shape}
@@ -35,11 +36,11 @@ trackless_both xs ys x y = filter_map-append track_of xs ys ∙ ap (λ (found : 
 
 -- ---- of rows
 
-feedback_trackless : (pt : ℕ) (value : List ℕ) (b : Bool) → Trackless (feedback_line pt value b)
+feedback_trackless : (pt : ℕ) (value : List ℕ) (b : Bool) → Trackless (row_feedback_line pt value b)
 feedback_trackless pt value true = refl
 feedback_trackless pt value false = refl
 
-fmtp_trackless : (pt : ℕ) (values : List FormatParam) → Trackless (fmtp_line pt values)
+fmtp_trackless : (pt : ℕ) (values : List FormatParam) → Trackless (row_fmtp_line pt values)
 fmtp_trackless pt [] = refl
 fmtp_trackless pt (value ∷ values) = refl
 
@@ -53,11 +54,11 @@ red_trackless row (Some pt) = refl
 
 feedbacks_trackless : (row : PayloadParams) → Trackless (feedback_attrs row)
 feedbacks_trackless row =
-    let cc_line : List MediaAttribute = feedback_line row.pt TRANSPORT_CC.now row.fb_transport_cc in
-    let remb : List MediaAttribute = feedback_line row.pt REMB.now row.fb_remb in
-    let fir : List MediaAttribute = feedback_line row.pt FIR.now row.fb_fir in
-    let nack : List MediaAttribute = feedback_line row.pt NACK.now row.fb_nack in
-    let pli : List MediaAttribute = feedback_line row.pt PLI.now row.fb_pli in
+    let cc_line : List MediaAttribute = row_feedback_line row.pt TRANSPORT_CC.now row.fb_transport_cc in
+    let remb : List MediaAttribute = row_feedback_line row.pt REMB.now row.fb_remb in
+    let fir : List MediaAttribute = row_feedback_line row.pt FIR.now row.fb_fir in
+    let nack : List MediaAttribute = row_feedback_line row.pt NACK.now row.fb_nack in
+    let pli : List MediaAttribute = row_feedback_line row.pt PLI.now row.fb_pli in
     trackless_both cc_line (remb ++ (fir ++ (nack ++ pli))) (feedback_trackless row.pt TRANSPORT_CC.now row.fb_transport_cc)
     (trackless_both remb (fir ++ (nack ++ pli)) (feedback_trackless row.pt REMB.now row.fb_remb)
     (trackless_both fir (nack ++ pli) (feedback_trackless row.pt FIR.now row.fb_fir)
@@ -67,7 +68,7 @@ row_trackless : (row : PayloadParams) → Trackless (row_attrs row)
 row_trackless row =
     trackless_both (feedback_attrs row) (format_attrs row ++ (rtx_attrs row ++ red_attrs row)) (feedbacks_trackless row)
     (trackless_both (format_attrs row) (rtx_attrs row ++ red_attrs row)
-    (fmtp_trackless row.pt (format_values row.spec.codec row.spec.format))
+    (fmtp_trackless row.pt (row_format_values row.spec.codec row.spec.format))
     (trackless_both (rtx_attrs row) (red_attrs row) (rtx_trackless row row.resend) (red_trackless row row.red)))
 
 rows_trackless : (rows : List PayloadParams) → Trackless (flat_map row_attrs rows)
@@ -183,11 +184,11 @@ mid_trackless [] = refl
 mid_trackless (media.Mid mid ∷ attrs) = refl
 mid_trackless (attr ∷ attrs) = mid_trackless attrs
 
-mapped_trackless : (pt : ℕ) (attrs : List MediaAttribute) → Trackless (option_to_list (find (maps pt) attrs))
+mapped_trackless : (pt : ℕ) (attrs : List MediaAttribute) → Trackless (option_to_list (find (maps_type pt) attrs))
 mapped_trackless pt [] = refl
-mapped_trackless pt (media.RtpMap n value ∷ attrs) = go (maps pt (media.RtpMap n value)) (mapped_trackless pt attrs) where
-  go : (b : Bool) → Trackless (option_to_list (find (maps pt) attrs))
-      → Trackless (option_to_list (cond b (Some (media.RtpMap n value)) (find (maps pt) attrs)))
+mapped_trackless pt (media.RtpMap n value ∷ attrs) = go (maps_type pt (media.RtpMap n value)) (mapped_trackless pt attrs) where
+  go : (b : Bool) → Trackless (option_to_list (find (maps_type pt) attrs))
+      → Trackless (option_to_list (cond b (Some (media.RtpMap n value)) (find (maps_type pt) attrs)))
   go true rec = refl
   go false rec = rec
 mapped_trackless pt (attr ∷ attrs) = mapped_trackless pt attrs
@@ -198,7 +199,7 @@ over_trackless Sctp = refl
 
 rejected_trackless : (offered : MediaLine) → section_tracks (rejecting offered) ≡ []
 rejected_trackless offered =
-    let mapped : List MediaAttribute = line_that (maps (first_type offered.pts)) offered.attrs in
+    let mapped : List MediaAttribute = line_that (maps_type (first_type offered.pts)) offered.attrs in
     trackless_both (line_that is_mid offered.attrs) (direction_over offered.proto ++ mapped) (mid_trackless offered.attrs)
     (trackless_both (direction_over offered.proto) mapped (over_trackless offered.proto)
     (mapped_trackless (first_type offered.pts) offered.attrs))

@@ -1,6 +1,6 @@
 -- The group of an answer.
 use Rattle.exchange.proofs.Common.{◌≡◌, ◌++◌, ℕ, Bool, true, false, cond, List, [], ◌∷◌, Option, None, filter_map, map, refl, sym, ap, ◌∙◌}
-use Rattle.exchange.proofs.Common.{list_any, first, SessionAttribute, Sdp, Session, bundled_of}
+use Rattle.exchange.proofs.Common.{list_any, first, SessionAttribute, Sdp, Session, bundled_mids_of}
 use Rattle.exchange.specs.answer.AnsweredSession.{BundlesAccepted, allows_mixed, answered_session, group_lines, is_accepted, mixed_lines}
 use Rattle.exchange.specs.answer.Bundle.{answered_bundle}
 use Rattle.exchange.specs.answer.InBundle.{names_or_none}
@@ -9,7 +9,7 @@ use Rattle.str0m_sdp.specs.declared.attribute.SessionAttribute.TheVariants.{Allo
 
 -- the group that lines say
 abbrev group_in : List SessionAttribute → Option (List (List ℕ))
-group_in lines = first (filter_map bundled_of lines)
+group_in lines = first (filter_map bundled_mids_of lines)
 
 -- lines on header extensions say none
 no_group : (offered : List SessionAttribute) → group_in (mixed_lines offered) ≡ None

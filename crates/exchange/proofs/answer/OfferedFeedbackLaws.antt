@@ -7,7 +7,7 @@ use Rattle.exchange.specs.answer.OfferedFeedback.{offered_feedback, with_offered
 use Rattle.exchange.specs.answer.Rows.{are, is_offered, offers, value_of_all}
 use Rattle.exchange.specs.declared.answer.offered_feedback.OfferedFeedback.{OfferedFeedback}
 use Rattle.std.proofs.Math.Bool.{or_comm}
-use Rattle.str0m_sdp.proofs.{any_more, any_same}
+use Rattle.str0m_sdp.proofs.{mark_any_more, mark_any_same}
 
 -- ---- one line more
 
@@ -37,7 +37,7 @@ same_feedback : (attrs : List MediaAttribute) (i : ℕ) (attr : MediaAttribute) 
     → offered_feedback (take (i + 1) attrs) pt ≡ offered_feedback (take i attrs) pt
 unfolding is_offered
 same_feedback attrs i attr pt lt at says = λ j. offered_feedback_by
-    (λ words. any_same (offers pt words) attrs i attr lt at (by_value pt words attr ∙ ap (are words) says) j)
+    (λ words. mark_any_same (offers pt words) attrs i attr lt at (by_value pt words attr ∙ ap (are words) says) j)
 
 -- a line adds what it says
 feedback_more : (attrs : List MediaAttribute) (i : ℕ) (attr : MediaAttribute) (pt : ℕ) (said : List ℕ) → i < length attrs
@@ -45,7 +45,7 @@ feedback_more : (attrs : List MediaAttribute) (i : ℕ) (attr : MediaAttribute) 
     → offered_feedback (take (i + 1) attrs) pt ≡ either_offered (offered_feedback (take i attrs) pt) (named_offered said)
 unfolding is_offered
 feedback_more attrs i attr pt said lt at says = λ j. offered_feedback_by (λ words.
-    (any_more (offers pt words) attrs i attr lt at
+    (mark_any_more (offers pt words) attrs i attr lt at
     ∙ ap (λ (b : Bool). is_offered (take i attrs) pt words || b) (by_value pt words attr ∙ ap (are words) says)) j)
 
 line_value_more : (attrs : List MediaAttribute) (i : ℕ) (attr : MediaAttribute) (pt : ℕ) (said : Option (List ℕ)) → i < length attrs

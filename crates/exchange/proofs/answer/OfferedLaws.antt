@@ -3,8 +3,9 @@ use Rattle.exchange.proofs.Common.{◌≡◌, ℕ, Bool, true, false, cond, not,
 use Rattle.exchange.proofs.Common.{filter_map, map, refl, sym, ap, ◌∙◌, false≢true, All-append, All-cons, All-contains_itself, All-filter}
 use Rattle.exchange.proofs.Common.{All-nil, All-weaker, list_any-append, Contains, cons_option, flat_map, list_any, ◌&&◌, bytes_eq, codes}
 use Rattle.exchange.proofs.Common.{FormatParam, PayloadParams, direction_attribute, MediaAttribute, Setup, SimulcastLayer, FIR, NACK, PLI}
-use Rattle.exchange.proofs.Common.{REMB, TRANSPORT_CC, MediaLine, is_of_type, made, feedback_attrs, feedback_line, fmtp_line, format_attrs}
-use Rattle.exchange.proofs.Common.{format_values, red_attrs, red_lines, row_attrs, rtx_attrs, rtx_lines, receives, Candidate, Direction}
+use Rattle.exchange.proofs.Common.{REMB, TRANSPORT_CC, MediaLine, is_of_type, made, feedback_attrs, row_feedback_line, row_fmtp_line}
+use Rattle.exchange.proofs.Common.{format_attrs}
+use Rattle.exchange.proofs.Common.{row_format_values, red_attrs, red_lines, row_attrs, rtx_attrs, rtx_lines, receives, Candidate, Direction}
 use Rattle.exchange.specs.answer.Accepted.{are_layers_told, candidate_line, channel_lines, first_lines, framed, layer_lines, media_lines}
 use Rattle.exchange.specs.answer.Accepted.{msid_lines}
 use Rattle.exchange.specs.answer.Layers.{answered_layers, answered_rid, answered_rids, is_left, is_named, layers_line, received_layers}
@@ -35,11 +36,11 @@ unoffered_both xs ys x y = list_any-append needs_offer xs ys ∙ ap (λ (b : Boo
 
 -- ---- of rows
 
-feedback_none : (pt : ℕ) (value : List ℕ) (b : Bool) → list_any needs_offer (feedback_line pt value b) ≡ false
+feedback_none : (pt : ℕ) (value : List ℕ) (b : Bool) → list_any needs_offer (row_feedback_line pt value b) ≡ false
 feedback_none pt value true = refl
 feedback_none pt value false = refl
 
-fmtp_none : (pt : ℕ) (values : List FormatParam) → list_any needs_offer (fmtp_line pt values) ≡ false
+fmtp_none : (pt : ℕ) (values : List FormatParam) → list_any needs_offer (row_fmtp_line pt values) ≡ false
 fmtp_none pt [] = refl
 fmtp_none pt (value ∷ values) = refl
 
@@ -53,11 +54,11 @@ red_none row (Some pt) = refl
 
 feedbacks_none : (row : PayloadParams) → list_any needs_offer (feedback_attrs row) ≡ false
 feedbacks_none row =
-    let cc_line : List MediaAttribute = feedback_line row.pt TRANSPORT_CC.now row.fb_transport_cc in
-    let remb : List MediaAttribute = feedback_line row.pt REMB.now row.fb_remb in
-    let fir : List MediaAttribute = feedback_line row.pt FIR.now row.fb_fir in
-    let nack : List MediaAttribute = feedback_line row.pt NACK.now row.fb_nack in
-    let pli : List MediaAttribute = feedback_line row.pt PLI.now row.fb_pli in
+    let cc_line : List MediaAttribute = row_feedback_line row.pt TRANSPORT_CC.now row.fb_transport_cc in
+    let remb : List MediaAttribute = row_feedback_line row.pt REMB.now row.fb_remb in
+    let fir : List MediaAttribute = row_feedback_line row.pt FIR.now row.fb_fir in
+    let nack : List MediaAttribute = row_feedback_line row.pt NACK.now row.fb_nack in
+    let pli : List MediaAttribute = row_feedback_line row.pt PLI.now row.fb_pli in
     unoffered_both cc_line (remb ++ (fir ++ (nack ++ pli))) (feedback_none row.pt TRANSPORT_CC.now row.fb_transport_cc)
     (unoffered_both remb (fir ++ (nack ++ pli)) (feedback_none row.pt REMB.now row.fb_remb)
     (unoffered_both fir (nack ++ pli) (feedback_none row.pt FIR.now row.fb_fir)
@@ -66,7 +67,8 @@ feedbacks_none row =
 row_none : (row : PayloadParams) → list_any needs_offer (row_attrs row) ≡ false
 row_none row =
     unoffered_both (feedback_attrs row) (format_attrs row ++ (rtx_attrs row ++ red_attrs row)) (feedbacks_none row)
-    (unoffered_both (format_attrs row) (rtx_attrs row ++ red_attrs row) (fmtp_none row.pt (format_values row.spec.codec row.spec.format))
+    (unoffered_both (format_attrs row) (rtx_attrs row ++ red_attrs row)
+    (fmtp_none row.pt (row_format_values row.spec.codec row.spec.format))
     (unoffered_both (rtx_attrs row) (red_attrs row) (rtx_none row row.resend) (red_none row row.red)))
 
 rows_none : (rows : List PayloadParams) → list_any needs_offer (flat_map row_attrs rows) ≡ false

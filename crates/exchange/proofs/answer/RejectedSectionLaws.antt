@@ -1,8 +1,9 @@
 -- A section that rejects a consistent one is consistent.
 use Rattle.exchange.proofs.Common.{arith, ◌≡◌, ◌+◌, ◌≤◌, inl, inr, ℕ, Bool, true, false, cond, List, [], ◌∷◌, ◌++◌, Option, Some, None, All}
 use Rattle.exchange.proofs.Common.{IfSome, find, count_by, option_to_list, refl, subst, sym, ap, ◌∙◌, false≢true, All-append, All-cons}
-use Rattle.exchange.proofs.Common.{All-head, All-nil, list_any, is_some, count-append, uncounted, MediaAttribute, MediaType, Application}
-use Rattle.exchange.proofs.Common.{Audio, Video, Unknown, Proto, Srtp, Sctp, MediaLine, Consistent, is_mid, maps}
+use Rattle.exchange.proofs.Common.{All-head, All-nil, list_any, is_some, count-append, rows_uncounted, MediaAttribute, MediaType}
+use Rattle.exchange.proofs.Common.{Application}
+use Rattle.exchange.proofs.Common.{Audio, Video, Unknown, Proto, Srtp, Sctp, MediaLine, Consistent, is_mid, maps_type}
 use Rattle.exchange.proofs.answer.RowsListLaws.{found, is_some_find}
 use Rattle.exchange.specs.answer.RejectedSection.{direction_over, first_type, line_that, listed_alone, rejecting}
 use Rattle.str0m_formats.specs.declared.codec.Codec.TheVariants.{PCMU}
@@ -17,14 +18,14 @@ record Counts (pt : ℕ) (line : MediaAttribute) (mid setup direction mapping : 
   pub mid_is : is_mid line ≡ mid
   pub setup_is : is_setup line ≡ setup
   pub direction_is : is_direction line ≡ direction
-  pub mapping_is : maps pt line ≡ mapping
+  pub mapping_is : maps_type pt line ≡ mapping
   pub agrees : (lines : List MediaAttribute) → AgreesOnApt lines line
 
 of_mid : (pt : ℕ) (line : MediaAttribute) → is_mid line ≡ true → Counts pt line true false false false
 of_mid pt (media.Mid mid) h = record { mid_is = refl; setup_is = refl; direction_is = refl; mapping_is = refl; agrees = λ lines. tt }
 of_mid pt _ h = absurd (false≢true h)
 
-of_mapping : (pt : ℕ) (line : MediaAttribute) → maps pt line ≡ true → Counts pt line false false false true
+of_mapping : (pt : ℕ) (line : MediaAttribute) → maps_type pt line ≡ true → Counts pt line false false false true
 of_mapping pt (media.RtpMap n value) h = record {
   mid_is = refl;
   setup_is = refl;
@@ -52,7 +53,7 @@ there_is : (test : MediaAttribute → Bool) (lines : List MediaAttribute) → co
 there_is test lines one = go (list_any test lines) refl where
   go : (b : Bool) → list_any test lines ≡ b → is_some (find test lines) ≡ true
   go true e = is_some_find test lines ∙ e
-  go false e = let none = uncounted test lines e in absurd (omega arith)
+  go false e = let none = rows_uncounted test lines e in absurd (omega arith)
 
 line_weaker : (P Q : MediaAttribute → Type 0) → ((line : MediaAttribute) → P line → Q line) → (o : Option MediaAttribute) → IfSome o P
     → IfSome o Q
@@ -69,7 +70,7 @@ module _ (offered : MediaLine) (is : Consistent offered) where
   mid_found = find is_mid offered.attrs
 
   abbrev mapping_found : Option MediaAttribute
-  mapping_found = find (maps pt) offered.attrs
+  mapping_found = find (maps_type pt) offered.attrs
 
   abbrev its_lines : List MediaAttribute
   its_lines = option_to_list mid_found ++ (direction_over offered.proto ++ option_to_list mapping_found)
@@ -78,7 +79,7 @@ module _ (offered : MediaLine) (is : Consistent offered) where
   mid_counts = line_weaker _ _ (λ line h. of_mid pt line h.0) mid_found (found is_mid offered.attrs)
 
   mapping_counts : IfSome mapping_found (λ line. Counts pt line false false false true)
-  mapping_counts = line_weaker _ _ (λ line h. of_mapping pt line h.0) mapping_found (found (maps pt) offered.attrs)
+  mapping_counts = line_weaker _ _ (λ line h. of_mapping pt line h.0) mapping_found (found (maps_type pt) offered.attrs)
 
   lines_counted : (test : MediaAttribute → Bool) → count_by test its_lines ≡ count_by test (option_to_list mid_found)
       + (count_by test (direction_over offered.proto) + count_by test (option_to_list mapping_found))
@@ -91,7 +92,7 @@ module _ (offered : MediaLine) (is : Consistent offered) where
   record Directed (proto : Proto) : Type 0 where
     pub mids : count_by is_mid (direction_over proto) ≡ 0
     pub setups : count_by is_setup (direction_over proto) ≡ 0
-    pub mappings : count_by (maps pt) (direction_over proto) ≡ 0
+    pub mappings : count_by (maps_type pt) (direction_over proto) ≡ 0
     pub one : proto ≡ Srtp → count_by is_direction (direction_over proto) ≡ 1
     pub agree : (all : List MediaAttribute) → All (AgreesOnApt all) (direction_over proto)
 
@@ -127,26 +128,26 @@ module _ (offered : MediaLine) (is : Consistent offered) where
       let one = (directed offered.proto).one srtp in
       omega (arith, lines_counted is_direction, here, neither, one)
 
-  mappings : count_by (maps pt) its_lines ≡ count_by (maps pt) (option_to_list mapping_found)
+  mappings : count_by (maps_type pt) its_lines ≡ count_by (maps_type pt) (option_to_list mapping_found)
   mappings =
-      let here = count_none (maps pt) mid_found (line_weaker _ _ (λ line h. h.mapping_is) mid_found mid_counts) in
+      let here = count_none (maps_type pt) mid_found (line_weaker _ _ (λ line h. h.mapping_is) mid_found mid_counts) in
       let none = (directed offered.proto).mappings in
-      omega (arith, lines_counted (maps pt), here, none)
+      omega (arith, lines_counted (maps_type pt), here, none)
 
-  needs_no_mapping : (pts : List ℕ) → offered.pts ≡ pts → is_some (find (maps (first_type pts)) offered.attrs) ≡ false
+  needs_no_mapping : (pts : List ℕ) → offered.pts ≡ pts → is_some (find (maps_type (first_type pts)) offered.attrs) ≡ false
       → NeedsNoMapping (first_type pts)
   needs_no_mapping [] e none = (record { codec = PCMU; clock_rate = 8000; channels = None; format = empty_format }, (refl, refl, refl))
   needs_no_mapping (t ∷ ts) e none = go (All-head (IsMapped offered.attrs) t ts (subst (All (IsMapped offered.attrs)) e is.mapped)) where
     go : IsMapped offered.attrs t → NeedsNoMapping t
-    go (inl one) = absurd (false≢true (sym none ∙ there_is (maps t) offered.attrs one))
+    go (inl one) = absurd (false≢true (sym none ∙ there_is (maps_type t) offered.attrs one))
     go (inr h) = h.1
 
   type_mapped : IsMapped its_lines pt
   type_mapped = go mapping_found refl mapping_counts mappings where
     go : (o : Option MediaAttribute) → mapping_found ≡ o → IfSome o (λ line. Counts pt line false false false true)
-        → count_by (maps pt) its_lines ≡ count_by (maps pt) (option_to_list o) → IsMapped its_lines pt
+        → count_by (maps_type pt) its_lines ≡ count_by (maps_type pt) (option_to_list o) → IsMapped its_lines pt
     go None e h n = inr (n, needs_no_mapping offered.pts refl (ap (λ (o : Option MediaAttribute). is_some o) e))
-    go (Some line) e h n = inl (n ∙ count_one (maps pt) (Some line) refl h.mapping_is)
+    go (Some line) e h n = inl (n ∙ count_one (maps_type pt) (Some line) refl h.mapping_is)
 
   listed_mapped : (typ : MediaType) → All (IsMapped its_lines) (listed_alone typ offered.pts)
   listed_mapped Application = All-nil (IsMapped its_lines)
@@ -186,14 +187,15 @@ of_parts proto typ pts lines = record { typ = typ; disabled = true; proto = prot
 
 pub made_of_parts : (offered : MediaLine) (typ : MediaType) (pts listed : List ℕ) (attrs lines : List MediaAttribute) (pt : ℕ)
     → typ ≡ offered.typ → listed ≡ offered.pts → lines ≡ offered.attrs → pt ≡ first_type listed → pts ≡ listed_alone offered.typ listed
-    → attrs ≡ line_that is_mid lines ++ (direction_over offered.proto ++ line_that (maps pt) lines)
+    → attrs ≡ line_that is_mid lines ++ (direction_over offered.proto ++ line_that (maps_type pt) lines)
     → of_parts offered.proto typ pts attrs ≡ rejecting offered
 made_of_parts offered typ pts listed attrs lines alone_type same_typ same_pts same_lines is_first alone all =
     ap (λ (x : MediaType). of_parts offered.proto x pts attrs) same_typ
     ∙ ap (λ (x : List ℕ). of_parts offered.proto offered.typ x attrs) (alone ∙ ap (listed_alone offered.typ) same_pts)
     ∙ ap (of_parts offered.proto offered.typ (listed_alone offered.typ offered.pts))
     (all
-    ∙ ap (λ (x : ℕ). line_that is_mid lines ++ (direction_over offered.proto ++ line_that (maps x) lines))
+    ∙ ap (λ (x : ℕ). line_that is_mid lines ++ (direction_over offered.proto ++ line_that (maps_type x) lines))
     (is_first ∙ ap first_type same_pts)
-    ∙ ap (λ (x : List MediaAttribute). line_that is_mid x ++ (direction_over offered.proto ++ line_that (maps (first_type offered.pts)) x))
+    ∙ ap (λ (x : List MediaAttribute). line_that is_mid x
+    ++ (direction_over offered.proto ++ line_that (maps_type (first_type offered.pts)) x))
     same_lines)

@@ -3,7 +3,7 @@ use Rattle.exchange.proofs.Common.{arith, ◌≡◌, ◌<◌, ◌+◌, ◌≤◌
 use Rattle.exchange.proofs.Common.{take, get_or, Option, Some, None, All, IfSome, filter, filter_map, find, map, refl, sym, ap, ◌∙◌}
 use Rattle.exchange.proofs.Common.{eqb-true, eq-eqb, false≢true, take_at_read, All-cons, All-nil, All-head, All-tail, All-filter}
 use Rattle.exchange.proofs.Common.{Contains-append_right, list_any_at, list_any, Contains, cons_option, is_some, times-cons, times-none}
-use Rattle.exchange.proofs.Common.{one_time_if, times, has, distinct, one_mapped}
+use Rattle.exchange.proofs.Common.{one_time_if, times, has, distinct, filter_map_one_all}
 use Rattle.std.proofs.lemmas.Bool.Decides.{nat_tests}
 use Rattle.str0m_sdp.proofs.{distinct_push}
 
@@ -101,7 +101,7 @@ pub All-filter_map : {X Y : Type 0} (P : X → Type 0) (Q : Y → Type 0) (f : X
     → All P xs → All Q (filter_map f xs)
 All-filter_map P Q f each [] all = All-nil Q
 All-filter_map P Q f each (x ∷ xs) all =
-    one_mapped Q (f x) (filter_map f xs) (each x (All-head P x xs all)) (All-filter_map P Q f each xs (All-tail P x xs all))
+    filter_map_one_all Q (f x) (filter_map f xs) (each x (All-head P x xs all)) (All-filter_map P Q f each xs (All-tail P x xs all))
 
 -- ---- what stands in a list
 

@@ -4,7 +4,8 @@ use Rattle.exchange.proofs.Common.{get_or, Option, Some, None, bytes_eq, map, op
 use Rattle.exchange.proofs.Common.{take_all, list_any_at, all_pairs_push, get_or_from_slice_get, slice_get-map, slice_get_within}
 use Rattle.exchange.proofs.Common.{bytes_eq-Decides, BTreeSet, Updates, contains, Bor, slice_cmp, slice_get, nat_cmp}
 use Rattle.exchange.proofs.Common.{claimed_slice_get_item}
-use Rattle.exchange.proofs.Common.{filter_map_more, filter_map_same, holds_before, MediaLine, Holds, is_held, AreDistinct, is_listed}
+use Rattle.exchange.proofs.Common.{accessor_filter_map_more, accessor_filter_map_same, mids_holds_before, MediaLine, HoldsMids, is_mid_held}
+use Rattle.exchange.proofs.Common.{AreDistinct, is_listed}
 use Rattle.exchange.proofs.Common.{section_mid, section_mids}
 use Rattle.exchange.proofs.state.ExchangeFollowLaws.{listed_more}
 use Rattle.exchange.specs.offer.OwnNames.{IsNamedAgain}
@@ -12,7 +13,7 @@ use Rattle.exchange.specs.section.Stopped.{name_of}
 
 -- the names of the first so many sections are held, and no two are one
 pub record AreOwn (sections : List MediaLine) (names : BTreeSet (Bor (List ℕ))) (at : ℕ) : Type 0 where
-  pub held : Holds names (section_mids (take at sections))
+  pub held : HoldsMids names (section_mids (take at sections))
   pub differ : AreDistinct (section_mids (take at sections))
 
 -- ---- one name after others
@@ -60,7 +61,7 @@ stands_at sections names at name are lt is =
 was_listed : (added there b : Bool) → added ≡ not there → added ≡ b → there ≡ not b
 was_listed added there b is test = grind arith
 
-pub none_yet : (sections : List MediaLine) (names : BTreeSet (Bor (List ℕ))) → Holds names [] → AreOwn sections names 0
+pub none_yet : (sections : List MediaLine) (names : BTreeSet (Bor (List ℕ))) → HoldsMids names [] → AreOwn sections names 0
 none_yet sections names held = record { held = held; differ = λ i j d lt within. absurd (omega arith) }
 
 -- a section without a name
@@ -70,10 +71,10 @@ pub own_same : (sections : List MediaLine) (names : List (Option (List ℕ))) (b
 own_same sections names before at name are lt is none own =
     let it : StandsUnder sections at name = stands_at sections names at name are lt is in
     let same : section_mids (take (at + 1) sections) ≡ section_mids (take at sections) =
-    filter_map_same section_mid sections at it.section (slice_get_within sections at it.section it.stands)
+    accessor_filter_map_same section_mid sections at it.section (slice_get_within sections at it.section it.stands)
     (sym (get_or_from_slice_get sections at it.section it.section it.stands)) (sym (it.named_so ∙ none)) in
     record {
-      held = subst (Holds before) (sym same) own.held;
+      held = subst (HoldsMids before) (sym same) own.held;
       differ = subst AreDistinct (sym same) own.differ;
     }
 
@@ -88,13 +89,13 @@ own_more sections names before after at name text mid added are lt is some same 
     let it : StandsUnder sections at name = stands_at sections names at name are lt is in
     let mids : List (List ℕ) = section_mids (take at sections) in
     let more : section_mids (take (at + 1) sections) ≡ mids ++ mid ∷ [] =
-    filter_map_more section_mid sections at it.section mid (slice_get_within sections at it.section it.stands)
+    accessor_filter_map_more section_mid sections at it.section mid (slice_get_within sections at it.section it.stands)
     (sym (get_or_from_slice_get sections at it.section it.section it.stands)) (sym (it.named_so ∙ some)) in
     let unlisted : is_listed mids (Some mid) ≡ false =
     ap (λ (word : List ℕ). is_listed mids (Some word)) (sym same) ∙ sym (own.held (Some text.now))
-    ∙ was_listed added (is_held before (Some text.now)) true told test in
+    ∙ was_listed added (is_mid_held before (Some text.now)) true told test in
     record {
-      held = subst (Holds after) (sym more) (λ other. holds_before before after text mid mids same updates own.held other
+      held = subst (HoldsMids after) (sym more) (λ other. mids_holds_before before after text mid mids same updates own.held other
           ∙ listed_turned mid mids other);
       differ = subst AreDistinct (sym more) (differ_behind mid mids unlisted own.differ);
     }
@@ -112,7 +113,7 @@ named_again sections names before at name text mid added are lt is some same tol
       m = it.section;
       stands = it.stands;
       again = ap (is_listed mids) (it.named_so ∙ some) ∙ ap (λ (word : List ℕ). is_listed mids (Some word)) (sym same)
-          ∙ sym (own.held (Some text.now)) ∙ was_listed added (is_held before (Some text.now)) false told test;
+          ∙ sym (own.held (Some text.now)) ∙ was_listed added (is_mid_held before (Some text.now)) false told test;
       differ = own.differ;
     }
 

@@ -2,7 +2,8 @@
 use Rattle.exchange.proofs.Common.{◌≡◌, ◌≢◌, ℕ, Bool, true, false, cond, not, List, [], ◌∷◌, ◌++◌, Option, Some, None, filter, filter_map}
 use Rattle.exchange.proofs.Common.{map, find, option_to_list, refl, subst, sym, ap, ◌∙◌, append-nil, filter_map-append, AllZip, flat_map}
 use Rattle.exchange.proofs.Common.{PayloadParams, types, first, direction_attribute, is_media, MediaAttribute, MediaType, Audio, Video}
-use Rattle.exchange.proofs.Common.{Application, Unknown, Proto, Srtp, Sctp, Setup, MediaLine, Sdp, is_mid, mid_of, maps, is_of_type, made}
+use Rattle.exchange.proofs.Common.{Application, Unknown, Proto, Srtp, Sctp, Setup, MediaLine, Sdp, is_mid, mid_of, maps_type, is_of_type}
+use Rattle.exchange.proofs.Common.{made}
 use Rattle.exchange.proofs.Common.{row_attrs, section_direction, AnswersDirection, Direction}
 use Rattle.exchange.proofs.answer.OfferedLaws.{accepted_channels_offered, accepted_media_offered}
 use Rattle.exchange.specs.answer.Accepted.{AcceptsChannels, AcceptsMedia, candidate_line, first_lines, framed, layer_lines, media_lines}
@@ -138,11 +139,11 @@ mid_first [] = refl
 mid_first (media.Mid mid ∷ attrs) = refl
 mid_first (attr ∷ attrs) = mid_first attrs
 
-no_mid_mapped : (pt : ℕ) (attrs : List MediaAttribute) → filter_map mid_of (option_to_list (find (maps pt) attrs)) ≡ []
+no_mid_mapped : (pt : ℕ) (attrs : List MediaAttribute) → filter_map mid_of (option_to_list (find (maps_type pt) attrs)) ≡ []
 no_mid_mapped pt [] = refl
-no_mid_mapped pt (media.RtpMap n value ∷ attrs) = go (maps pt (media.RtpMap n value)) (no_mid_mapped pt attrs) where
-  go : (b : Bool) → filter_map mid_of (option_to_list (find (maps pt) attrs)) ≡ []
-      → filter_map mid_of (option_to_list (cond b (Some (media.RtpMap n value)) (find (maps pt) attrs))) ≡ []
+no_mid_mapped pt (media.RtpMap n value ∷ attrs) = go (maps_type pt (media.RtpMap n value)) (no_mid_mapped pt attrs) where
+  go : (b : Bool) → filter_map mid_of (option_to_list (find (maps_type pt) attrs)) ≡ []
+      → filter_map mid_of (option_to_list (cond b (Some (media.RtpMap n value)) (find (maps_type pt) attrs))) ≡ []
   go true rec = refl
   go false rec = rec
 no_mid_mapped pt (attr ∷ attrs) = no_mid_mapped pt attrs
@@ -155,7 +156,7 @@ no_mid_behind Sctp lines none = none
 -- it has the name of the offered one
 pub rejected_name : (offered : MediaLine) → name_of (rejecting offered) ≡ name_of offered
 rejected_name offered =
-    let mapped : List MediaAttribute = line_that (maps (first_type offered.pts)) offered.attrs in
+    let mapped : List MediaAttribute = line_that (maps_type (first_type offered.pts)) offered.attrs in
     let behind : filter_map mid_of (direction_over offered.proto ++ mapped) ≡ [] =
     no_mid_behind offered.proto mapped (no_mid_mapped (first_type offered.pts) offered.attrs) in
     ap first (filter_map-append mid_of (line_that is_mid offered.attrs) (direction_over offered.proto ++ mapped)

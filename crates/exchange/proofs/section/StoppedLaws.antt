@@ -1,7 +1,7 @@
 -- Sections that a group names.
 use Rattle.exchange.proofs.Common.{arith, ◌≡◌, ◌↔◌, ◌||◌, ℕ, Bool, true, false, List, [], ◌∷◌, get_or, Option, Some, None, IfSome, IsTrue}
 use Rattle.exchange.proofs.Common.{bytes_eq, refl, subst, sym, ap, ◌∙◌, false≢true, Contains-append_right, list_any_at, bytes_eq-Decides}
-use Rattle.exchange.proofs.Common.{BTreeSet, Bor, Contains, MediaLine, Sdp, Holds, is_listed}
+use Rattle.exchange.proofs.Common.{BTreeSet, Bor, Contains, MediaLine, Sdp, HoldsMids, is_listed}
 use Rattle.exchange.specs.answer.InBundle.{bundle_names, names_or_none}
 use Rattle.exchange.specs.section.Places.{HoldsGroup}
 use Rattle.exchange.specs.section.Stopped.{IsBundled, bundle_group, name_of}
@@ -45,5 +45,5 @@ bundled_so sdp m b is = (λ yes. names_some (bundle_group sdp) (name_of m) (sym 
 
 -- where it has said a description
 pub held_group : (remote : Option Sdp) (group : BTreeSet (Bor (List ℕ))) (sdp : Sdp) → remote ≡ Some sdp → HoldsGroup remote group
-    → Holds group (bundle_names sdp)
-held_group remote group sdp is holds = subst (λ (o : Option Sdp). IfSome o (λ it. Holds group (bundle_names it))) is holds
+    → HoldsMids group (bundle_names sdp)
+held_group remote group sdp is holds = subst (λ (o : Option Sdp). IfSome o (λ it. HoldsMids group (bundle_names it))) is holds

@@ -1,5 +1,5 @@
 -- The section that rejects an offered one.
-use Rattle.exchange.specs.Prelude.{MediaAttribute, MediaLine, MediaType, Proto, is_mid, maps}
+use Rattle.exchange.specs.Prelude.{MediaAttribute, MediaLine, MediaType, Proto, is_mid, maps_type}
 use Rattle.std.specs.Prelude.{ℕ, Bool, true, List, [], ◌∷◌, ◌++◌, None, find, option_to_list}
 use Rattle.str0m_sdp.specs.declared.attribute.MediaAttribute.TheVariants.{Inactive}
 use Rattle.str0m_sdp.specs.declared.attribute.media_type.MediaType.TheVariants.{Application}
@@ -32,5 +32,5 @@ rejecting offered = record {
   proto = offered.proto;
   pts = listed_alone offered.typ offered.pts;
   bw = None;
-  attrs = line_that is_mid offered.attrs ++ (direction_over offered.proto ++ line_that (maps (first_type offered.pts)) offered.attrs);
+  attrs = line_that is_mid offered.attrs ++ (direction_over offered.proto ++ line_that (maps_type (first_type offered.pts)) offered.attrs);
 }

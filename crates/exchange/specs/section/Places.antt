@@ -1,5 +1,5 @@
 -- The places of sections over several exchanges (RFC 3264, section 8; RFC 8829, section 5.2.2).
-use Rattle.exchange.specs.Prelude.{Holds, MediaLine, Sdp, is_listed}
+use Rattle.exchange.specs.Prelude.{HoldsMids, MediaLine, Sdp, is_listed}
 use Rattle.exchange.specs.answer.InBundle.{bundle_names}
 use Rattle.exchange.specs.section.Stopped.{IsStoppedAt, name_of}
 use Rattle.std.specs.BTreeSet.{BTreeSet}
@@ -14,7 +14,7 @@ IsOver remote at mine = (mine.disabled ≡ true) ⊎ IsSomeAnd remote (λ sdp. I
 
 -- the names of the other side's first `BUNDLE` group in order, where it has said a description
 abbrev pub HoldsGroup : Option Sdp → BTreeSet (Bor (List ℕ)) → Type 0
-HoldsGroup remote group = IfSome remote (λ sdp. Holds group (bundle_names sdp))
+HoldsGroup remote group = IfSome remote (λ sdp. HoldsMids group (bundle_names sdp))
 
 -- it is over, where it isn't after the last
 abbrev pub IsFree : List MediaLine → Option Sdp → ℕ → Type 0

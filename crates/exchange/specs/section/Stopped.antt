@@ -1,5 +1,5 @@
 -- Which sections are stopped, and which only share the transport of a bundle (RFC 9143, section 6).
-use Rattle.exchange.specs.Prelude.{MediaLine, Sdp, bundled_of, first, mid_of}
+use Rattle.exchange.specs.Prelude.{MediaLine, Sdp, bundled_mids_of, first, mid_of}
 use Rattle.std.specs.Prelude.{◌≡◌, ℕ, true, List, Option, Some, codes, filter_map, Contains, slice_get}
 use Rattle.str0m_sdp.specs.declared.attribute.MediaAttribute.TheVariants.{Unused}
 
@@ -9,7 +9,7 @@ name_of m = first (filter_map mid_of m.attrs)
 
 -- the names of the first `BUNDLE` group (RFC 9143, section 5)
 abbrev pub bundle_group : Sdp → Option (List (List ℕ))
-bundle_group sdp = first (filter_map bundled_of sdp.session.attrs)
+bundle_group sdp = first (filter_map bundled_mids_of sdp.session.attrs)
 
 -- a line says that the section takes part in the session within a bundle alone (RFC 9143, section 6)
 abbrev pub IsBundleOnly : MediaLine → Type 0

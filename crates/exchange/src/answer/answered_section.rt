@@ -1,5 +1,5 @@
 //! The sections of an answer.
-ghost use Rattle.exchange.specs.Prelude.{Holds, rows};
+ghost use Rattle.exchange.specs.Prelude.{HoldsMids, rows};
 ghost use Rattle.exchange.specs.answer.AnsweredSection.{AnswersSection, SaysChoice};
 ghost use Rattle.exchange.specs.answer.InBundle.{bundle_names};
 ghost use Rattle.exchange.specs.answer.Offered.{AreOfferRounds, BringsRound};
@@ -49,7 +49,7 @@ fn answered_section(
     offered: &MediaLine,
     theirs: &[PayloadParams],
 ) -> Result<MediaLine, AllocError>
-    requires group { Holds group.now (bundle_names offer.now) }
+    requires group { HoldsMids group.now (bundle_names offer.now) }
     requires rows { BringsRound offer.now offered.now → theirs.now ≡ rows offered.now }
     ensures { IfOk result (AnswersSection own.now config.now.params.items offer.now offered.now) }
 {

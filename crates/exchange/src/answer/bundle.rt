@@ -1,6 +1,6 @@
 //! The names that the group of an answer lists.
 
-ghost use Rattle.exchange.specs.Prelude.{Holds, is_listed};
+ghost use Rattle.exchange.specs.Prelude.{HoldsMids, is_listed};
 ghost use Rattle.exchange.specs.answer.Bundle.{accepted_names, answered_bundle, listed_among, name_if_accepted};
 ghost use Rattle.std.specs.Prelude.{◌≡◌, IfOk, Some};
 
@@ -41,7 +41,7 @@ pub(crate) fn accepted_names(
 
 /// Whether a name is among others, which `listed` has in order.
 fn is_listed(names: &[Mid], listed: &BTreeSet<&str>, mid: Mid) -> bool
-    requires { Holds listed.now names.now }
+    requires { HoldsMids listed.now names.now }
     ensures { result ≡ is_listed names.now (Some mid) }
 {
     is_held(listed, Some(mid))

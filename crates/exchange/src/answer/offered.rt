@@ -1,5 +1,5 @@
 //! Offers that are read whole, and their rounds.
-ghost use Rattle.exchange.specs.Prelude.{AllDistinct, HasBoundedRows, Holds, IsFromLine, IsPlain, LockedStay, MediaLine, rows, types};
+ghost use Rattle.exchange.specs.Prelude.{AllDistinct, HasBoundedRows, HoldsMids, IsFromLine, IsPlain, LockedStay, MediaLine, rows, types};
 ghost use Rattle.exchange.specs.answer.InBundle.{bundle_names};
 ghost use Rattle.exchange.specs.answer.Offered.{AreOfferRounds, BringsRound, IsOffer, IsRoundOf, NegotiatesOffer, RefusesText};
 ghost use Rattle.std.specs.Prelude.{◌≡◌, ◌≢◌, ◌==◌, ◌+◌, ◌∷◌, ◌↔◌, [], IfErr, IfOk, IsTrue, List, OnOk, All, count_by, length};
@@ -51,7 +51,7 @@ pub(crate) fn whole_description(alloc: Global, text: &str) -> Result<Sdp, Exchan
 
 /// Whether a section brings a round, where `group` has the names of the offer's group in order.
 fn is_negotiated(group: &BTreeSet<&str>, offer: &Sdp, section: &MediaLine) -> bool
-    requires { Holds group.now (bundle_names offer.now) }
+    requires { HoldsMids group.now (bundle_names offer.now) }
     ensures { IsTrue result ↔ BringsRound offer.now section.now }
 {
     !is_stopped_in(group, offer, section)
@@ -97,7 +97,7 @@ pub(crate) fn rows_of_next<'a>(
     section: &MediaLine,
     rounds: &'a [Round],
 ) -> (&'a [PayloadParams], &'a [Round])
-    requires { Holds group.now (bundle_names offer.now) }
+    requires { HoldsMids group.now (bundle_names offer.now) }
     ensures rows { (later : List MediaLine) → AreOfferRounds offer.now (section.now ∷ later) rounds.now → BringsRound offer.now section.now
         → result.0.now ≡ rows section.now }
     ensures later { (later : List MediaLine) → AreOfferRounds offer.now (section.now ∷ later) rounds.now → AreOfferRounds offer.now later result.1.now }

@@ -1,5 +1,5 @@
 //! The section that rejects an offered one.
-ghost use Rattle.exchange.specs.Prelude.{Consistent, is_mid, maps};
+ghost use Rattle.exchange.specs.Prelude.{Consistent, is_mid, maps_type};
 ghost use Rattle.exchange.specs.answer.RejectedSection.{direction_over, first_type, line_that, listed_alone, rejecting};
 ghost use Rattle.std.specs.Prelude.{◌≡◌, ◌++◌, IfOk, OnOk, find, option_to_list, option_copied};
 
@@ -13,7 +13,7 @@ fn is_mid(line: &MediaAttribute) -> bool
 }
 
 fn maps(line: &MediaAttribute, pt: Pt) -> bool
-    ensures { result ≡ maps pt line.now }
+    ensures { result ≡ maps_type pt line.now }
 {
     match line {
         MediaAttribute::RtpMap { pt: of, .. } => *of == pt,
@@ -30,7 +30,7 @@ fn mid_line(lines: &[MediaAttribute]) -> Option<&MediaAttribute>
 
 /// The line that maps a payload type.
 fn mapping(lines: &[MediaAttribute], pt: Pt) -> Option<&MediaAttribute>
-    ensures { option_copied result ≡ find (maps pt) lines.now }
+    ensures { option_copied result ≡ find (maps_type pt) lines.now }
 {
     lines.iter().find(|line| maps(line, pt))
 }
@@ -87,7 +87,7 @@ fn rejecting_lines(
     lines: &[MediaAttribute],
     pt: Pt,
 ) -> Result<Vec<MediaAttribute>, AllocError>
-    ensures { IfOk result (λ attrs. attrs.items ≡ line_that is_mid lines.now ++ (direction_over proto ++ line_that (maps pt) lines.now)) }
+    ensures { IfOk result (λ attrs. attrs.items ≡ line_that is_mid lines.now ++ (direction_over proto ++ line_that (maps_type pt) lines.now)) }
 {
     let mut attrs = Vec::new(alloc);
     push_copy(&mut attrs, mid_line(lines))?;

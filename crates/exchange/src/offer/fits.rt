@@ -1,5 +1,5 @@
 //! Whether an answer fits the offer of this side.
-ghost use Rattle.exchange.specs.Prelude.{Holds};
+ghost use Rattle.exchange.specs.Prelude.{HoldsMids};
 ghost use Rattle.exchange.specs.answer.Bundled.{IsBundledBy};
 ghost use Rattle.exchange.specs.answer.InBundle.{bundle_names};
 ghost use Rattle.exchange.specs.offer.Fits.{Breaks, BreaksAt, BreaksFirstAt, BundlesSo, FitsAt, FitsOffer, IsBundledSo, accepted_name, unrejected_names};
@@ -79,8 +79,8 @@ fn is_bundled_so(
     offered: &BTreeSet<&str>,
     mid: Mid,
 ) -> bool
-    requires accepted { Holds accepted.now (unrejected_names answer.now) }
-    requires offered { Holds offered.now (bundle_names offer.now) }
+    requires accepted { HoldsMids accepted.now (unrejected_names answer.now) }
+    requires offered { HoldsMids offered.now (bundle_names offer.now) }
     ensures { IsTrue result ↔ IsBundledSo offer.now answer.now mid }
 {
     is_held(accepted, Some(mid)) && is_held(offered, Some(mid))

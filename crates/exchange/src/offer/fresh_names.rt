@@ -1,5 +1,5 @@
 //! The names of what is added to a session.
-ghost use Rattle.exchange.specs.Prelude.{AreDistinct, Holds, is_held, is_listed};
+ghost use Rattle.exchange.specs.Prelude.{AreDistinct, HoldsMids, is_mid_held, is_listed};
 ghost use Rattle.exchange.specs.declared.state.exchange_error.ExchangeError.TheVariants.{Memory, NoName};
 ghost use Rattle.exchange.specs.offer.FreshNames.{AreAllTaken, AreFresh, AreTooFew, IsNextFree};
 ghost use Rattle.std.specs.Prelude.{◌≡◌, ◌<◌, ◌⊎◌, ◌^◌, false, All, IfErr, IfOk, MatchOption, ℕ, Some, decimal, length};
@@ -14,7 +14,7 @@ use str0m_signal::{Items, Mid};
 const NUMBERS: u64 = 0x1_0000_0000;
 
 fn is_taken(alloc: Global, held: &BTreeSet<&str>, number: u64) -> Result<bool, AllocError>
-    ensures { IfOk result (λ answer. answer ≡ is_held held.now (Some (decimal number))) }
+    ensures { IfOk result (λ answer. answer ≡ is_mid_held held.now (Some (decimal number))) }
 {
     let name = format!(in alloc; "{number}")?;
     Ok(held.contains(name.as_str()))
@@ -27,7 +27,7 @@ fn next_free(
     held: &BTreeSet<&str>,
     from: u64,
 ) -> Result<Option<u64>, AllocError>
-    requires { Holds held.now taken.now }
+    requires { HoldsMids held.now taken.now }
     ensures { IfOk result (λ found. MatchOption found (AreAllTaken taken.now from) (IsNextFree taken.now from)) }
 {
     for number in from..NUMBERS {

@@ -1,6 +1,6 @@
 //! Names of sections in the order of their bytes, so that one is found among many without a look at each, whoever chose
 //! them, and the names that sections of a session have had.
-ghost use Rattle.exchange.specs.Prelude.{Holds, is_held};
+ghost use Rattle.exchange.specs.Prelude.{HoldsMids, is_mid_held};
 ghost use Rattle.exchange.specs.offer.Names.{grown, new_name};
 ghost use Rattle.std.specs.Prelude.{◌≡◌, ◌++◌, IfOk, OnOk, option_to_list};
 
@@ -11,7 +11,7 @@ use str0m_signal::{Items, MediaLine, Mid};
 
 /// The names, each once.
 pub(crate) fn ordered(alloc: Global, mids: &[Mid]) -> Result<BTreeSet<&str>, AllocError>
-    ensures { IfOk result (λ names. Holds names mids.now) }
+    ensures { IfOk result (λ names. HoldsMids names mids.now) }
 {
     let mut names = BTreeSet::new(alloc);
     for mid in mids {
@@ -22,7 +22,7 @@ pub(crate) fn ordered(alloc: Global, mids: &[Mid]) -> Result<BTreeSet<&str>, All
 
 /// Whether a name is among them; `false` of none.
 pub(crate) fn is_held(names: &BTreeSet<&str>, mid: Option<Mid>) -> bool
-    ensures { result ≡ is_held names.now mid }
+    ensures { result ≡ is_mid_held names.now mid }
 {
     match mid {
         Some(mid) => names.contains(mid.as_str()),
@@ -32,7 +32,7 @@ pub(crate) fn is_held(names: &BTreeSet<&str>, mid: Option<Mid>) -> bool
 
 /// The name of a section, where it isn't among the others.
 fn new_name(had: &[Mid], names: &BTreeSet<&str>, section: &MediaLine) -> Option<Mid>
-    requires { Holds names.now had.now }
+    requires { HoldsMids names.now had.now }
     ensures { result ≡ new_name had.now section.now }
 {
     if is_held(names, name_of(section)) {

@@ -1,5 +1,5 @@
 //! The places of sections over several exchanges.
-ghost use Rattle.exchange.specs.Prelude.{Holds};
+ghost use Rattle.exchange.specs.Prelude.{HoldsMids};
 ghost use Rattle.exchange.specs.section.Places.{HasNameAt, HoldsGroup, IsFree, IsOver, StaysInPlace, StaysInPlaceAt, StaysInPlaces, MovesAt};
 ghost use Rattle.exchange.specs.section.Stopped.{IsStoppedAt};
 ghost use Rattle.exchange.specs.state.State.{sections_of};
@@ -98,7 +98,7 @@ fn keeps_place(
     at: usize,
     section: &MediaLine,
 ) -> bool
-    requires names { Holds names.now had.now }
+    requires names { HoldsMids names.now had.now }
     requires group { HoldsGroup remote.now group.now }
     ensures { IsTrue result ↔ StaysInPlace had.now local.now remote.now at section.now }
 {
@@ -115,7 +115,7 @@ fn keeps_place_at(
     offer: &Sdp,
     at: usize,
 ) -> bool
-    requires names { Holds names.now had.now }
+    requires names { HoldsMids names.now had.now }
     requires group { HoldsGroup remote.now group.now }
     ensures { IsTrue result ↔ StaysInPlaceAt had.now local.now remote.now offer.now at }
 {

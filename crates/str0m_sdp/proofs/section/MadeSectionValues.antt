@@ -10,9 +10,9 @@ use Rattle.str0m_sdp.proofs.Common.{AllDistinct, codec_content, events, format_o
 use Rattle.str0m_sdp.proofs.Common.{FormatParams}
 use Rattle.str0m_sdp.proofs.Common.{PayloadParams, HoldsRowNumbers, BareRange}
 use Rattle.str0m_sdp.proofs.section.MadeSectionFrame.{NamesNoType, NameNoType}
-use Rattle.str0m_sdp.proofs.section.MadeSectionRead.{IsBareFrame, DescribesRows, describes}
+use Rattle.str0m_sdp.proofs.section.MadeSectionRead.{IsBareFrame, DescribesRows, made_section_describes}
 use Rattle.str0m_sdp.proofs.section.MappingsBack.{IsSaid}
-use Rattle.str0m_sdp.proofs.section.RowAttributesQuestions.{attrs_of}
+use Rattle.str0m_sdp.proofs.section.RowAttributesQuestions.{frame_and_row_attrs}
 use Rattle.str0m_sdp.specs.declared.attribute.MediaAttribute.{MediaAttribute}
 use Rattle.str0m_sdp.specs.declared.section.media_line.MediaLine.{MediaLine}
 
@@ -75,9 +75,9 @@ each_said pairs rows plain line = λ k d lt. lines_say (get_or rows k d) (pairs 
 -- a section whose lines are read so describes the rows
 pub describes_printed : (pairs : PayloadParams → List (List ℕ × List ℕ)) (m : MediaLine) (frame : List MediaAttribute)
     (rows : List PayloadParams) → IsBareFrame m frame
-    → m.attrs ≡ attrs_of (values_by pairs) frame rows → m.pts ≡ types rows → All IsPlain rows → AllDistinct (types rows)
+    → m.attrs ≡ frame_and_row_attrs (values_by pairs) frame rows → m.pts ≡ types rows → All IsPlain rows → AllDistinct (types rows)
     → All (λ row. row.spec.codec ≢ codec.Tele → IsLineOf row.spec.format (pairs row)) rows → rows ≢ [] → DescribesRows m rows
-describes_printed pairs m frame rows f attrs pts plain d line some = search (rules, describes, each_said)
+describes_printed pairs m frame rows f attrs pts plain d line some = search (rules, made_section_describes, each_said)
 
 -- ---- the pairs that a format prints
 
@@ -95,7 +95,7 @@ values_printed row = values_by (λ r. line_printed_pairs r.spec.format) row
 -- plain rows whose numbers keep to their types' ranges, none of whose types stands twice, are described by a section whose
 -- types are theirs and whose lines are those of a frame and what theirs read as
 pub describes_read_back : (m : MediaLine) (frame : List MediaAttribute) (rows : List PayloadParams) → IsBareFrame m frame
-    → m.attrs ≡ attrs_of values_printed frame rows → m.pts ≡ types rows → All IsPlain rows → All HoldsRowNumbers rows
+    → m.attrs ≡ frame_and_row_attrs values_printed frame rows → m.pts ≡ types rows → All IsPlain rows → All HoldsRowNumbers rows
     → AllDistinct (types rows) → rows ≢ [] → DescribesRows m rows
 describes_read_back m frame rows f attrs pts plain holds d some =
     describes_printed (λ r. line_printed_pairs r.spec.format) m frame rows f attrs pts plain d

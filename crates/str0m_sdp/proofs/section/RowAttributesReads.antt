@@ -6,11 +6,11 @@ use Rattle.str0m_sdp.specs.attribute.RtpMap.{map_of_spec}
 use Rattle.str0m_sdp.specs.declared.attribute.MediaAttribute.{MediaAttribute}
 use Rattle.str0m_sdp.specs.declared.attribute.MediaAttribute.TheVariants.{RtpMap, RtcpFb, Fmtp}
 use Rattle.str0m_sdp.specs.declared.attribute.rtp_map.RtpMap.{RtpMap as Mapping}
-use Rattle.str0m_sdp.specs.section.RowAttributes.{feedback_line, feedback_attrs, rtx_lines}
+use Rattle.str0m_sdp.specs.section.RowAttributes.{row_feedback_line, feedback_attrs, rtx_lines}
 
-abbrev pub fmtp_lines : ℕ → List (List FormatParam) → List MediaAttribute
-fmtp_lines pt [] = []
-fmtp_lines pt (v ∷ vs) = Fmtp pt v ∷ fmtp_lines pt vs
+abbrev pub row_fmtp_lines : ℕ → List (List FormatParam) → List MediaAttribute
+row_fmtp_lines pt [] = []
+row_fmtp_lines pt (v ∷ vs) = Fmtp pt v ∷ row_fmtp_lines pt vs
 
 abbrev pub red_reads : PayloadParams → Option ℕ → List MediaAttribute
 red_reads row None = []
@@ -22,50 +22,52 @@ red_reads row (Some pt) =
 abbrev pub reads : PayloadParams → List (List FormatParam) → List MediaAttribute
 reads row values =
     RtpMap row.pt (map_of_spec row.spec)
-    ∷ (feedback_attrs row ++ (fmtp_lines row.pt values ++ (rtx_lines row row.resend ++ red_reads row row.red)))
+    ∷ (feedback_attrs row ++ (row_fmtp_lines row.pt values ++ (rtx_lines row row.resend ++ red_reads row row.red)))
 
 -- ---- what holds of each of them
 
 module _ (P : MediaAttribute → Type 0) (row : PayloadParams) where
-  one_feedback : (w : List ℕ) (b : Bool) → P (RtcpFb row.pt w) → AllByRecursion P (feedback_line row.pt w b)
-  one_feedback w b h = grind arith
+  row_one_feedback : (w : List ℕ) (b : Bool) → P (RtcpFb row.pt w) → AllByRecursion P (row_feedback_line row.pt w b)
+  row_one_feedback w b h = grind arith
 
-  pub all_feedback : ((w : List ℕ) → P (RtcpFb row.pt w)) → AllByRecursion P (feedback_attrs row)
-  all_feedback h = grind arith
+  pub row_all_feedback : ((w : List ℕ) → P (RtcpFb row.pt w)) → AllByRecursion P (feedback_attrs row)
+  row_all_feedback h = grind arith
 
-  pub all_fmtp : (vs : List (List FormatParam)) → AllByRecursion (λ v. P (Fmtp row.pt v)) vs → AllByRecursion P (fmtp_lines row.pt vs)
-  all_fmtp [] h = tt
-  all_fmtp (v ∷ vs) h = (h.0, all_fmtp vs h.1)
+  pub row_all_fmtp : (vs : List (List FormatParam)) → AllByRecursion (λ v. P (Fmtp row.pt v)) vs
+      → AllByRecursion P (row_fmtp_lines row.pt vs)
+  row_all_fmtp [] h = tt
+  row_all_fmtp (v ∷ vs) h = (h.0, row_all_fmtp vs h.1)
 
-  pub all_rtx : (o : Option ℕ) → ((n : ℕ) → o ≡ Some n → ((m : Mapping) → P (RtpMap n m)) × P (Fmtp n (Apt row.pt ∷ [])))
+  pub row_all_rtx : (o : Option ℕ) → ((n : ℕ) → o ≡ Some n → ((m : Mapping) → P (RtpMap n m)) × P (Fmtp n (Apt row.pt ∷ [])))
       → AllByRecursion P (rtx_lines row o)
-  all_rtx o h = grind arith
+  row_all_rtx o h = grind arith
 
-  pub all_red : (o : Option ℕ) → ((n : ℕ) → o ≡ Some n → ((m : Mapping) → P (RtpMap n m)) × P (Fmtp n (BarePtList row.pt ∷ [])))
+  pub row_all_red : (o : Option ℕ) → ((n : ℕ) → o ≡ Some n → ((m : Mapping) → P (RtpMap n m)) × P (Fmtp n (BarePtList row.pt ∷ [])))
       → AllByRecursion P (red_reads row o)
-  all_red o h = grind arith
+  row_all_red o h = grind arith
 
-  pub each : (vs : List (List FormatParam)) → ((m : Mapping) → P (RtpMap row.pt m)) → ((w : List ℕ) → P (RtcpFb row.pt w))
+  pub row_lines_each : (vs : List (List FormatParam)) → ((m : Mapping) → P (RtpMap row.pt m)) → ((w : List ℕ) → P (RtcpFb row.pt w))
       → AllByRecursion (λ v. P (Fmtp row.pt v)) vs
       → ((n : ℕ) → row.resend ≡ Some n → ((m : Mapping) → P (RtpMap n m)) × P (Fmtp n (Apt row.pt ∷ [])))
       → ((n : ℕ) → row.red ≡ Some n → ((m : Mapping) → P (RtpMap n m)) × P (Fmtp n (BarePtList row.pt ∷ [])))
       → AllByRecursion P (reads row vs)
-  each vs map feedback format rtx red = grind (arith, line_all_of_both, all_feedback, all_fmtp, all_rtx, all_red)
+  row_lines_each vs map feedback format rtx red = grind (arith, line_all_of_both, row_all_feedback, row_all_fmtp, row_all_rtx, row_all_red)
 
 -- ---- questions
 
-pub quiet : {X Y : Type 0} (q : X → Option Y) (xs : List X) → AllByRecursion (λ x. q x ≡ None) xs → filter_map q xs ≡ []
-quiet q [] h = refl
-quiet q (x ∷ xs) h = rw h.0 (quiet q xs h.1)
+pub row_lines_quiet : {X Y : Type 0} (q : X → Option Y) (xs : List X) → AllByRecursion (λ x. q x ≡ None) xs → filter_map q xs ≡ []
+row_lines_quiet q [] h = refl
+row_lines_quiet q (x ∷ xs) h = rw h.0 (row_lines_quiet q xs h.1)
 
-pub append_said : {X Y : Type 0} (q : X → Option Y) (xs ys : List X) (vs ws : List Y)
+pub row_append_said : {X Y : Type 0} (q : X → Option Y) (xs ys : List X) (vs ws : List Y)
     → filter_map q xs ≡ vs → filter_map q ys ≡ ws → filter_map q (xs ++ ys) ≡ vs ++ ws
-append_said q xs ys vs ws e f = filter_map-append q xs ys ∙ ap (λ zs. zs ++ filter_map q ys) e ∙ ap (λ zs. vs ++ zs) f
+row_append_said q xs ys vs ws e f = filter_map-append q xs ys ∙ ap (λ zs. zs ++ filter_map q ys) e ∙ ap (λ zs. vs ++ zs) f
 
 -- a question that the mapping leaves open, asked of the parts of a row's lines
-pub parts_said : {Y : Type 0} (q : MediaAttribute → Option Y) (row : PayloadParams) (vs : List (List FormatParam)) (fmtp rtx red : List Y)
+pub row_parts_said : {Y : Type 0} (q : MediaAttribute → Option Y) (row : PayloadParams) (vs : List (List FormatParam))
+    (fmtp rtx red : List Y)
     → q (RtpMap row.pt (map_of_spec row.spec)) ≡ None → ((w : List ℕ) → q (RtcpFb row.pt w) ≡ None)
-    → filter_map q (fmtp_lines row.pt vs) ≡ fmtp → filter_map q (rtx_lines row row.resend) ≡ rtx
+    → filter_map q (row_fmtp_lines row.pt vs) ≡ fmtp → filter_map q (rtx_lines row row.resend) ≡ rtx
     → filter_map q (red_reads row row.red) ≡ red
     → filter_map q (reads row vs) ≡ fmtp ++ (rtx ++ red)
-parts_said q row vs fmtp rtx red map feedback a b c = grind (arith, append_said, quiet)
+row_parts_said q row vs fmtp rtx red map feedback a b c = grind (arith, row_append_said, row_lines_quiet)

@@ -6,11 +6,11 @@ use Rattle.str0m_values.specs.contracts.candidate_kind.CandidateKind as kind
 use Rattle.str0m_values.specs.contracts.protocol.Protocol as protocol
 use Rattle.str0m_values.specs.contracts.protocol.TcpType as tcp_type
 
-abbrev ip : EqualityTest IpAddr
-ip = eq_along ip_type.as_values ip_type.the_make ip_type.the_eta (hlevel equality)
+abbrev ip_equality : EqualityTest IpAddr
+ip_equality = eq_along ip_type.as_values ip_type.the_make ip_type.the_eta (hlevel equality)
 
 abbrev pub eq_candidate : EqualityTest Candidate
-eq_candidate = hlevel (ip, eq_word kind.the_type tt, eq_word protocol.the_type tt, eq_word tcp_type.the_type tt, equality)
+eq_candidate = hlevel (ip_equality, eq_word kind.the_type tt, eq_word protocol.the_type tt, eq_word tcp_type.the_type tt, equality)
 
 pub candidate_Decides : (a b : Candidate) → Decides (same_candidate a b) (a ≡ b)
 candidate_Decides a b = eq_candidate.decides a b

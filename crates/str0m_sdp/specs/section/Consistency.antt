@@ -29,9 +29,9 @@ is_direction Inactive = true
 is_direction _ = false
 
 -- a mapping of this payload type (RFC 8866, section 6.6)
-abbrev pub maps : ℕ → MediaAttribute → Bool
-maps pt (RtpMap n value) = n == pt
-maps pt _ = false
+abbrev pub maps_type : ℕ → MediaAttribute → Bool
+maps_type pt (RtpMap n value) = n == pt
+maps_type pt _ = false
 
 -- the payload type stands for a codec without a mapping (RFC 3551, section 6)
 abbrev pub NeedsNoMapping : ℕ → Type 0
@@ -39,7 +39,7 @@ NeedsNoMapping pt = (spec : CodecSpec) × IsStatic pt spec
 
 -- one mapping, or none where the type needs none
 abbrev pub IsMapped : List MediaAttribute → ℕ → Type 0
-IsMapped attrs pt = (count_by (maps pt) attrs ≡ 1) ⊎ ((count_by (maps pt) attrs ≡ 0) × NeedsNoMapping pt)
+IsMapped attrs pt = (count_by (maps_type pt) attrs ≡ 1) ⊎ ((count_by (maps_type pt) attrs ≡ 0) × NeedsNoMapping pt)
 
 -- over Srtp one direction, and some type unless the section is disabled
 abbrev pub FitsProto : MediaLine → Type 0

@@ -10,32 +10,32 @@ use Rattle.str0m_sdp.specs.declared.attribute.MediaAttribute.TheVariants.{RtpMap
 use Rattle.str0m_sdp.specs.declared.label.TheConstants.{TRANSPORT_CC, REMB, FIR, NACK, PLI}
 
 -- a line of feedback where it is on (RFC 4585, section 4.2)
-abbrev pub feedback_line : ℕ → List ℕ → Bool → List MediaAttribute
-feedback_line pt value true = RtcpFb pt value ∷ []
-feedback_line pt value false = []
+abbrev pub row_feedback_line : ℕ → List ℕ → Bool → List MediaAttribute
+row_feedback_line pt value true = RtcpFb pt value ∷ []
+row_feedback_line pt value false = []
 
 -- transport-wide congestion control, the receiver's estimate of the bitrate, full intra requests (RFC 5104, section
 -- 7.1), generic NACK and picture loss indication (RFC 4585, section 4.2)
 abbrev pub feedback_attrs : PayloadParams → List MediaAttribute
 feedback_attrs row =
-    feedback_line row.pt TRANSPORT_CC.now row.fb_transport_cc
-    ++ (feedback_line row.pt REMB.now row.fb_remb
-    ++ (feedback_line row.pt FIR.now row.fb_fir
-    ++ (feedback_line row.pt NACK.now row.fb_nack
-    ++ feedback_line row.pt PLI.now row.fb_pli)))
+    row_feedback_line row.pt TRANSPORT_CC.now row.fb_transport_cc
+    ++ (row_feedback_line row.pt REMB.now row.fb_remb
+    ++ (row_feedback_line row.pt FIR.now row.fb_fir
+    ++ (row_feedback_line row.pt NACK.now row.fb_nack
+    ++ row_feedback_line row.pt PLI.now row.fb_pli)))
 
 -- one fmtp line (RFC 8866, section 6.15), and none without values
-abbrev pub fmtp_line : ℕ → List FormatParam → List MediaAttribute
-fmtp_line pt [] = []
-fmtp_line pt (value ∷ values) = Fmtp pt (value ∷ values) ∷ []
+abbrev pub row_fmtp_line : ℕ → List FormatParam → List MediaAttribute
+row_fmtp_line pt [] = []
+row_fmtp_line pt (value ∷ values) = Fmtp pt (value ∷ values) ∷ []
 
 -- the values of a format: of telephone events the highest (RFC 4733, section 2.4.1), else the parameters that are given
-abbrev pub format_values : Codec → FormatParams → List FormatParam
-format_values codec.Tele format = TelephoneEvents (narrowed_telephone_max format) ∷ []
-format_values _ format = params_of format
+abbrev pub row_format_values : Codec → FormatParams → List FormatParam
+row_format_values codec.Tele format = TelephoneEvents (narrowed_telephone_max format) ∷ []
+row_format_values _ format = params_of format
 
 abbrev pub format_attrs : PayloadParams → List MediaAttribute
-format_attrs row = fmtp_line row.pt (format_values row.spec.codec row.spec.format)
+format_attrs row = row_fmtp_line row.pt (row_format_values row.spec.codec row.spec.format)
 
 -- retransmissions: a mapping at the row's clock rate, and the primary type (RFC 4588, section 8.1)
 abbrev pub rtx_lines : PayloadParams → Option ℕ → List MediaAttribute
@@ -64,5 +64,5 @@ row_attrs row =
     ∷ (feedback_attrs row ++ (format_attrs row ++ (rtx_attrs row ++ red_attrs row)))
 
 -- the second list begins with the first
-abbrev pub Appends : List MediaAttribute → List MediaAttribute → Type 0
-Appends before after = (rest : List MediaAttribute) × (after ≡ before ++ rest)
+abbrev pub AppendsLines : List MediaAttribute → List MediaAttribute → Type 0
+AppendsLines before after = (rest : List MediaAttribute) × (after ≡ before ++ rest)

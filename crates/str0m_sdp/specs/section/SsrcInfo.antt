@@ -49,34 +49,34 @@ abbrev pub cname_said : ℕ → MediaAttribute → Option (List ℕ)
 cname_said s attr = source_value_of (codes "cname") s attr
 
 -- the id in a piece, without white space at its ends, where `-` says that there is none (RFC 8830, section 2)
-abbrev pub id_of : List ℕ → Option (List ℕ)
-id_of piece = if bytes_eq (trim piece) (codes "-") then None else Some (trim piece)
+abbrev pub ssrc_id_of : List ℕ → Option (List ℕ)
+ssrc_id_of piece = if bytes_eq (trim piece) (codes "-") then None else Some (trim piece)
 
 -- its stream: the text before the first space
 abbrev pub stream_said : ℕ → MediaAttribute → Option (Option (List ℕ))
-stream_said s attr = option_map (λ value. id_of (before 32 value)) (source_value_of (codes "msid") s attr)
+stream_said s attr = option_map (λ value. ssrc_id_of (before 32 value)) (source_value_of (codes "msid") s attr)
 
 -- its track: the text after the first space, up to the next one
 abbrev pub track_said : ℕ → MediaAttribute → Option (Option (List ℕ))
-track_said s attr = source_value_of (codes "msid") s attr >>= (λ value. option_map (λ parts. id_of (before 32 parts.1)) (cut 32 value))
+track_said s attr = source_value_of (codes "msid") s attr >>= (λ value. option_map (λ parts. ssrc_id_of (before 32 parts.1)) (cut 32 value))
 
 -- what the last attribute says that says something
-abbrev pub latest : {X : Type 0} → (MediaAttribute → Option X) → List MediaAttribute → Option X
-latest said attrs = last (filter_map said attrs)
+abbrev pub latest_said : {X : Type 0} → (MediaAttribute → Option X) → List MediaAttribute → Option X
+latest_said said attrs = last (filter_map said attrs)
 
 -- the source, with what is said of it last
 abbrev pub info : List MediaAttribute → ℕ → SsrcInfo
 info attrs s = record {
   ssrc = s;
-  repairs = latest (repaired_by s) attrs;
-  cname = latest (cname_said s) attrs;
-  stream_id = option_flatten (latest (stream_said s) attrs);
-  track_id = option_flatten (latest (track_said s) attrs);
+  repairs = latest_said (repaired_by s) attrs;
+  cname = latest_said (cname_said s) attrs;
+  stream_id = option_flatten (latest_said (stream_said s) attrs);
+  track_id = option_flatten (latest_said (track_said s) attrs);
 }
 
 -- each source of a section
-abbrev pub infos : List MediaAttribute → List SsrcInfo
-infos attrs = map (info attrs) (sources attrs)
+abbrev pub source_infos : List MediaAttribute → List SsrcInfo
+source_infos attrs = map (info attrs) (sources attrs)
 
 -- a source of which nothing is said
 abbrev pub empty_info : ℕ → SsrcInfo

@@ -8,9 +8,9 @@ use Rattle.str0m_sdp.specs.declared.session.Sdp.{Sdp}
 use Rattle.str0m_sdp.specs.section.SectionAccessors.{section_sctp_init}
 
 -- the sections that share a transport (RFC 9143, section 5)
-abbrev pub bundled_of : SessionAttribute → Option (List (List ℕ))
-bundled_of (Group typ mids) = if bytes_eq typ (codes "BUNDLE") then Some mids else None
-bundled_of _ = None
+abbrev pub bundled_mids_of : SessionAttribute → Option (List (List ℕ))
+bundled_mids_of (Group typ mids) = if bytes_eq typ (codes "BUNDLE") then Some mids else None
+bundled_mids_of _ = None
 
 -- what the first section of data channels says; nothing of a later one
 abbrev pub sdp_sctp_init : Sdp → Option (List ℕ)

@@ -10,11 +10,11 @@ use Rattle.str0m_sdp.specs.session.CandidateKey.{IsKeyOf}
 use Rattle.str0m_sdp.specs.session.Candidates.{same_candidate}
 
 -- those that were seen, in order of first appearance
-abbrev pub seen : SeenCandidates → List Candidate
-seen candidates = map (λ c. c.now) candidates.once.items
+abbrev pub candidates_seen : SeenCandidates → List Candidate
+candidates_seen candidates = map (λ c. c.now) candidates.once.items
 
 -- a key is there exactly where an equal candidate was seen
-abbrev pub AreByKey : SeenCandidates → Type 0
-AreByKey candidates =
+abbrev pub AreCandidatesByKey : SeenCandidates → Type 0
+AreCandidatesByKey candidates =
     (candidate : Candidate) (key : CandidateKey) → IsKeyOf candidate key
-    → contains order.cmp-value.it candidates.keys key ≡ list_any (same_candidate candidate) (seen candidates)
+    → contains order.cmp-value.it candidates.keys key ≡ list_any (same_candidate candidate) (candidates_seen candidates)

@@ -56,8 +56,8 @@ pub record ConsistentSdp (sdp : Sdp) : Type 0 where
   pub group : IsGrouped sdp
 
 -- so few sections that their mids are compared each with each, which takes no memory
-abbrev pub AreFew : List MediaLine → Type 0
-AreFew sections = length sections ≤ 16
+abbrev pub AreSectionsFew : List MediaLine → Type 0
+AreSectionsFew sections = length sections ≤ 16
 
 -- an answer says whether something holds, out of memory aside
 abbrev pub SaysWhether : Type 0 → Result (Unit {0}) SdpError → Type 0

@@ -6,14 +6,14 @@ use std::alloc::AllocError;
 use str0m_formats::FormatParam;
 use str0m_values::Pt;
 
-fn is_of(number: u8, pt: Pt) -> bool
+fn is_line_of_type(number: u8, pt: Pt) -> bool
     ensures { result ≡ (number == pt) }
 {
     number == pt.value()
 }
 
 /// Puts the values of the lines of the type in place of what was found before.
-pub(crate) fn find_lines<'a>(
+pub(crate) fn find_fmtp_lines<'a>(
     found: &mut Vec<&'a [FormatParam]>,
     lines: &[(u8, &'a [FormatParam])],
     pt: Pt,
@@ -22,7 +22,7 @@ pub(crate) fn find_lines<'a>(
 {
     found.clear();
     for (number, values) in lines {
-        if is_of(*number, pt) {
+        if is_line_of_type(*number, pt) {
             found.push(*values)?;
         }
     }

@@ -17,12 +17,12 @@ fn row_types(alloc: Global, rows: &[PayloadParams]) -> Result<Vec<Pt>, AllocErro
 {
     let mut pts = Vec::new(alloc);
     for row in rows {
-        push_types(&mut pts, row)?;
+        push_row_types(&mut pts, row)?;
     }
     Ok(pts)
 }
 
-fn push_types(pts: &mut Vec<Pt>, row: &PayloadParams) -> Result<(), AllocError>
+fn push_row_types(pts: &mut Vec<Pt>, row: &PayloadParams) -> Result<(), AllocError>
     ensures { OnOk result (pts.new.items ≡ pts.old.items ++ types_of row.now) }
 {
     pts.push(row.pt())?;
@@ -49,7 +49,7 @@ fn kept(alloc: Global, attrs: &[MediaAttribute]) -> Result<Vec<MediaAttribute>, 
 }
 
 /// The lines of rows after others.
-fn with_rows(
+fn with_row_lines(
     mut attrs: Vec<MediaAttribute>,
     rows: &[PayloadParams],
 ) -> Result<Vec<MediaAttribute>, AllocError>
@@ -73,7 +73,7 @@ pub fn section_of(frame: &MediaLine, rows: &[PayloadParams]) -> Result<MediaLine
 {
     let pts = row_types(*frame.pts.allocator(), rows)?;
     let own = kept(*frame.attrs.allocator(), frame.attrs.as_slice())?;
-    let attrs = with_rows(own, rows)?;
+    let attrs = with_row_lines(own, rows)?;
     Ok(MediaLine {
         typ: frame.typ.clone()?,
         disabled: frame.disabled,

@@ -49,7 +49,7 @@ pub(crate) fn mapped_types(mapped: &[(Pt, CodecSpec)]) -> [bool; TYPES]
 }
 
 /// Which types stand for the codec.
-pub(crate) fn types_of(mapped: &[(Pt, CodecSpec)], codec: Codec) -> [bool; TYPES]
+pub(crate) fn types_of_codec(mapped: &[(Pt, CodecSpec)], codec: Codec) -> [bool; TYPES]
     ensures rows { (pt : ℕ) → pt < 256 → get_or result pt false ≡ is_mapped_to codec mapped.now pt }
     ensures whole { length result ≡ 256 }
 {

@@ -99,7 +99,7 @@ impl<'a> fmt::Display for Types<'a> {
 }
 
 /// The port of a section: `0` where it is disabled, else the discard port, since ICE finds the port.
-fn port(disabled: bool) -> &'static str
+fn section_port(disabled: bool) -> &'static str
     ensures { result.now ≡ port_text disabled }
 {
     if disabled { "0" } else { "9" }
@@ -115,7 +115,7 @@ impl<'a> fmt::Display for HeadLine<'a> {
     fn fmt<W: fmt::Write>(&self, f: &mut fmt::Formatter<W>) -> fmt::Result {
         let section = self.0;
         let (typ, proto) = (&section.typ, section.proto);
-        let port = port(section.disabled);
+        let port = section_port(section.disabled);
         let pts = section.pts.as_slice();
         let formats = Formats { typ, pts };
         write!(f, "m={typ} {port} {proto} {formats}\r\n")

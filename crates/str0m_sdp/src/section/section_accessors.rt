@@ -5,8 +5,8 @@ ghost use Rattle.str0m_sdp.specs.Common.{first, last};
 ghost use Rattle.str0m_sdp.specs.section.Consistency.{Consistent, NoneIff, is_direction, is_mid, mid_of};
 ghost use Rattle.str0m_sdp.specs.section.SectionAccessors.{IsRidOf, ext_map_at, ext_map_of, max_message_size_of, msid_of, rid_name_of, sctp_init_of, simulcast_of};
 ghost use Rattle.str0m_sdp.specs.section.SectionDirection.{section_direction, with_direction};
-ghost use Rattle.str0m_sdp.specs.section.Sources.{ArePlaced, entries};
-ghost use Rattle.str0m_sdp.specs.section.SsrcInfo.{infos, repair_source, source_of};
+ghost use Rattle.str0m_sdp.specs.section.Sources.{AreSourcesPlaced, source_entries};
+ghost use Rattle.str0m_sdp.specs.section.SsrcInfo.{source_infos, repair_source, source_of};
 ghost use Rattle.str0m_sdp.specs.section.SsrcInfoReading.{AreGathered};
 ghost use Rattle.str0m_sdp.specs.session.Candidates.{candidates_left, section_candidates};
 ghost use Rattle.str0m_sdp.specs.session.Fault.{section_message};
@@ -17,14 +17,14 @@ use crate::attribute::MediaAttribute;
 use crate::attribute::msid::Msid;
 use crate::attribute::setup::Setup;
 use crate::attribute::simulcast::Simulcast;
-use crate::section::consistency::{check, first_mid};
+use crate::section::consistency::{check_section, first_mid};
 use crate::section::media_line::MediaLine;
 use crate::section::section_direction::{direction_place, first_direction};
 use crate::section::sources::Sources;
 use crate::section::ssrc_info::SsrcInfo;
 use crate::session::candidates::Candidates;
 use crate::session::fault::Message;
-use crate::session::preferred_fingerprint::{copied_fingerprint, preferred};
+use crate::session::preferred_fingerprint::{copied_fingerprint, preferred_fingerprint};
 use crate::session::transport::{copied_creds, ends, first_creds, first_setup};
 use std::alloc::{AllocError, Global};
 use str0m_values::{Direction, Extension, Fingerprint, IceCreds, Mid, Rid};
@@ -106,7 +106,7 @@ impl MediaLine {
     pub fn fingerprint(&self) -> Result<Option<Fingerprint>, AllocError>
         ensures { IfOk result (IsPreferred (filter_map media_fingerprint self.now.attrs)) }
     {
-        copied_fingerprint(preferred(self.attrs.as_slice()))
+        copied_fingerprint(preferred_fingerprint(self.attrs.as_slice()))
     }
 
     /// The candidates that the section lists, in attribute order (RFC 8839, section 5.1).
@@ -203,8 +203,8 @@ impl MediaLine {
 
     /// What the `Ssrc` attributes say of each source, in order of first appearance.
     fn gather_values(&self, alloc: Global) -> Result<Sources, AllocError>
-        ensures said { IfOk result (λ sources. AreGathered (filter_map source_of self.now.attrs) [] self.now.attrs (entries sources)) }
-        ensures placed { IfOk result ArePlaced }
+        ensures said { IfOk result (λ sources. AreGathered (filter_map source_of self.now.attrs) [] self.now.attrs (source_entries sources)) }
+        ensures placed { IfOk result AreSourcesPlaced }
     {
         let mut sources = Sources::new(alloc);
         for line in self.attrs.as_slice() {
@@ -217,9 +217,9 @@ impl MediaLine {
 
     /// Adds which sources repair others. Those that have no entry yet come last.
     fn add_repairs(&self, sources: &mut Sources) -> Result<(), AllocError>
-        requires said { AreGathered (filter_map source_of self.now.attrs) [] self.now.attrs (entries sources.old) }
-        requires placed { ArePlaced sources.old }
-        ensures { OnOk result (AreGathered (filter_map source_of self.now.attrs ++ filter_map repair_source self.now.attrs) self.now.attrs self.now.attrs (entries sources.new)) }
+        requires said { AreGathered (filter_map source_of self.now.attrs) [] self.now.attrs (source_entries sources.old) }
+        requires placed { AreSourcesPlaced sources.old }
+        ensures { OnOk result (AreGathered (filter_map source_of self.now.attrs ++ filter_map repair_source self.now.attrs) self.now.attrs self.now.attrs (source_entries sources.new)) }
     {
         for line in self.attrs.as_slice() {
             if let Some((repaired, repairing)) = line.repair_pair() {
@@ -240,7 +240,7 @@ impl MediaLine {
     /// a sort, whatever the numbers are. `AllocError` where memory is refused.
     #[tactic(auto, using(crate::proofs::section::SsrcInfoLaws::gathered_infos))]
     pub fn ssrc_info(&self) -> Result<Vec<SsrcInfo>, AllocError>
-        ensures { IfOk result (λ list. list.items ≡ infos self.now.attrs) }
+        ensures { IfOk result (λ list. list.items ≡ source_infos self.now.attrs) }
     {
         let alloc = *self.attrs.allocator();
         let mut sources = self.gather_values(alloc)?;
@@ -259,13 +259,13 @@ impl MediaLine {
     ///
     /// Only a message takes memory, so a consistent section needs none; the only error is that
     /// memory for the message was refused.
-    #[tactic(auto, using(crate::proofs::session::FaultLaws::consistent_if_ok, crate::proofs::session::FaultLaws::consistent_not_err))]
+    #[tactic(auto, using(crate::proofs::session::FaultLaws::fault_consistent_if_ok, crate::proofs::session::FaultLaws::fault_consistent_not_err))]
     pub fn check_consistent(&self) -> Result<Option<String>, AllocError>
         ensures told { IfOk result (λ message. NoneIff message (Consistent self.now)) }
         ensures first { IfOk result (λ message. option_map string_bytes message ≡ section_message self.now) }
         ensures takes_no_memory { Consistent self.now → result ≡ Ok None }
     {
-        match check(self) {
+        match check_section(self) {
             Ok(()) => Ok(None),
             Err(fault) => {
                 let section = self;

@@ -2,13 +2,13 @@
 ghost use Rattle.std.specs.Prelude.{◌≡◌, ◌<◌, ◌++◌, [], All, IfOk, OnOk, option_to_list};
 ghost use Rattle.str0m_sdp.specs.Prelude.{IsBounded, codec_content, format_of_fmtp, has_events, has_video, has_audio};
 ghost use Rattle.str0m_sdp.specs.declared.section.media_line.MediaLine.{MediaLine};
-ghost use Rattle.str0m_sdp.specs.section.SectionRows.{KeepsToLines, fmtps_of, is_kept, row, rows};
+ghost use Rattle.str0m_sdp.specs.section.SectionRows.{KeepsToLines, fmtp_values_of, is_type_kept, row, rows};
 
 use crate::attribute::MediaAttribute;
 use crate::attribute::feedback::{Feedback, note_feedback};
-use crate::section::companions::note_line;
-use crate::section::known_formats::{format_of, groups_of};
-use crate::section::mappings::{mapped_types, mappings, push_static, types_of};
+use crate::section::companions::note_companion_line;
+use crate::section::known_formats::{format_of_lines, line_groups_of};
+use crate::section::mappings::{mapped_types, mappings, push_static, types_of_codec};
 use crate::section::media_line::MediaLine;
 use crate::section::type_tables::{TYPES, place, types_in};
 use std::alloc::{AllocError, Global};
@@ -27,7 +27,7 @@ struct TypeFacts {
 }
 
 impl TypeFacts {
-    ghost use Rattle.str0m_sdp.specs.section.SectionRowsFacts.{row_of, SayOf, AreOf};
+    ghost use Rattle.str0m_sdp.specs.section.SectionRowsFacts.{row_of_tables, TablesSayOf, TablesAreOf};
 
     /// Gathers in one pass what the attributes say of each type: the fmtp lines (RFC 8866, section 6.15), each beside the number
     /// of its type, and in the tables what these and the rtcp-fb lines name. A table is changed where it stands, since to hand
@@ -38,19 +38,19 @@ impl TypeFacts {
         attrs: &'a [MediaAttribute],
         types: &[(Pt, CodecSpec)],
     ) -> Result<Vec<(u8, &'a [FormatParam])>, AllocError>
-        requires { AreOf types.now [] self.old [] }
-        ensures words { IfOk result (λ lines. AreOf types.now attrs.now self.new lines.items) }
+        requires { TablesAreOf types.now [] self.old [] }
+        ensures words { IfOk result (λ lines. TablesAreOf types.now attrs.now self.new lines.items) }
         ensures in_m_line { self.new.in_m_line ≡ self.old.in_m_line }
     {
         let mut lines = Vec::with_capacity(alloc, types.len())?;
-        let rtx_types = types_of(types, Codec::Rtx);
-        let red_types = types_of(types, Codec::Red);
+        let rtx_types = types_of_codec(types, Codec::Rtx);
+        let red_types = types_of_codec(types, Codec::Red);
         for attr in attrs {
             match attr {
                 MediaAttribute::Fmtp { pt, values } => {
                     let values = values.as_slice();
-                    note_line(&mut self.rtx, Codec::Rtx, &rtx_types, *pt, values);
-                    note_line(&mut self.red, Codec::Red, &red_types, *pt, values);
+                    note_companion_line(&mut self.rtx, Codec::Rtx, &rtx_types, *pt, values);
+                    note_companion_line(&mut self.red, Codec::Red, &red_types, *pt, values);
                     lines.push((pt.value(), values))?;
                 }
                 MediaAttribute::RtcpFb { pt, value } => {
@@ -64,11 +64,11 @@ impl TypeFacts {
 
     /// The row of a type.
     fn row_of(&self, pt: Pt, spec: CodecSpec) -> PayloadParams
-        ensures row { result ≡ row_of self.now pt spec }
+        ensures row { result ≡ row_of_tables self.now pt spec }
         ensures within { pt < 256 }
     {
         let place = place(pt);
-        let red = if is_audio(spec.codec) {
+        let red = if is_audio_codec(spec.codec) {
             self.red[place]
         } else {
             None
@@ -79,10 +79,12 @@ impl TypeFacts {
 
     /// Whether the type has a row.
     fn is_kept(&self, pt: Pt, spec: CodecSpec) -> bool
-        ensures { (m : MediaLine) → SayOf m self.now → result ≡ is_kept m (pt, spec) }
+        ensures { (m : MediaLine) → TablesSayOf m self.now → result ≡ is_type_kept m (pt, spec) }
     {
         let codec = spec.codec;
-        is_audio(codec) || is_video(codec) || (is_events(codec) && self.in_m_line[place(pt)])
+        is_audio_codec(codec)
+            || is_video_codec(codec)
+            || (is_events_codec(codec) && self.in_m_line[place(pt)])
     }
 
     /// One more row, where the type has one, by what its fmtp lines say of the codec.
@@ -93,7 +95,7 @@ impl TypeFacts {
         pt: Pt,
         spec: CodecSpec,
     ) -> Result<(), AllocError>
-        ensures { (m : MediaLine) → SayOf m self.now → format ≡ format_of_fmtp spec.codec (fmtps_of m.attrs pt) →
+        ensures { (m : MediaLine) → TablesSayOf m self.now → format ≡ format_of_fmtp spec.codec (fmtp_values_of m.attrs pt) →
             OnOk result (rows.new.items ≡ rows.old.items ++ option_to_list (row m (pt, spec))) }
     {
         match format {
@@ -108,19 +110,19 @@ impl TypeFacts {
     }
 }
 
-fn is_audio(codec: Codec) -> bool
+fn is_audio_codec(codec: Codec) -> bool
     ensures { result ≡ has_audio (codec_content codec) }
 {
     codec.is_audio()
 }
 
-fn is_video(codec: Codec) -> bool
+fn is_video_codec(codec: Codec) -> bool
     ensures { result ≡ has_video (codec_content codec) }
 {
     codec.is_video()
 }
 
-fn is_events(codec: Codec) -> bool
+fn is_events_codec(codec: Codec) -> bool
     ensures { result ≡ has_events (codec_content codec) }
 {
     codec.is_tele()
@@ -163,13 +165,13 @@ impl MediaLine {
             feedback: [Feedback::none(); TYPES],
         };
         let lines = words.gather(alloc, self.attrs.as_slice(), types)?;
-        let mut groups = groups_of(alloc, lines.as_slice())?;
+        let mut groups = line_groups_of(alloc, lines.as_slice())?;
         let mut found = Vec::new(alloc);
         let mut rows = Vec::with_capacity(alloc, types.len())?;
         for (pt, spec) in types {
             if words.is_kept(*pt, *spec) {
                 let lines = lines.as_slice();
-                let format = format_of(&mut groups, &mut found, lines, *pt, spec.codec)?;
+                let format = format_of_lines(&mut groups, &mut found, lines, *pt, spec.codec)?;
                 words.push_row(&mut rows, format, *pt, *spec)?;
             }
         }

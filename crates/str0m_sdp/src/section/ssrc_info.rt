@@ -1,6 +1,6 @@
 //! The sources of a section.
 ghost use Rattle.std.specs.Prelude.{◌≡◌, IfOk, OnOk};
-ghost use Rattle.str0m_sdp.specs.section.SsrcInfo.{id_of, empty_info};
+ghost use Rattle.str0m_sdp.specs.section.SsrcInfo.{ssrc_id_of, empty_info};
 ghost use Rattle.str0m_sdp.specs.section.SsrcInfoReading.{with_value};
 
 use crate::attribute::msid::is_no_stream;
@@ -24,8 +24,8 @@ pub struct SsrcInfo {
 }
 
 /// The id in a piece of a value, where it has one (RFC 8830, section 2).
-fn id_of(alloc: Global, piece: &str) -> Result<Option<Text>, AllocError>
-    ensures { IfOk result (λ id. id ≡ id_of piece.now) }
+fn ssrc_id_of(alloc: Global, piece: &str) -> Result<Option<Text>, AllocError>
+    ensures { IfOk result (λ id. id ≡ ssrc_id_of piece.now) }
 {
     if is_no_stream(piece) {
         return Ok(None);
@@ -60,9 +60,9 @@ impl SsrcInfo {
     fn set_ids(&mut self, alloc: Global, value: &str) -> Result<(), AllocError>
         ensures { OnOk result (self.new ≡ with_ids value.now self.old) }
     {
-        self.stream_id = id_of(alloc, before(value, Separator::Space))?;
+        self.stream_id = ssrc_id_of(alloc, before(value, Separator::Space))?;
         if let Some((_, rest)) = cut(value, Separator::Space) {
-            self.track_id = id_of(alloc, before(rest, Separator::Space))?;
+            self.track_id = ssrc_id_of(alloc, before(rest, Separator::Space))?;
         }
         Ok(())
     }

@@ -1,7 +1,7 @@
 //! What a section says of each payload type, gathered in one pass over its attributes.
 ghost use Rattle.std.specs.List.{list_any};
 ghost use Rattle.std.specs.Prelude.{◌≡◌, ◌==◌, ◌<◌, ℕ, false, None, count_by, get_or, length};
-ghost use Rattle.str0m_sdp.specs.section.Consistency.{maps, apt_of, apt_among, first_apt};
+ghost use Rattle.str0m_sdp.specs.section.Consistency.{maps_type, apt_of, apt_among, first_apt};
 
 use crate::attribute::MediaAttribute;
 use str0m_formats::FormatParam;
@@ -30,8 +30,8 @@ pub(crate) fn types_in(pts: &[Pt]) -> [bool; TYPES]
 }
 
 /// How many mappings each payload type has (RFC 8866, section 6.6).
-pub(crate) fn count_maps(attrs: &[MediaAttribute]) -> [usize; TYPES]
-    ensures { (pt : ℕ) → pt < 256 → get_or result pt 0 ≡ count_by (maps pt) attrs.now }
+pub(crate) fn count_map_table(attrs: &[MediaAttribute]) -> [usize; TYPES]
+    ensures { (pt : ℕ) → pt < 256 → get_or result pt 0 ≡ count_by (maps_type pt) attrs.now }
 {
     let mut counts = [0; TYPES];
     for attr in attrs {
@@ -67,7 +67,7 @@ fn apt_among(values: &[FormatParam]) -> Option<Pt>
 }
 
 /// The first primary type that fmtp lines name for each payload type.
-pub(crate) fn first_apts(attrs: &[MediaAttribute]) -> [Option<Pt>; TYPES]
+pub(crate) fn first_apt_table(attrs: &[MediaAttribute]) -> [Option<Pt>; TYPES]
     ensures rows { (pt : ℕ) → pt < 256 → get_or result pt None ≡ first_apt pt attrs.now }
     ensures whole { length result ≡ 256 }
 {

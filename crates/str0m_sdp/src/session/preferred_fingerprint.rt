@@ -1,6 +1,6 @@
 //! Which of several fingerprints is preferred.
 ghost use Rattle.std.specs.Prelude.{◌≡◌, IfOk, filter_map, option_copied};
-ghost use Rattle.str0m_sdp.specs.session.PreferredFingerprint.{better_of, preferred};
+ghost use Rattle.str0m_sdp.specs.session.PreferredFingerprint.{better_of, preferred_fingerprint};
 
 use crate::session::transport::TransportAttribute;
 use std::alloc::AllocError;
@@ -17,8 +17,8 @@ fn better_of<'a>(best: Option<&'a Fingerprint>, other: &'a Fingerprint) -> &'a F
 }
 
 /// The preferred fingerprint of attributes (RFC 8122, section 5.1).
-pub(crate) fn preferred<A: TransportAttribute>(attrs: &[A]) -> Option<&Fingerprint>
-    ensures { option_copied result ≡ preferred (filter_map A.fingerprint attrs.now) }
+pub(crate) fn preferred_fingerprint<A: TransportAttribute>(attrs: &[A]) -> Option<&Fingerprint>
+    ensures { option_copied result ≡ preferred_fingerprint (filter_map A.fingerprint attrs.now) }
 {
     let mut best = None;
     for attr in attrs {

@@ -4,17 +4,17 @@ ghost use Rattle.str0m_sdp.specs.Common.{distinct, first};
 ghost use Rattle.str0m_sdp.specs.attribute.MediaType.{is_channel};
 ghost use Rattle.str0m_sdp.specs.declared.section.media_line.MediaLine.{MediaLine};
 ghost use Rattle.str0m_sdp.specs.session.Candidates.{all_candidates, same_candidate};
-ghost use Rattle.str0m_sdp.specs.session.DistinctCandidates.{IsEachOnce, distinct_left};
-ghost use Rattle.str0m_sdp.specs.session.PreferredFingerprint.{IsPreferred, media_fingerprints, preferred, sdp_fingerprints};
-ghost use Rattle.str0m_sdp.specs.session.SdpAccessors.{bundled_of, sdp_sctp_init};
+ghost use Rattle.str0m_sdp.specs.session.DistinctCandidates.{IsEachCandidateOnce, distinct_left};
+ghost use Rattle.str0m_sdp.specs.session.PreferredFingerprint.{IsPreferred, media_fingerprints, preferred_fingerprint, sdp_fingerprints};
+ghost use Rattle.str0m_sdp.specs.session.SdpAccessors.{bundled_mids_of, sdp_sctp_init};
 ghost use Rattle.str0m_sdp.specs.session.Transport.{lent_creds, media_creds, media_setup, sdp_creds, sdp_setup};
 
 use crate::attribute::SessionAttribute;
 use crate::attribute::setup::Setup;
 use crate::section::media_line::MediaLine;
 use crate::session::Sdp;
-use crate::session::distinct_candidates::{DistinctCandidates, add_all};
-use crate::session::preferred_fingerprint::{copied_fingerprint, preferred};
+use crate::session::distinct_candidates::{DistinctCandidates, add_all_candidates};
+use crate::session::preferred_fingerprint::{copied_fingerprint, preferred_fingerprint};
 use crate::session::seen_candidates::SeenCandidates;
 use crate::session::transport::{copied_creds, first_creds};
 use std::alloc::AllocError;
@@ -22,7 +22,7 @@ use str0m_values::{Fingerprint, IceCreds, Mid, Text};
 
 impl SessionAttribute {
     fn as_bundle(&self) -> Option<&[Mid]>
-        ensures { option_copied result ≡ bundled_of self.now }
+        ensures { option_copied result ≡ bundled_mids_of self.now }
     {
         match self {
             SessionAttribute::Group { typ, mids } if typ.as_str() == "BUNDLE" => {
@@ -37,7 +37,7 @@ impl Sdp {
     /// The names of the sections that share a transport, in order: of the first group whose type is
     /// `BUNDLE` (RFC 8843, section 5; now RFC 9143, section 5).
     pub fn bundle_mids(&self) -> Option<&[Mid]>
-        ensures { option_copied result ≡ first (filter_map bundled_of self.now.session.attrs) }
+        ensures { option_copied result ≡ first (filter_map bundled_mids_of self.now.session.attrs) }
     {
         let attrs = self.session.attrs.as_slice();
         attrs.iter().find_map(|attr| attr.as_bundle())
@@ -50,7 +50,7 @@ impl Sdp {
     {
         match self.session.setup() {
             Some(setup) => Some(setup),
-            None => setup_among(self.media_lines.as_slice()),
+            None => sdp_setup_among(self.media_lines.as_slice()),
         }
     }
 
@@ -62,7 +62,7 @@ impl Sdp {
     {
         match first_creds(self.session.attrs.as_slice()) {
             Some(found) => copied_creds(Some(found)),
-            None => copied_creds(creds_among(self.media_lines.as_slice())),
+            None => copied_creds(sdp_creds_among(self.media_lines.as_slice())),
         }
     }
 
@@ -72,9 +72,9 @@ impl Sdp {
     pub fn fingerprint(&self) -> Result<Option<Fingerprint>, AllocError>
         ensures { IfOk result (IsPreferred (sdp_fingerprints self.now)) }
     {
-        match preferred(self.session.attrs.as_slice()) {
+        match preferred_fingerprint(self.session.attrs.as_slice()) {
             Some(print) => copied_fingerprint(Some(print)),
-            None => copied_fingerprint(preferred_among(self.media_lines.as_slice())),
+            None => copied_fingerprint(sdp_preferred_among(self.media_lines.as_slice())),
         }
     }
 
@@ -83,12 +83,12 @@ impl Sdp {
     /// sort, whatever they are. `AllocError` where memory is refused.
     pub fn ice_candidates(&self) -> Result<DistinctCandidates<'_>, AllocError>
         ensures distinct { IfOk result (λ candidates. distinct_left candidates ≡ distinct same_candidate (all_candidates self.now)) }
-        ensures once { IfOk result (λ candidates. IsEachOnce (all_candidates self.now) (distinct_left candidates)) }
+        ensures once { IfOk result (λ candidates. IsEachCandidateOnce (all_candidates self.now) (distinct_left candidates)) }
     {
         let mut found = SeenCandidates::new(*self.media_lines.allocator());
-        add_all(&mut found, self.session.ice_candidates())?;
+        add_all_candidates(&mut found, self.session.ice_candidates())?;
         for line in self.media_lines.as_slice() {
-            add_all(&mut found, line.ice_candidates())?;
+            add_all_candidates(&mut found, line.ice_candidates())?;
         }
         Ok(DistinctCandidates {
             left: found.into_iter(),
@@ -100,20 +100,20 @@ impl Sdp {
     pub fn sctp_init(&self) -> Option<&str>
         ensures { option_copied result ≡ sdp_sctp_init self.now }
     {
-        match first_channel(self.media_lines.as_slice()) {
+        match sdp_first_channel(self.media_lines.as_slice()) {
             Some(line) => line.sctp_init(),
             None => None,
         }
     }
 }
 
-fn setup_among(lines: &[MediaLine]) -> Option<Setup>
+fn sdp_setup_among(lines: &[MediaLine]) -> Option<Setup>
     ensures { result ≡ first (filter_map (λ (m : MediaLine). first (filter_map media_setup m.attrs)) lines.now) }
 {
     lines.iter().find_map(|line| line.setup())
 }
 
-fn creds_among(lines: &[MediaLine]) -> Option<(&Text, &Text)>
+fn sdp_creds_among(lines: &[MediaLine]) -> Option<(&Text, &Text)>
     ensures { option_map lent_creds result ≡ first (filter_map (λ (m : MediaLine). media_creds m.attrs) lines.now) }
 {
     lines
@@ -121,15 +121,15 @@ fn creds_among(lines: &[MediaLine]) -> Option<(&Text, &Text)>
         .find_map(|line| first_creds(line.attrs.as_slice()))
 }
 
-fn preferred_among(lines: &[MediaLine]) -> Option<&Fingerprint>
-    ensures { option_copied result ≡ first (filter_map (λ m. preferred (media_fingerprints m)) lines.now) }
+fn sdp_preferred_among(lines: &[MediaLine]) -> Option<&Fingerprint>
+    ensures { option_copied result ≡ first (filter_map (λ m. preferred_fingerprint (media_fingerprints m)) lines.now) }
 {
     lines
         .iter()
-        .find_map(|line| preferred(line.attrs.as_slice()))
+        .find_map(|line| preferred_fingerprint(line.attrs.as_slice()))
 }
 
-fn first_channel(lines: &[MediaLine]) -> Option<&MediaLine>
+fn sdp_first_channel(lines: &[MediaLine]) -> Option<&MediaLine>
     ensures { option_copied result ≡ find (λ (m : MediaLine). is_channel m.typ) lines.now }
 {
     lines.iter().find(|line| line.typ.is_channel())

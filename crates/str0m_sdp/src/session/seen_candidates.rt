@@ -2,7 +2,7 @@
 ghost use Rattle.indexmap.specs.IndexSet.{insert_key};
 ghost use Rattle.std.specs.Prelude.{◌≡◌, [], OnOk};
 ghost use Rattle.str0m_sdp.specs.session.Candidates.{same_candidate};
-ghost use Rattle.str0m_sdp.specs.session.SeenCandidates.{AreByKey, seen};
+ghost use Rattle.str0m_sdp.specs.session.SeenCandidates.{AreCandidatesByKey, candidates_seen};
 
 use crate::session::candidate_key::{CandidateKey, key_of};
 use std::alloc::{AllocError, Global};
@@ -23,8 +23,8 @@ impl<'a> SeenCandidates<'a> {
 
     /// None was seen. Takes no memory.
     pub(crate) fn new(alloc: Global) -> SeenCandidates<'a>
-        ensures none { seen result ≡ [] }
-        ensures by_key { AreByKey result }
+        ensures none { candidates_seen result ≡ [] }
+        ensures by_key { AreCandidatesByKey result }
     {
         SeenCandidates {
             keys: BTreeSet::new(alloc),
@@ -34,9 +34,9 @@ impl<'a> SeenCandidates<'a> {
 
     /// One more, which joins the others where it isn't among them.
     pub(crate) fn add(&mut self, candidate: &'a Candidate) -> Result<(), AllocError>
-        requires { AreByKey self.old }
-        ensures seen { OnOk result (seen self.new ≡ insert_key same_candidate (seen self.old) candidate.now) }
-        ensures by_key { OnOk result (AreByKey self.new) }
+        requires { AreCandidatesByKey self.old }
+        ensures seen { OnOk result (candidates_seen self.new ≡ insert_key same_candidate (candidates_seen self.old) candidate.now) }
+        ensures by_key { OnOk result (AreCandidatesByKey self.new) }
     {
         if self.keys.insert(key_of(candidate))? {
             self.once.push(candidate)?;
@@ -46,7 +46,7 @@ impl<'a> SeenCandidates<'a> {
 
     /// Those that were seen.
     pub(crate) fn into_iter(self) -> IntoIter<&'a Candidate>
-        ensures { map (λ c. c.now) (into_iter_items result) ≡ seen self.entry }
+        ensures { map (λ c. c.now) (into_iter_items result) ≡ candidates_seen self.entry }
     {
         self.once.into_iter()
     }

@@ -10,7 +10,7 @@ use crate::attribute::SessionAttribute;
 use crate::attribute::setup::Setup;
 use crate::session::Session;
 use crate::session::candidates::Candidates;
-use crate::session::preferred_fingerprint::{copied_fingerprint, preferred};
+use crate::session::preferred_fingerprint::{copied_fingerprint, preferred_fingerprint};
 use crate::session::transport::{copied_creds, ends, first_creds, first_setup};
 use std::alloc::AllocError;
 use str0m_values::{Fingerprint, IceCreds};
@@ -37,7 +37,7 @@ impl Session {
     pub fn fingerprint(&self) -> Result<Option<Fingerprint>, AllocError>
         ensures { IfOk result (IsPreferred (filter_map session_fingerprint self.now.attrs)) }
     {
-        copied_fingerprint(preferred(self.attrs.as_slice()))
+        copied_fingerprint(preferred_fingerprint(self.attrs.as_slice()))
     }
 
     /// The candidates that the session lists itself, in attribute order (RFC 8839, section 5.1).

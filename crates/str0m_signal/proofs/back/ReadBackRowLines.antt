@@ -9,9 +9,10 @@ use Rattle.str0m_signal.proofs.Common.{◌≡◌, ◌≢◌, ◌<◌, ◌≤◌,
 use Rattle.str0m_signal.proofs.Common.{subst, arith, lit<, AllByRecursion, flat_map, IsRest, param_text, narrowed_telephone_max, Codec}
 use Rattle.str0m_signal.proofs.Common.{FormatParam}
 use Rattle.str0m_signal.proofs.Common.{TelephoneEvents, BareRange, BarePtList, Red, PayloadParams, IsSolidPair, shown_joined_pair}
-use Rattle.str0m_signal.proofs.Common.{media_attribute_text, row_attrs, MediaAttribute, Fmtp, reads, feedback_line, feedback_attrs}
-use Rattle.str0m_signal.proofs.Common.{fmtp_line, format_values, format_attrs, rtx_lines, rtx_attrs, red_lines, red_attrs, map_of_spec}
-use Rattle.str0m_signal.proofs.Common.{pairs_line_read, fmtp_lines, red_reads, RtpMap, line_linked_texts, TRANSPORT_CC, REMB, FIR, NACK}
+use Rattle.str0m_signal.proofs.Common.{media_attribute_text, row_attrs, MediaAttribute, Fmtp, reads, row_feedback_line, feedback_attrs}
+use Rattle.str0m_signal.proofs.Common.{row_fmtp_line, row_format_values, format_attrs, rtx_lines, rtx_attrs, red_lines, red_attrs}
+use Rattle.str0m_signal.proofs.Common.{map_of_spec}
+use Rattle.str0m_signal.proofs.Common.{pairs_line_read, row_fmtp_lines, red_reads, RtpMap, line_linked_texts, TRANSPORT_CC, REMB, FIR, NACK}
 use Rattle.str0m_signal.proofs.Common.{PLI}
 use Rattle.str0m_signal.proofs.form.FmtpPrinted.{AreShown, apt_printed, list_printed, range_printed, pairs_printed}
 use Rattle.str0m_signal.proofs.form.RtpMapPrinted.{KeepsToMapping, mapping_printed, feedback_printed}
@@ -59,7 +60,7 @@ module _ (row : PayloadParams) (keeps : KeepsToRow row) where
   small : row.pt ≤ 127
   small = keeps.pt
 
-  feedback : (w : List ℕ) (b : Bool) → IsRest w → HoldsNoEnd w → ReadAs (feedback_line row.pt w b) (feedback_line row.pt w b)
+  feedback : (w : List ℕ) (b : Bool) → IsRest w → HoldsNoEnd w → ReadAs (row_feedback_line row.pt w b) (row_feedback_line row.pt w b)
   feedback w b filled quiet = grind (arith, feedback_printed, small)
 
   pub feedback_read : ReadAs (feedback_attrs row) (feedback_attrs row)
@@ -86,14 +87,14 @@ module _ (row : PayloadParams) (keeps : KeepsToRow row) where
       (one twice list (list_printed n row.pt (Red row.pt) refl h (omega (arith, small))))
 
   -- the lines of a row, where its format's lines read as these values
-  pub row_read : (values : List (List FormatParam)) → ReadAs (format_attrs row) (fmtp_lines row.pt values)
+  pub row_read : (values : List (List FormatParam)) → ReadAs (format_attrs row) (row_fmtp_lines row.pt values)
       → ReadAs (row_attrs row) (reads row values)
   row_read values format =
       joins (RtpMap row.pt (map_of_spec row.spec) ∷ []) _ (RtpMap row.pt (map_of_spec row.spec) ∷ []) _
       (one (RtpMap row.pt (map_of_spec row.spec)) (RtpMap row.pt (map_of_spec row.spec))
       (named_printed row.pt (map_of_spec row.spec) small (record { clock = row_rate; channels = keeps.channels }) keeps.named))
       (joins (feedback_attrs row) _ (feedback_attrs row) _ feedback_read
-      (joins (format_attrs row) _ (fmtp_lines row.pt values) _ format
+      (joins (format_attrs row) _ (row_fmtp_lines row.pt values) _ format
       (joins (rtx_attrs row) (red_attrs row) (rtx_lines row row.resend) (red_reads row row.red) (rtx row.resend keeps.resend)
       (red row.red keeps.red))))
 
@@ -102,7 +103,7 @@ module _ (row : PayloadParams) (keeps : KeepsToRow row) where
 pub params_printed : (pt : ℕ) (params : List FormatParam) (pairs : List (List ℕ × List ℕ)) → pt ≤ 127 → AreShown params
     → AllByRecursion IsSolidPair pairs → line_linked_texts (map param_text params) ≡ line_linked_texts (map shown_joined_pair pairs)
     → (params ≢ [] → pairs ≢ []) → (params ≡ [] → pairs ≡ [])
-    → ReadAs (fmtp_line pt params) (fmtp_lines pt (pairs_line_read pairs))
+    → ReadAs (row_fmtp_line pt params) (row_fmtp_lines pt (pairs_line_read pairs))
 params_printed pt params pairs small shown plain e some none = grind (arith, pairs_printed)
 
 -- ---- rows of each codec
@@ -114,13 +115,13 @@ events_read row keeps tele fits =
     let values = (BareRange (narrowed_telephone_max row.spec.format) ∷ []) ∷ [] in
     let range = TelephoneEvents (narrowed_telephone_max row.spec.format) ∷ [] in
     row_read row keeps values
-    (subst (λ (params : List FormatParam). ReadAs (fmtp_line row.pt params) (fmtp_lines row.pt values))
-    (sym (ap (λ (c : Codec). format_values c row.spec.format) tele))
+    (subst (λ (params : List FormatParam). ReadAs (row_fmtp_line row.pt params) (row_fmtp_lines row.pt values))
+    (sym (ap (λ (c : Codec). row_format_values c row.spec.format) tele))
     (one (Fmtp row.pt range) (Fmtp row.pt (BareRange (narrowed_telephone_max row.spec.format) ∷ []))
     (range_printed row.pt (narrowed_telephone_max row.spec.format) (TelephoneEvents (narrowed_telephone_max row.spec.format)) refl keeps.pt
     fits)))
 
-format_of : (c : Codec) (p : FormatParams) → c ≢ codec.Tele → format_values c p ≡ params_of p
+format_of : (c : Codec) (p : FormatParams) → c ≢ codec.Tele → row_format_values c p ≡ params_of p
 format_of c p other = grind arith
 
 -- any other codec, whose format prints as solid pairs: what these read as together
@@ -130,7 +131,7 @@ pub pairs_row_read : (row : PayloadParams) → KeepsToRow row → row.spec.codec
 pairs_row_read row keeps other pairs line =
     let values = pairs_line_read pairs in
     row_read row keeps values
-    (subst (λ (params : List FormatParam). ReadAs (fmtp_line row.pt params) (fmtp_lines row.pt values))
+    (subst (λ (params : List FormatParam). ReadAs (row_fmtp_line row.pt params) (row_fmtp_lines row.pt values))
     (sym (format_of row.spec.codec row.spec.format other))
     (params_printed row.pt (params_of row.spec.format) pairs keeps.pt (line_params_print row.spec.format) line.plain line.text line.some
     line.none))

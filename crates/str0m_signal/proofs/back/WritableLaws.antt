@@ -1,6 +1,6 @@
 -- When a session is writable, by what its parts come back as.
 use Rattle.std.proofs.lemmas.List.Folds.{list_any_at, list_any_none}
-use Rattle.str0m_sdp.proofs.{frame_agrees}
+use Rattle.str0m_sdp.proofs.{made_section_frame_agrees}
 use Rattle.str0m_signal.proofs.Common.{◌≡◌, ◌≢◌, ◌<◌, ◌≤◌, ◌+◌, ℕ, Bool, true, false, not, List, [], length, get_or, Option, Some, None}
 use Rattle.str0m_signal.proofs.Common.{IfSome, refl, sym, ap, ◌∙◌, true≢false, ◌↔◌, IsTrue, list_any, slice_get, cases_Bool, cases_lt}
 use Rattle.str0m_signal.proofs.Common.{none-some, same_Some, slice_get_read, IsTheOnly, session_attribute_text, bandwidth_text, Consistent}
@@ -84,7 +84,7 @@ none_of : (attrs : List MediaAttribute) → list_any is_of_type attrs ≡ false 
 none_of attrs none = grind (arith, cases_Bool, list_any_at)
 
 pub frame_alone : (m : MediaLine) {T : Type 0} → list_any is_of_type m.attrs ≡ false → T ↔ Consistent (disabled_copy m) → T ↔ IsFrame m
-frame_alone m none is = grind (arith, none_of, frame_agrees)
+frame_alone m none is = grind (arith, none_of, made_section_frame_agrees)
 
 pub no_frame : (m : MediaLine) → list_any is_of_type m.attrs ≡ true → IsTrue false ↔ IsFrame m
 no_frame m some = grind (arith, list_any_none)

@@ -8,7 +8,8 @@ use Rattle.str0m_signal.proofs.Common.{◌≡◌, ◌≤◌, ℕ, List, [], ◌�
 use Rattle.str0m_signal.proofs.Common.{arith, lit<, lit≤, inl, inr, codes, AllByRecursion, join_with_byte, join_by, decimal, IsNumeral}
 use Rattle.str0m_signal.proofs.Common.{digits_value, lt-ltb, decimal_is_IsNumeral, decimal_nonempty, append_assoc, append-nil, FirstFit}
 use Rattle.str0m_signal.proofs.Common.{Lacks, IsRest, IsNum, param_text, FormatParam, BareRange, BarePtList, Apt, pairs_read_is}
-use Rattle.str0m_signal.proofs.Common.{IsSolidPair, shown_joined_pair, media_attribute_text, is_shown, shown_line, attribute_line, Fmtp}
+use Rattle.str0m_signal.proofs.Common.{IsSolidPair, shown_joined_pair, media_attribute_text, is_fmtp_shown, shown_fmtp_line, attribute_line}
+use Rattle.str0m_signal.proofs.Common.{Fmtp}
 use Rattle.str0m_signal.proofs.Common.{address_lacks_both, shown_decimal_solid, printed_param_parsed}
 use Rattle.str0m_signal.proofs.form.FmtpLaws.{key_starts}
 use Rattle.str0m_signal.proofs.session.AttributesPrinted.{HoldsNoEnd, no_ends, no_end, num_is, decimal_lacks, decimal_no_end}
@@ -160,7 +161,7 @@ apt_value_is n small = grind (arith, apt_read n small, pairs_are (apt_pair n) []
 abbrev pub AreShown : List FormatParam → Type 0
 AreShown values = AllByRecursion (λ v. IsRest (param_text v)) values
 
-pub all_shown : (values : List FormatParam) → AreShown values → filter is_shown values ≡ values
+pub all_shown : (values : List FormatParam) → AreShown values → filter is_fmtp_shown values ≡ values
 all_shown [] h = refl
 all_shown (v ∷ vs) h = rw (lt-ltb 0 (length (param_text v)) h.0) (ap (λ (ws : List FormatParam). v ∷ ws) (all_shown vs h.1))
 
@@ -175,7 +176,7 @@ pub line_values_printed : (pt : ℕ) (v : FormatParam) (vs : List FormatParam) (
     → join_with_byte 59 (map param_text (v ∷ vs)) ≡ body → HoldsNoEnd body → FmtpValues (codes " " ++ body) read
     → IsPrintedAs IsMediaLine (media_attribute_text (Fmtp pt (v ∷ vs))) (Fmtp pt read)
 line_values_printed pt v vs body read small shown e quiet are =
-    grind (arith, shown_line pt, all_shown (v ∷ vs) shown, join_same (v ∷ vs), fmtp_line_printed pt body read small quiet are)
+    grind (arith, shown_fmtp_line pt, all_shown (v ∷ vs) shown, join_same (v ∷ vs), fmtp_line_printed pt body read small quiet are)
 
 pub apt_printed : (pt n : ℕ) → pt ≤ 127 → n ≤ 255
     → IsPrintedAs IsMediaLine (media_attribute_text (Fmtp pt (Apt n ∷ []))) (Fmtp pt (Apt n ∷ []))

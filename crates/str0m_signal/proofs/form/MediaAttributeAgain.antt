@@ -6,12 +6,13 @@ use Rattle.str0m_sdp.specs.declared.attribute.simulcast.Simulcast.{Simulcast as 
 use Rattle.str0m_sdp.specs.declared.label.TheConstants as label
 use Rattle.str0m_signal.proofs.Common.{arith, ◌≡◌, ◌⊎◌, ◌≤◌, ℕ, Bool, true, false, false≢true, List, [], ◌∷◌, ◌++◌, Option, Some, IfSome}
 use Rattle.str0m_signal.proofs.Common.{refl, ap, ◌∙◌, subst, sym, lit<, lit≤, inl, inr, codes, codec_printed_and_read, Codec}
-use Rattle.str0m_signal.proofs.Common.{media_attribute_text, is_shown, attribute_line, KeepsToLine, setup_text, MediaAttribute, Fmtp}
+use Rattle.str0m_signal.proofs.Common.{media_attribute_text, is_fmtp_shown, attribute_line, KeepsToLine, setup_text, MediaAttribute, Fmtp}
 use Rattle.str0m_signal.proofs.Common.{RestrictionId, SimulcastLayer, candidate_text, candidate_both, IsCandidateText, Parted}
 use Rattle.str0m_signal.proofs.Common.{IsLongestBeginning, decimal, join_by, length, ltb-true, Lacks, IsNum, is_rest, beginning_of}
 use Rattle.str0m_signal.proofs.Common.{beginning_is, beginning_only, lacks_from, num_rest_true, num_when_some, num_when_true, IsReadAsCodec}
 use Rattle.str0m_signal.proofs.Common.{RtpMap}
-use Rattle.str0m_signal.proofs.Common.{Simulcast, filter, sides_text, unless_munged, Fingerprint, Setup, Mid, Candidate, SsrcGroup, Unused}
+use Rattle.str0m_signal.proofs.Common.{Simulcast, filter, simulcast_sides_text, unless_munged, Fingerprint, Setup, Mid, Candidate}
+use Rattle.str0m_signal.proofs.Common.{SsrcGroup, Unused}
 use Rattle.str0m_signal.proofs.Common.{fingerprint_text, media_words, ActPass, SETUPS, reads_words}
 use Rattle.str0m_signal.proofs.form.CandidateLineAgain.{candidate_again}
 use Rattle.str0m_signal.proofs.form.CandidateLineLaws.{candidate_begins}
@@ -95,7 +96,7 @@ printed_fingerprint text hash quiet starts fits (p, h, e) =
 
 -- as it is read again: an fmtp line has the values that print something
 abbrev pub shown_only : MediaAttribute → MediaAttribute
-shown_only (Fmtp pt values) = Fmtp pt (filter is_shown values)
+shown_only (Fmtp pt values) = Fmtp pt (filter is_fmtp_shown values)
 shown_only attr = attr
 
 -- neither a mapping nor a format
@@ -171,7 +172,7 @@ simulcast_comes_back = made_again (led_by label.SIMULCAST.now (record { Is = IsS
         )
 
     sides_are : (body : List ℕ) (send recv : List SimulcastLayer) → AreSides body send recv
-        → sides_text send recv ≡ attribute_line (label.SIMULCAST.now ++ sides_words send recv)
+        → simulcast_sides_text send recv ≡ attribute_line (label.SIMULCAST.now ++ sides_words send recv)
     sides_are body [] [] h = absurd h
     sides_are body (s ∷ send) [] h = refl
     sides_are body [] (r ∷ recv) h = refl
@@ -180,7 +181,7 @@ simulcast_comes_back = made_again (led_by label.SIMULCAST.now (record { Is = IsS
     shows : (s : TheSimulcast) → Behind label.SIMULCAST.now IsSimulcast (simulcast_line s) s
         → media_attribute_text (Simulcast s) ≡ attribute_line (simulcast_line s)
     shows s (body, e, (sides, whole)) =
-        ap (λ (b : Bool). unless_munged b (sides_text s.send.0 s.recv.0)) whole ∙ sides_are body s.send.0 s.recv.0 sides
+        ap (λ (b : Bool). unless_munged b (simulcast_sides_text s.send.0 s.recv.0)) whole ∙ sides_are body s.send.0 s.recv.0 sides
 
 untyped_rid : (text : List ℕ) (id : RestrictionId) (fields : List ℕ × (List ℕ × List (List ℕ × List ℕ)))
     → Behind label.RID.now IsRid text (id, fields)
@@ -259,7 +260,7 @@ mapping_again text pt value h =
 
 -- an fmtp line none of whose values prints anything
 abbrev pub IsHidden : MediaAttribute → Type 0
-IsHidden (Fmtp pt values) = filter is_shown values ≡ []
+IsHidden (Fmtp pt values) = filter is_fmtp_shown values ≡ []
 IsHidden _ = ⊥
 
 abbrev pub ComesBack : MediaAttribute → Type 0

@@ -1,8 +1,9 @@
 -- Rid and simulcast lines are printed as they were read.
-use Rattle.str0m_sdp.specs.attribute.Rid.{restriction_text, pts_part, restrictions_part}
+use Rattle.str0m_sdp.specs.attribute.Rid.{restriction_text, rid_pts_part, rid_restrictions_part}
 use Rattle.str0m_signal.proofs.Common.{rules, ◌≡◌, ◌≢◌, ◌≤◌, ℕ, List, [], ◌∷◌, ◌++◌, refl, sym, subst, ap, ◌∙◌, arith, lit<, lit≤, inl, inr}
 use Rattle.str0m_signal.proofs.Common.{codes, digit_value, decimal, join_by, append_assoc, append-nil, RestrictionId, SimulcastLayer}
-use Rattle.str0m_signal.proofs.Common.{Parted, Lacks, IsRest, IsPt, Lacks-append, address_lacks_both, id_text, layer_text, layers_text}
+use Rattle.str0m_signal.proofs.Common.{Parted, Lacks, IsRest, IsPt, Lacks-append, address_lacks_both, restriction_id_text, layer_text}
+use Rattle.str0m_signal.proofs.Common.{layers_text}
 use Rattle.str0m_signal.proofs.form.FmtpPrinted.{behind_lacks}
 use Rattle.str0m_signal.proofs.form.FormPiecesAgain.{Again, num_again, two_again, behind_again, parted_again}
 use Rattle.str0m_signal.proofs.line.PartLaws.{cons_parts}
@@ -72,11 +73,11 @@ pts_again : Again (Parted 44 IsPt) (join_by decimal (codes ","))
 pts_again = parted_again (num_again 127 (lit< tt)) 44
 
 abbrev pub more_text : List ℕ × List (List ℕ × List ℕ) → List ℕ
-more_text lists = pts_part lists.0 ++ restrictions_part lists.0 lists.1
+more_text lists = rid_pts_part lists.0 ++ rid_restrictions_part lists.0 lists.1
 
 -- types, and restrictions after them
 typed_form : (text : List ℕ) (n : ℕ) (ns : List ℕ) (pairs : List (List ℕ × List ℕ)) → AreTyped text (n ∷ ns, pairs)
-    → AreTyped (join_by decimal (codes ",") (n ∷ ns) ++ restrictions_part (n ∷ ns) pairs) (n ∷ ns, pairs)
+    → AreTyped (join_by decimal (codes ",") (n ∷ ns) ++ rid_restrictions_part (n ∷ ns) pairs) (n ∷ ns, pairs)
 typed_form text n ns [] (inl h) =
     inl (subst (λ (t : List ℕ). Parted 44 IsPt t (n ∷ ns)) (sym (append-nil _)) (pts_again.form text (n ∷ ns) h.0), refl)
 typed_form text n ns [] (inr h) =
@@ -94,7 +95,7 @@ typed_form text n ns (pair ∷ pairs) (inr h) =
 
 typed_lacks : (c : ℕ) → 16 ≤ digit_value c → (text : List ℕ) (n : ℕ) (ns : List ℕ) (pairs : List (List ℕ × List ℕ))
     → AreTyped text (n ∷ ns, pairs)
-    → Lacks c text → Lacks c (join_by decimal (codes ",") (n ∷ ns) ++ restrictions_part (n ∷ ns) pairs)
+    → Lacks c text → Lacks c (join_by decimal (codes ",") (n ∷ ns) ++ rid_restrictions_part (n ∷ ns) pairs)
 typed_lacks c far text n ns [] (inl h) lacks =
     subst (Lacks c) (sym (append-nil _)) (pts_again.lacks c far text (n ∷ ns) h.0 lacks)
 typed_lacks c far text n ns [] (inr h) lacks =
@@ -177,7 +178,7 @@ both_again first second = behind_again (two_again 32 (lit≤ tt) side_again (beh
 
 -- no name of a layer holds a space
 name_lacks : (text : List ℕ) (id : RestrictionId) (others : List RestrictionId) → Parted 44 IsAlternative text (id ∷ others)
-    → Lacks 32 (id_text id)
+    → Lacks 32 (restriction_id_text id)
 name_lacks text id others h = grind arith
 
 side_lacks : (text : List ℕ) (layers : List SimulcastLayer) → IsSide text layers → Lacks 32 (layers_text layers)

@@ -2,7 +2,7 @@
 use Rattle.str0m_sdp.specs.declared.attribute.simulcast.Simulcast.{Simulcast}
 use Rattle.str0m_signal.proofs.Common.{rules, ◌≡◌, ◌≢◌, ℕ, Bool, true, List, [], ◌∷◌, ◌++◌, Option, Some, None, refl, sym, ap, subst, ◌∙◌}
 use Rattle.str0m_signal.proofs.Common.{arith, inl, inr, codes, is_some, ltb-true, and_parts, and_from, RestrictionId, SimulcastLayer}
-use Rattle.str0m_signal.proofs.Common.{name_text, ◌>>=◌, cut, strip, when, lacks, Parted, Lacks, IsRest, Sound, bind_some, some_is}
+use Rattle.str0m_signal.proofs.Common.{layer_name_text, ◌>>=◌, cut, strip, when, lacks, Parted, Lacks, IsRest, Sound, bind_some, some_is}
 use Rattle.str0m_signal.proofs.Common.{sound_or, cut_none, cut_at, cut_found, strip_found, lacks_true, lacks_from, num_when_some}
 use Rattle.str0m_signal.proofs.Common.{num_when_true}
 use Rattle.str0m_signal.proofs.Common.{num_rest_true, Reads, chars}
@@ -37,7 +37,7 @@ alternative_found text id (Some name) is e = grind (arith, num_when_some, strip_
 no_tilde : (text : List ℕ) → IsRest text → Lacks 126 text → strip (codes "~") text ≡ None
 no_tilde text filled h = grind arith
 
-alternative_given : (text name : List ℕ) (active : Bool) → text ≡ name_text name active → IsStreamName name
+alternative_given : (text name : List ℕ) (active : Bool) → text ≡ layer_name_text name active → IsStreamName name
     → alternative_read text ≡ Some (record { 0 = name; 1 = active })
 alternative_given text name active is h = grind (arith, no_tilde, name_true)
 
@@ -48,7 +48,7 @@ alternative_both = record {
 }
 
 alternative_lacks : (c : ℕ) → 126 ≢ c → ((name : List ℕ) → IsStreamName name → Lacks c name) → (text name : List ℕ) (active : Bool)
-    → text ≡ name_text name active → IsStreamName name → Lacks c text
+    → text ≡ layer_name_text name active → IsStreamName name → Lacks c text
 alternative_lacks c other lacks text name o is h = grind arith
 
 alternative_comma : (text : List ℕ) (id : RestrictionId) → IsAlternative text id → Lacks 44 text

@@ -1,5 +1,5 @@
 -- Rounds of sections, one after another.
-use Rattle.str0m_sdp.proofs.{all_mapped, map_more}
+use Rattle.str0m_sdp.proofs.{filter_map_all, filter_map_next}
 use Rattle.str0m_sdp.specs.section.SectionDirection.{section_direction}
 use Rattle.str0m_sdp.specs.section.SectionRows.{rows}
 use Rattle.str0m_signal.proofs.Common.{arith, ◌≡◌, ◌<◌, ◌+◌, ◌++◌, ℕ, Bool, cond, List, [], ◌∷◌, Option, Some, None, Result, All, IfOk}
@@ -16,7 +16,7 @@ map_found g found = grind arith
 pub one_more : {X Y Z : Type 0} (f : X → Option Z) (g : Y → Z) (xs : List X) (i : ℕ) (x : X) (ys more : List Y) (found : Option Y)
     → i < length xs → x ≡ get_or xs i x → option_map g found ≡ f x → more ≡ ys ++ option_to_list found
     → map g ys ≡ filter_map f (take i xs) → map g more ≡ filter_map f (take (i + 1) xs)
-one_more {X} {Y} {Z} f g xs i x ys more found lt is reads appended before = grind (arith, map-append, map_found, map_more)
+one_more {X} {Y} {Z} f g xs i x ys more found lt is reads appended before = grind (arith, map-append, map_found, filter_map_next)
 
 -- what a call keeps where it succeeds stands where it fails and changes nothing
 pub kept_or_same : {A E S : Type 0} (P : S → Type 0) (Q : A → Type 0) (result : Result A E) (old new : S)
@@ -44,4 +44,4 @@ pub rounds_bounded : (sections : List MediaLine) (rounds : List Round) → AreRo
 rounds_bounded sections rounds are bounded =
     of_images BringsBounded brought rounds
     (subst (All BringsBounded) (sym are)
-    (all_mapped HasBoundedRows BringsBounded brought_by (λ m. when_media (is_media m.typ) m) sections bounded))
+    (filter_map_all HasBoundedRows BringsBounded brought_by (λ m. when_media (is_media m.typ) m) sections bounded))

@@ -4,8 +4,9 @@ use Rattle.str0m_sdp.specs.section.Alike.{Alike}
 use Rattle.str0m_signal.proofs.Common.{◌≡◌, ◌⊎◌, ◌+◌, ℕ, Bool, true, false, not, cond, List, [], ◌∷◌, filter, zero-add, Option, Some, None}
 use Rattle.str0m_signal.proofs.Common.{IfSome, All, refl, sym, subst, ap, ◌∙◌, arith, inl, inr, AllByRecursion, cases_Bool, All-nil}
 use Rattle.str0m_signal.proofs.Common.{All-cons, All-head, All-tail, All-weaker, ◌<|>◌, FormatParam, media_attribute_text, Consistent}
-use Rattle.str0m_signal.proofs.Common.{AgreesOnApt, is_shown, is_of_type, MediaAttribute, Fmtp, RtcpFb, MediaLine, Srtp, Sctp, count_by}
-use Rattle.str0m_signal.proofs.Common.{All-filter, filter_passes, IsMapped, NamesNoOther, apt_of, apt_among, apt_in, first_apt, maps}
+use Rattle.str0m_signal.proofs.Common.{AgreesOnApt, is_fmtp_shown, is_of_type, MediaAttribute, Fmtp, RtcpFb, MediaLine, Srtp, Sctp}
+use Rattle.str0m_signal.proofs.Common.{count_by}
+use Rattle.str0m_signal.proofs.Common.{All-filter, filter_passes, IsMapped, NamesNoOther, apt_of, apt_among, apt_in, first_apt, maps_type}
 use Rattle.str0m_signal.proofs.Common.{is_mid, is_setup, is_direction, RtpMap, sum_by-cons}
 use Rattle.str0m_signal.proofs.form.MediaAttributeAgain.{ComesBack, IsHidden, shown_only}
 use Rattle.str0m_signal.specs.back.Writable.{MediaAreReadAs, IsFrame, frame_of}
@@ -18,7 +19,7 @@ AreShownAs [] reads = reads ≡ []
 AreShownAs (x ∷ xs) reads =
     (IsHidden x × AreShownAs xs reads) ⊎ ((more : List MediaAttribute) × (reads ≡ shown_only x ∷ more) × AreShownAs xs more)
 
-shown_twice : (values : List FormatParam) → filter is_shown (filter is_shown values) ≡ filter is_shown values
+shown_twice : (values : List FormatParam) → filter is_fmtp_shown (filter is_fmtp_shown values) ≡ filter is_fmtp_shown values
 shown_twice [] = refl
 shown_twice (v ∷ vs) = grind (arith, cases_Bool, shown_twice vs)
 
@@ -71,10 +72,10 @@ module _ (p : MediaAttribute → Bool) (no_fmtp : (pt : ℕ) (values : List Form
 
 -- ---- the types that fmtp lines name
 
-hidden_names_none : (v : FormatParam) → is_shown v ≡ false → apt_of v ≡ None
+hidden_names_none : (v : FormatParam) → is_fmtp_shown v ≡ false → apt_of v ≡ None
 hidden_names_none v hidden = grind arith
 
-shown_apt : (values : List FormatParam) → apt_among (filter is_shown values) ≡ apt_among values
+shown_apt : (values : List FormatParam) → apt_among (filter is_fmtp_shown values) ≡ apt_among values
 shown_apt [] = refl
 shown_apt (v ∷ vs) = grind (arith, cases_Bool, shown_apt vs, hidden_names_none)
 
@@ -94,22 +95,23 @@ apt_stays n (x ∷ xs) reads (inr are) =
     ap (first_apt n) are.1 ∙ (λ i. apt_again n x i <|> apt_stays n xs are.0 are.2 i)
 
 fewer_values : (o : Option ℕ) (values : List FormatParam) → IfSome o (λ first. All (NamesNoOther first) values)
-    → IfSome o (λ first. All (NamesNoOther first) (filter is_shown values))
+    → IfSome o (λ first. All (NamesNoOther first) (filter is_fmtp_shown values))
 fewer_values None values h = tt
-fewer_values (Some first) values h = All-filter is_shown (NamesNoOther first) values h
+fewer_values (Some first) values h = All-filter is_fmtp_shown (NamesNoOther first) values h
 
 agrees_again : (attrs reads : List MediaAttribute) → AreShownAs attrs reads → (x : MediaAttribute) → AgreesOnApt attrs x
     → AgreesOnApt reads (shown_only x)
 agrees_again attrs reads are (Fmtp pt values) h =
-    subst (λ (o : Option ℕ). IfSome o (λ first. All (NamesNoOther first) (filter is_shown values))) (sym (apt_stays pt attrs reads are))
+    subst (λ (o : Option ℕ). IfSome o (λ first. All (NamesNoOther first) (filter is_fmtp_shown values)))
+    (sym (apt_stays pt attrs reads are))
     (fewer_values (first_apt pt attrs) values h)
 agrees_again attrs reads are x h = tt
 
 -- ---- consistency
 
 mapped_again : (attrs reads : List MediaAttribute) → AreShownAs attrs reads → (pt : ℕ) → IsMapped attrs pt → IsMapped reads pt
-mapped_again attrs reads are pt (inl one) = inl (count_again (maps pt) (λ n values. refl) attrs reads are ∙ one)
-mapped_again attrs reads are pt (inr none) = inr (count_again (maps pt) (λ n values. refl) attrs reads are ∙ none.0, none.1)
+mapped_again attrs reads are pt (inl one) = inl (count_again (maps_type pt) (λ n values. refl) attrs reads are ∙ one)
+mapped_again attrs reads are pt (inr none) = inr (count_again (maps_type pt) (λ n values. refl) attrs reads are ∙ none.0, none.1)
 
 -- the section with what its attributes show, and the same types, or none where it is on Sctp
 pub consistent_again : (m : MediaLine) (pts : List ℕ) (reads : List MediaAttribute) → AreShownAs m.attrs reads
@@ -142,7 +144,7 @@ count_frame p none (x ∷ xs) = grind (arith, cases_Bool, count_frame p none xs,
 not_of_type : (p : MediaAttribute → Bool) → ((pt : ℕ) → (value : Mapping) → p (RtpMap pt value) ≡ false)
     → ((pt : ℕ) (value : List ℕ) → p (RtcpFb pt value) ≡ false)
     → ((pt : ℕ) (values : List FormatParam) → p (Fmtp pt values) ≡ false) → (x : MediaAttribute) → is_of_type x ≡ true → p x ≡ false
-not_of_type p maps feedback fmtp x h = grind arith
+not_of_type p maps_type feedback fmtp x h = grind arith
 
 type_again : (x : MediaAttribute) → not (is_of_type x) ≡ true → is_of_type (shown_only x) ≡ false
 type_again x h = grind arith

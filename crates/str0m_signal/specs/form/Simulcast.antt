@@ -1,13 +1,13 @@
 -- The form of a simulcast line (RFC 8853, section 5.1).
 use Rattle.std.specs.Prelude.{◌≡◌, ◌⊎◌, false, ℕ, List, [], ◌∷◌, None, codes}
-use Rattle.str0m_sdp.specs.attribute.Simulcast.{id_text}
+use Rattle.str0m_sdp.specs.attribute.Simulcast.{restriction_id_text}
 use Rattle.str0m_signal.specs.Prelude.{Parted, RestrictionId, Simulcast, SimulcastLayer}
 use Rattle.str0m_signal.specs.form.Forms.{Behind, Two}
 use Rattle.str0m_signal.specs.form.RidStreamName.{IsStreamName}
 
 -- a name, after `~` where it isn't active
 abbrev pub IsAlternative : List ℕ → RestrictionId → Type 0
-IsAlternative text id = (text ≡ id_text id) × IsStreamName id.0
+IsAlternative text id = (text ≡ restriction_id_text id) × IsStreamName id.0
 
 -- alternatives with `,` between each two; the first is the layer
 abbrev pub IsLayer : List ℕ → SimulcastLayer → Type 0

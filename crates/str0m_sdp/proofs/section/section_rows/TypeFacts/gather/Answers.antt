@@ -25,10 +25,11 @@ loop-attr-preserved c =
       | goal.in-Fmtp+in_ok-push-in-Fmtp w ↦
           let variant = rw (← w.as_slice-values.ensures) at w.in-Fmtp.is in
           rw (w.self-is, w.lines-is, w.in_ok-push-in-Fmtp.ensures.items, w.value.ensures.value) (
-            fmtp_gathered types attrs words lines c.types_of-rtx_types.result c.types_of-red_types.result _ _ i w.in-Fmtp.pt
+            fmtp_gathered types attrs words lines c.types_of_codec-rtx_types.result c.types_of_codec-red_types.result _ _ i w.in-Fmtp.pt
                 w.as_slice-values.result attr
-                lt is variant w.value.ensures.range c.types_of-rtx_types.ensures.rows c.types_of-red_types.ensures.rows
-                w.note_line.ensures.whole w.note_line-in-Fmtp.ensures.whole w.note_line.ensures.rows w.note_line-in-Fmtp.ensures.rows
+                lt is variant w.value.ensures.range c.types_of_codec-rtx_types.ensures.rows c.types_of_codec-red_types.ensures.rows
+                w.note_companion_line.ensures.whole w.note_companion_line-in-Fmtp.ensures.whole w.note_companion_line.ensures.rows
+                w.note_companion_line-in-Fmtp.ensures.rows
                 so_far,
             c.loop-attr.invariant.1,
           )
