@@ -34,7 +34,7 @@ pub use Rattle.str0m_sdp.specs.session.SessionConsistency.{AreDistinct, is_liste
 pub use Rattle.str0m_sdp.specs.session.Transport.{creds, media_creds, media_fingerprint, media_pwd, media_setup, media_ufrag, session_fingerprint, session_pwd, session_setup, session_ufrag}
 pub use Rattle.str0m_signal.specs.form.CandidateLine.{IsCandidateLine}
 pub use Rattle.str0m_signal.specs.line.Lines.{FirstLine, Line, Lines}
-pub use Rattle.str0m_signal.specs.session.Locked.{is_carried}
+pub use Rattle.str0m_signal.specs.session.Locked.{is_row_of_kind}
 pub use Rattle.str0m_signal.specs.session.Negotiation.{Negotiated}
 pub use Rattle.str0m_signal.specs.session.Reader.{IsFromLine, IsReading, Reading}
 pub use Rattle.str0m_signal.specs.session.ReaderAnswers.{Answers, AtMostOne, IsRefusal, Refuses}

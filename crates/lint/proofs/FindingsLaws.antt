@@ -10,10 +10,10 @@ use Rattle.lint.specs.declared.notes.Notes.{Notes}
 use Rattle.std.proofs.lemmas.Bool.{false≢true}
 use Rattle.str0m_sdp.specs.declared.session.error.SdpError.{SdpError}
 use Rattle.str0m_sdp.specs.declared.session.error.SdpError.TheVariants.{ParseError, Inconsistent, Memory}
-use Rattle.str0m_signal.specs.line.LinesReading.{behind_first, is_crlf, lines_of, longer}
+use Rattle.str0m_signal.specs.line.LinesReading.{behind_first, is_crlf, lines_of, longer_line_first}
 use Rattle.str0m_signal.specs.session.ReaderAnswers.{Refuses}
 
-some_longer : (x : ℕ) (lines : List Line) → 1 ≤ length (longer x lines)
+some_longer : (x : ℕ) (lines : List Line) → 1 ≤ length (longer_line_first x lines)
 some_longer x [] = omega arith
 some_longer x (line ∷ lines) = omega arith
 
@@ -22,11 +22,12 @@ pub some_line : (c : ℕ) (rest : List ℕ) → 1 ≤ length (lines_of (c ∷ re
 unfolding lines_of
 some_line c rest = elim (eqb c 10) as
     (λ b. 1 ≤ length (cond b (record { content = []; ending = 10 ∷ [] } ∷ lines_of rest)
-    (cond (is_crlf c rest) (record { content = []; ending = 13 ∷ 10 ∷ [] } ∷ behind_first (lines_of rest)) (longer c (lines_of rest))))) [
+    (cond (is_crlf c rest) (record { content = []; ending = 13 ∷ 10 ∷ [] } ∷ behind_first (lines_of rest))
+    (longer_line_first c (lines_of rest))))) [
       | true ↦ omega arith
       | false ↦ elim (is_crlf c rest) as
           (λ b. 1 ≤ length (cond b (record { content = []; ending = 13 ∷ 10 ∷ [] } ∷ behind_first (lines_of rest))
-          (longer c (lines_of rest)))) [
+          (longer_line_first c (lines_of rest)))) [
             | true ↦ omega arith
             | false ↦ some_longer c (lines_of rest)
           ]

@@ -10,7 +10,7 @@ pub use Rattle.str0m_sdp.specs.declared.session.Sdp.{Sdp}
 pub use Rattle.str0m_sdp.specs.section.SectionDirection.{section_direction}
 pub use Rattle.str0m_sdp.specs.section.SectionRows.{rows}
 pub use Rattle.str0m_sdp.specs.session.Session.{sdp_text}
-pub use Rattle.str0m_signal.specs.line.Lines.{EndsIn, Line}
+pub use Rattle.str0m_signal.specs.line.Lines.{LineEndsIn, Line}
 pub use Rattle.str0m_signal.specs.line.LinesReading.{lines_of}
 pub use Rattle.str0m_signal.specs.session.Reader.{Reading}
 pub use Rattle.str0m_signal.specs.session.ReaderAnswers.{AtMostOne}

@@ -1,7 +1,7 @@
 -- What is read of a line that is to be one candidate's and nothing more.
 use Rattle.exchange.proofs.Common.{◌≡◌, ℕ, List, [], Result, Ok, Err, ap, subst, sym, SdpError, ParseError, Inconsistent, Memory}
 use Rattle.exchange.proofs.Common.{IsCandidateLine, FirstLine, Answers, AtMostOne, Refuses, Candidate}
-use Rattle.str0m_signal.proofs.{attribute_both, first_line_one}
+use Rattle.str0m_signal.proofs.{attribute_line_both, first_line_one}
 use Rattle.str0m_signal.proofs.Common.{candidate_both}
 
 -- a line has one reading: so there is another with nothing left where this is it
@@ -24,7 +24,8 @@ none_so P Memory refuses = tt
 -- a line is one candidate's
 pub one_candidate : (line : List ℕ) → AtMostOne (λ (candidate : Candidate). FirstLine IsCandidateLine line (candidate, []))
 one_candidate line read other there here =
-    ap (λ (found : Candidate × List ℕ). found.0) (first_line_one (attribute_both candidate_both) line (read, []) (other, []) there here)
+    ap (λ (found : Candidate × List ℕ). found.0)
+    (first_line_one (attribute_line_both candidate_both) line (read, []) (other, []) there here)
 
 -- of the line that a text makes
 pub made_along : (P : List ℕ → Candidate → Type 0) (line made : List ℕ) (r : Result Candidate SdpError) → line ≡ made

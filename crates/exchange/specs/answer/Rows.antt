@@ -1,5 +1,5 @@
 -- The rows that answer a section, and what it says of each.
-use Rattle.exchange.specs.Prelude.{HasPlainVideoFeedback, IsPlain, MediaAttribute, MediaLine, MediaType, PayloadParams, distinct, has, is_carried, rows, strip, ◌>>=◌}
+use Rattle.exchange.specs.Prelude.{HasPlainVideoFeedback, IsPlain, MediaAttribute, MediaLine, MediaType, PayloadParams, distinct, has, is_row_of_kind, rows, strip, ◌>>=◌}
 use Rattle.std.specs.List.{list_any}
 use Rattle.std.specs.Prelude.{◌≡◌, ◌≢◌, ◌==◌, ◌&&◌, ℕ, Bool, true, false, List, Option, Some, None, codes, bytes_eq, find, filter_map, map, option_map, is_some, if◌then◌else◌, Contains, IfSome}
 use Rattle.str0m_formats.specs.codec.Codec.{codec_content, video}
@@ -53,8 +53,8 @@ as_answered section theirs ours = record ours {
 
 -- whether sections of this type carry what the row is of
 abbrev pub is_carried_in : MediaType → PayloadParams → Bool
-is_carried_in Audio row = is_carried kind.Audio row
-is_carried_in Video row = is_carried kind.Video row
+is_carried_in Audio row = is_row_of_kind kind.Audio row
+is_carried_in Video row = is_row_of_kind kind.Video row
 is_carried_in _ row = false
 
 -- a row of this side answers an offered one: it is locked, under the same type, of what the section carries, and they match

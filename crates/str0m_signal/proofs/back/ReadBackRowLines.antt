@@ -16,7 +16,8 @@ use Rattle.str0m_signal.proofs.Common.{pairs_line_read, row_fmtp_lines, red_read
 use Rattle.str0m_signal.proofs.Common.{PLI}
 use Rattle.str0m_signal.proofs.form.FmtpPrinted.{AreShown, apt_printed, list_printed, range_printed, pairs_printed}
 use Rattle.str0m_signal.proofs.form.RtpMapPrinted.{KeepsToMapping, mapping_printed, feedback_printed}
-use Rattle.str0m_signal.proofs.session.AttributesPrinted.{LinesReadAs, one_read, both_read, HoldsNoEnd, no_end}
+use Rattle.str0m_signal.proofs.session.AttributesPrinted.{LinesReadAs, attribute_one_line_read_as, attribute_both_lines_read, HoldsNoEnd}
+use Rattle.str0m_signal.proofs.session.AttributesPrinted.{attribute_no_end}
 use Rattle.str0m_signal.specs.back.Writable.{IsPrintedAs}
 use Rattle.str0m_signal.specs.form.MediaAttribute.{IsMediaLine}
 
@@ -24,17 +25,17 @@ use Rattle.str0m_signal.specs.form.MediaAttribute.{IsMediaLine}
 abbrev pub ReadAs : List MediaAttribute → List MediaAttribute → Type 0
 ReadAs = LinesReadAs media_attribute_text IsMediaLine
 
-pub joins : (xs ys reads more : List MediaAttribute) → ReadAs xs reads → ReadAs ys more → ReadAs (xs ++ ys) (reads ++ more)
-joins = both_read media_attribute_text IsMediaLine
+pub read_as_joined : (xs ys reads more : List MediaAttribute) → ReadAs xs reads → ReadAs ys more → ReadAs (xs ++ ys) (reads ++ more)
+read_as_joined = attribute_both_lines_read media_attribute_text IsMediaLine
 
-pub one : (x a : MediaAttribute) → IsPrintedAs IsMediaLine (media_attribute_text x) a → ReadAs (x ∷ []) (a ∷ [])
-one x a h = one_read media_attribute_text IsMediaLine x a [] [] h refl
+pub read_as_one : (x a : MediaAttribute) → IsPrintedAs IsMediaLine (media_attribute_text x) a → ReadAs (x ∷ []) (a ∷ [])
+read_as_one x a h = attribute_one_line_read_as media_attribute_text IsMediaLine x a [] [] h refl
 
 -- ---- mappings of codecs that have a name
 
 pub named_printed : (pt : ℕ) (value : Mapping) → pt ≤ 127 → KeepsToMapping value → value.codec ≢ codec.Null
     → IsPrintedAs IsMediaLine (media_attribute_text (RtpMap pt value)) (RtpMap pt value)
-named_printed pt value small keeps other = grind (arith, mapping_printed pt value small keeps)
+named_printed pt value row_type_small keeps other = grind (arith, mapping_printed pt value row_type_small keeps)
 
 abbrev pub IsRateInRange : ℕ → Type 0
 IsRateInRange rate = (0 < rate) × (rate ≤ 4294967295)
@@ -57,46 +58,49 @@ module _ (row : PayloadParams) (keeps : KeepsToRow row) where
   row_rate : IsRateInRange (rtp_rate row.spec.codec row.spec.clock_rate)
   row_rate = rate_keeps row.spec.codec row.spec.clock_rate keeps.rate
 
-  small : row.pt ≤ 127
-  small = keeps.pt
+  row_type_small : row.pt ≤ 127
+  row_type_small = keeps.pt
 
-  feedback : (w : List ℕ) (b : Bool) → IsRest w → HoldsNoEnd w → ReadAs (row_feedback_line row.pt w b) (row_feedback_line row.pt w b)
-  feedback w b filled quiet = grind (arith, feedback_printed, small)
+  feedback_line_read : (w : List ℕ) (b : Bool) → IsRest w → HoldsNoEnd w
+      → ReadAs (row_feedback_line row.pt w b) (row_feedback_line row.pt w b)
+  feedback_line_read w b filled quiet = grind (arith, feedback_printed, row_type_small)
 
   pub feedback_read : ReadAs (feedback_attrs row) (feedback_attrs row)
   feedback_read =
-      joins _ _ _ _ (feedback TRANSPORT_CC.now row.fb_transport_cc (lit< tt) (no_end TRANSPORT_CC.now refl refl))
-      (joins _ _ _ _ (feedback REMB.now row.fb_remb (lit< tt) (no_end REMB.now refl refl))
-      (joins _ _ _ _ (feedback FIR.now row.fb_fir (lit< tt) (no_end FIR.now refl refl))
-      (joins _ _ _ _ (feedback NACK.now row.fb_nack (lit< tt) (no_end NACK.now refl refl))
-      (feedback PLI.now row.fb_pli (lit< tt) (no_end PLI.now refl refl)))))
+      read_as_joined _ _ _ _ (feedback_line_read TRANSPORT_CC.now row.fb_transport_cc (lit< tt)
+      (attribute_no_end TRANSPORT_CC.now refl refl))
+      (read_as_joined _ _ _ _ (feedback_line_read REMB.now row.fb_remb (lit< tt) (attribute_no_end REMB.now refl refl))
+      (read_as_joined _ _ _ _ (feedback_line_read FIR.now row.fb_fir (lit< tt) (attribute_no_end FIR.now refl refl))
+      (read_as_joined _ _ _ _ (feedback_line_read NACK.now row.fb_nack (lit< tt) (attribute_no_end NACK.now refl refl))
+      (feedback_line_read PLI.now row.fb_pli (lit< tt) (attribute_no_end PLI.now refl refl)))))
 
-  rtx : (o : Option ℕ) → IfSome o (λ n. n ≤ 127) → ReadAs (rtx_lines row o) (rtx_lines row o)
-  rtx None h = refl
-  rtx (Some n) h = grind (arith, joins, named_printed n, apt_printed n row.pt h, small)
+  rtx_lines_read : (o : Option ℕ) → IfSome o (λ n. n ≤ 127) → ReadAs (rtx_lines row o) (rtx_lines row o)
+  rtx_lines_read None h = refl
+  rtx_lines_read (Some n) h = grind (arith, read_as_joined, named_printed n, apt_printed n row.pt h, row_type_small)
 
-  red : (o : Option ℕ) → IfSome o (λ n. n ≤ 127) → ReadAs (red_lines row o) (red_reads row o)
-  red None h = refl
-  red (Some n) h =
+  red_lines_read : (o : Option ℕ) → IfSome o (λ n. n ≤ 127) → ReadAs (red_lines row o) (red_reads row o)
+  red_lines_read None h = refl
+  red_lines_read (Some n) h =
       let clock = rtp_rate row.spec.codec row.spec.clock_rate in
       let map : Mapping = record { codec = codec.Red; clock_rate = clock; channels = row.spec.channels } in
       let twice = Fmtp n (Red row.pt ∷ []) in
       let list = Fmtp n (BarePtList row.pt ∷ []) in
-      joins (RtpMap n map ∷ []) (twice ∷ []) (RtpMap n map ∷ []) (list ∷ [])
-      (one (RtpMap n map) (RtpMap n map) (named_printed n map h (record { clock = row_rate; channels = keeps.channels }) (λ e. cc)))
-      (one twice list (list_printed n row.pt (Red row.pt) refl h (omega (arith, small))))
+      read_as_joined (RtpMap n map ∷ []) (twice ∷ []) (RtpMap n map ∷ []) (list ∷ [])
+      (read_as_one (RtpMap n map) (RtpMap n map) (named_printed n map h (record { clock = row_rate; channels = keeps.channels }) (λ e. cc)))
+      (read_as_one twice list (list_printed n row.pt (Red row.pt) refl h (omega (arith, row_type_small))))
 
   -- the lines of a row, where its format's lines read as these values
   pub row_read : (values : List (List FormatParam)) → ReadAs (format_attrs row) (row_fmtp_lines row.pt values)
       → ReadAs (row_attrs row) (reads row values)
   row_read values format =
-      joins (RtpMap row.pt (map_of_spec row.spec) ∷ []) _ (RtpMap row.pt (map_of_spec row.spec) ∷ []) _
-      (one (RtpMap row.pt (map_of_spec row.spec)) (RtpMap row.pt (map_of_spec row.spec))
-      (named_printed row.pt (map_of_spec row.spec) small (record { clock = row_rate; channels = keeps.channels }) keeps.named))
-      (joins (feedback_attrs row) _ (feedback_attrs row) _ feedback_read
-      (joins (format_attrs row) _ (row_fmtp_lines row.pt values) _ format
-      (joins (rtx_attrs row) (red_attrs row) (rtx_lines row row.resend) (red_reads row row.red) (rtx row.resend keeps.resend)
-      (red row.red keeps.red))))
+      read_as_joined (RtpMap row.pt (map_of_spec row.spec) ∷ []) _ (RtpMap row.pt (map_of_spec row.spec) ∷ []) _
+      (read_as_one (RtpMap row.pt (map_of_spec row.spec)) (RtpMap row.pt (map_of_spec row.spec))
+      (named_printed row.pt (map_of_spec row.spec) row_type_small (record { clock = row_rate; channels = keeps.channels }) keeps.named))
+      (read_as_joined (feedback_attrs row) _ (feedback_attrs row) _ feedback_read
+      (read_as_joined (format_attrs row) _ (row_fmtp_lines row.pt values) _ format
+      (read_as_joined (rtx_attrs row) (red_attrs row) (rtx_lines row row.resend) (red_reads row row.red)
+      (rtx_lines_read row.resend keeps.resend)
+      (red_lines_read row.red keeps.red))))
 
 -- ---- the lines of a format
 
@@ -104,7 +108,7 @@ pub params_printed : (pt : ℕ) (params : List FormatParam) (pairs : List (List 
     → AllByRecursion IsSolidPair pairs → line_linked_texts (map param_text params) ≡ line_linked_texts (map shown_joined_pair pairs)
     → (params ≢ [] → pairs ≢ []) → (params ≡ [] → pairs ≡ [])
     → ReadAs (row_fmtp_line pt params) (row_fmtp_lines pt (pairs_line_read pairs))
-params_printed pt params pairs small shown plain e some none = grind (arith, pairs_printed)
+params_printed pt params pairs row_type_small shown plain e some none = grind (arith, pairs_printed)
 
 -- ---- rows of each codec
 
@@ -117,12 +121,12 @@ events_read row keeps tele fits =
     row_read row keeps values
     (subst (λ (params : List FormatParam). ReadAs (row_fmtp_line row.pt params) (row_fmtp_lines row.pt values))
     (sym (ap (λ (c : Codec). row_format_values c row.spec.format) tele))
-    (one (Fmtp row.pt range) (Fmtp row.pt (BareRange (narrowed_telephone_max row.spec.format) ∷ []))
+    (read_as_one (Fmtp row.pt range) (Fmtp row.pt (BareRange (narrowed_telephone_max row.spec.format) ∷ []))
     (range_printed row.pt (narrowed_telephone_max row.spec.format) (TelephoneEvents (narrowed_telephone_max row.spec.format)) refl keeps.pt
     fits)))
 
-format_of : (c : Codec) (p : FormatParams) → c ≢ codec.Tele → row_format_values c p ≡ params_of p
-format_of c p other = grind arith
+row_format_of : (c : Codec) (p : FormatParams) → c ≢ codec.Tele → row_format_values c p ≡ params_of p
+row_format_of c p other = grind arith
 
 -- any other codec, whose format prints as solid pairs: what these read as together
 pub pairs_row_read : (row : PayloadParams) → KeepsToRow row → row.spec.codec ≢ codec.Tele → (pairs : List (List ℕ × List ℕ))
@@ -132,7 +136,7 @@ pairs_row_read row keeps other pairs line =
     let values = pairs_line_read pairs in
     row_read row keeps values
     (subst (λ (params : List FormatParam). ReadAs (row_fmtp_line row.pt params) (row_fmtp_lines row.pt values))
-    (sym (format_of row.spec.codec row.spec.format other))
+    (sym (row_format_of row.spec.codec row.spec.format other))
     (params_printed row.pt (params_of row.spec.format) pairs keeps.pt (line_params_print row.spec.format) line.plain line.text line.some
     line.none))
 
@@ -142,4 +146,4 @@ pub rows_read : (rows : List PayloadParams) (values : PayloadParams → List (Li
     → AllByRecursion (λ row. ReadAs (row_attrs row) (reads row (values row))) rows
     → ReadAs (flat_map row_attrs rows) (flat_map (λ row. reads row (values row)) rows)
 rows_read [] values h = refl
-rows_read (row ∷ rows) values h = grind (arith, joins, rows_read rows values h.1)
+rows_read (row ∷ rows) values h = grind (arith, read_as_joined, rows_read rows values h.1)

@@ -3,12 +3,12 @@ use Rattle.str0m_sdp.proofs.{DescribesRows}
 use Rattle.str0m_signal.proofs.Common.{rules, ◌≡◌, ◌≢◌, ◌<◌, ◌^◌, ℕ, true, List, [], ◌∷◌, length, refl, sym, ◌∙◌, subst, recursion_from_All}
 use Rattle.str0m_signal.proofs.Common.{same_Some, HoldsRowNumbers, types, AllDistinct, PayloadParams, is_media, MediaLine, Sdp}
 use Rattle.str0m_signal.proofs.Common.{values_printed, IsPlain, All, describes_read_back}
-use Rattle.str0m_signal.proofs.back.ReadBackPlainRows.{types_fit, plain_rows_read}
+use Rattle.str0m_signal.proofs.back.ReadBackPlainRows.{plain_types_fit, plain_rows_read}
 use Rattle.str0m_signal.proofs.back.ReadBackWithRows.{section_read, ReadWithRows, with_rows_read}
 use Rattle.str0m_signal.proofs.back.WritableAgainLaws.{read_is_writable}
 use Rattle.str0m_signal.specs.back.ReadBack.{ReadBack, MayBePrinted, ReadsBack}
 use Rattle.str0m_signal.specs.back.Writable.{Writable}
-use Rattle.str0m_signal.specs.back.WritableAgain.{IsOverSrtp, IsRead, MayBeWrittenAgain}
+use Rattle.str0m_signal.specs.back.WritableAgain.{IsOverSrtp, IsSomeTextRead, MayBeWrittenAgain}
 
 section_reads_back : (sdp : Sdp) (i : ℕ) (w : Writable sdp i) (theirs : List PayloadParams) → sdp.session.id < 2 ^ 64
     → is_media w.section.typ ≡ true → MayBePrinted theirs → All HoldsRowNumbers theirs → ReadBack sdp i w.section theirs
@@ -23,7 +23,7 @@ section_reads_back sdp i w (first ∷ more) small media may holds =
     (record { bare = frame.none_of_type; mid = frame.mid; setup = frame.setup; direction = λ srtp. frame.direction })
     refl refl may.plain holds may.distinct may.some in
     let found : ReadWithRows sdp i w.section m theirs =
-    with_rows_read sdp i w first more values_printed small media (types_fit theirs plain)
+    with_rows_read sdp i w first more values_printed small media (plain_types_fit theirs plain)
     (plain_rows_read theirs plain (recursion_from_All HoldsRowNumbers theirs holds)) d.consistent in
     record {
       read = found.read;
@@ -42,7 +42,8 @@ reads_back sdp i w theirs may = λ frame at media fit.
     (section_reads_back sdp i w theirs fit.0 (subst (λ (m : MediaLine). is_media m.typ ≡ true) (sym same) media) may fit.1)
 
 -- so are they in each section over Srtp of every session that was read
-pub back_in_readings : (theirs : List PayloadParams) → MayBePrinted theirs → (sdp : Sdp) (i : ℕ) → IsRead sdp → MayBeWrittenAgain sdp
+pub back_in_readings : (theirs : List PayloadParams) → MayBePrinted theirs → (sdp : Sdp) (i : ℕ) → IsSomeTextRead sdp
+    → MayBeWrittenAgain sdp
     → IsOverSrtp sdp i → ReadsBack sdp i theirs
 back_in_readings theirs may sdp i read fits at = reads_back sdp i (read_is_writable sdp i read fits at) theirs may
 

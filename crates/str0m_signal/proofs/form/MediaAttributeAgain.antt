@@ -17,27 +17,33 @@ use Rattle.str0m_signal.proofs.Common.{fingerprint_text, media_words, ActPass, S
 use Rattle.str0m_signal.proofs.form.CandidateLineAgain.{candidate_again}
 use Rattle.str0m_signal.proofs.form.CandidateLineLaws.{candidate_begins}
 use Rattle.str0m_signal.proofs.form.FmtpAgain.{fmtp_again}
-use Rattle.str0m_signal.proofs.form.FmtpPrinted.{behind_lacks}
-use Rattle.str0m_signal.proofs.form.FormLaws.{text_both, two_both}
-use Rattle.str0m_signal.proofs.form.FormPiecesAgain.{Again, text_again, num_again, two_again, behind_again, parted_again}
-use Rattle.str0m_signal.proofs.form.FormTableAgain.{Kept, PrintsAgain, Whole, laws_of, quiet_again, made_again, entire, text_kept}
-use Rattle.str0m_signal.proofs.form.FormTableAgain.{number_kept, two_kept, pair_kept, tailed_kept, labelled_whole, words_whole}
-use Rattle.str0m_signal.proofs.form.FormTableAgain.{all_labelled_whole, any_again}
-use Rattle.str0m_signal.proofs.form.FormTableLaws.{Readable, Lawful, AllOf, ◌also◌, own_lawful, labelled_lawful, made_lawful}
-use Rattle.str0m_signal.proofs.form.RidAgain.{IsUntypedRid, rid_again, sides_words, sides_form, sides_lack}
+use Rattle.str0m_signal.proofs.form.FmtpPrinted.{fmtp_behind_lacks}
+use Rattle.str0m_signal.proofs.form.FormLaws.{form_text_both, form_two_both}
+use Rattle.str0m_signal.proofs.form.FormPiecesAgain.{PieceAgain, piece_text_again, piece_num_again, piece_two_again, behind_again}
+use Rattle.str0m_signal.proofs.form.FormPiecesAgain.{piece_parted_again}
+use Rattle.str0m_signal.proofs.form.FormTableAgain.{KeptPiece, PrintsAgain, WholeForm, form_laws_of, form_quiet_again, form_made_again}
+use Rattle.str0m_signal.proofs.form.FormTableAgain.{form_entire, text_kept}
+use Rattle.str0m_signal.proofs.form.FormTableAgain.{number_kept, two_kept, pair_kept, tailed_kept, form_labelled_whole, form_words_whole}
+use Rattle.str0m_signal.proofs.form.FormTableAgain.{form_all_labelled_whole, form_any_again}
+use Rattle.str0m_signal.proofs.form.FormTableLaws.{ReadablePiece, LawfulForm, AllOfForms, ◌also◌, form_own_lawful, form_labelled_lawful}
+use Rattle.str0m_signal.proofs.form.FormTableLaws.{form_made_lawful}
+use Rattle.str0m_signal.proofs.form.RidAgain.{IsUntypedRid, rid_again, rid_simulcast_sides_words, rid_simulcast_sides_form}
+use Rattle.str0m_signal.proofs.form.RidAgain.{rid_simulcast_sides_lack}
 use Rattle.str0m_signal.proofs.form.RidLaws.{rid_fields_both}
 use Rattle.str0m_signal.proofs.form.RtpMapPrinted.{mapping_printed}
 use Rattle.str0m_signal.proofs.form.SimulcastLaws.{simulcast_fields_both}
-use Rattle.str0m_signal.proofs.line.WordsAgain.{kept_again, kept_lacks, hash_again, fingerprint_pair, pairs_are_joined}
+use Rattle.str0m_signal.proofs.line.WordsAgain.{word_kept_again, word_kept_lacks, word_hash_again, word_fingerprint_pair}
+use Rattle.str0m_signal.proofs.line.WordsAgain.{word_pairs_are_joined}
 use Rattle.str0m_signal.proofs.line.WordsCharacterStarts.{StartsWithin, behind_starts, kept_some}
-use Rattle.str0m_signal.proofs.line.WordsLaws.{hex_pairs_both, sources_both}
-use Rattle.str0m_signal.proofs.session.AttributesPrinted.{HoldsNoEnd, no_end, no_ends, line_printed, attribute_printed}
+use Rattle.str0m_signal.proofs.line.WordsLaws.{word_hex_pairs_both, word_sources_both}
+use Rattle.str0m_signal.proofs.session.AttributesPrinted.{HoldsNoEnd, attribute_no_end, attribute_no_ends, line_printed, attribute_printed}
 use Rattle.str0m_signal.specs.back.Writable.{IsPrintedAs}
 use Rattle.str0m_signal.specs.back.WritableAgain.{FitsAgain, NamesNoTypes}
-use Rattle.str0m_signal.specs.form.FormTable.{Form, any, led_by, two, parted, a_text, number}
-use Rattle.str0m_signal.specs.form.FormTransport.{candidate, fingerprint, role}
-use Rattle.str0m_signal.specs.form.Forms.{Behind, IsText, Two}
-use Rattle.str0m_signal.specs.form.MediaAttribute.{media_texts, media_pairs, name, mid, ssrc_group, rid, simulcast, other_forms}
+use Rattle.str0m_signal.specs.form.FormTable.{Form, any_form, led_by, two_pieces, parted_piece, text_piece, number_piece}
+use Rattle.str0m_signal.specs.form.FormTransport.{candidate_form, fingerprint_form, role_piece}
+use Rattle.str0m_signal.specs.form.Forms.{BehindLabel, IsTextPiece, TwoParts}
+use Rattle.str0m_signal.specs.form.MediaAttribute.{media_texts, media_pairs, name_piece, media_mid, media_ssrc_group, media_rid}
+use Rattle.str0m_signal.specs.form.MediaAttribute.{media_simulcast, other_forms}
 use Rattle.str0m_signal.specs.form.MediaAttribute.{IsMediaLine, MediaForm}
 use Rattle.str0m_signal.specs.form.MediaAttributeReading.{role_read}
 use Rattle.str0m_signal.specs.form.Rid.{IsRid}
@@ -53,72 +59,73 @@ use Rattle.str0m_values.specs.declared.fingerprint.Fingerprint.{Fingerprint as T
 
 -- ---- what sessions and sections share
 
-role_own : (role : Role) → role_read (setup_text role) ≡ Some role
+media_role_own : (role : Role) → role_read (setup_text role) ≡ Some role
 unfolding case_of
-role_own ActPass = refl
-role_own _ = refl
+media_role_own ActPass = refl
+media_role_own _ = refl
 
-pub role_kept : Kept role setup_text
-role_kept = record {
-  reads = reads_words setup_text SETUPS role_own;
+pub media_role_kept : KeptPiece role_piece setup_text
+media_role_kept = record {
+  reads = reads_words setup_text SETUPS media_role_own;
   again = record { form = λ text setup h. refl; lacks = λ c far text setup h lacks. subst (Lacks c) h lacks };
 }
 
-pub candidate_lawful : Lawful candidate
-candidate_lawful = own_lawful candidate_label.CANDIDATE.now candidate_both candidate_begins
+pub media_candidate_lawful : LawfulForm candidate_form
+media_candidate_lawful = form_own_lawful candidate_label.CANDIDATE.now candidate_both candidate_begins
 
-pub fingerprint_lawful : Lawful fingerprint
-fingerprint_lawful = labelled_lawful _ _ (two_both 32 text_both hex_pairs_both)
+pub media_fingerprint_lawful : LawfulForm fingerprint_form
+media_fingerprint_lawful = form_labelled_lawful _ _ (form_two_both 32 form_text_both word_hex_pairs_both)
 
-pub candidate_back : {Fits : Type 0} (text : List ℕ) (candidate : TheCandidate) → HoldsNoEnd text → StartsWithin 3 text → Fits
+pub media_candidate_back : {Fits : Type 0} (text : List ℕ) (candidate : TheCandidate) → HoldsNoEnd text → StartsWithin 3 text → Fits
     → IsCandidateText text candidate → IsCandidateText (candidate_text candidate) candidate × HoldsNoEnd (candidate_text candidate)
-candidate_back text candidate quiet starts fits h = candidate_again text candidate quiet h
+media_candidate_back text candidate quiet starts fits h = candidate_again text candidate quiet h
 
-abbrev hash_line : TheFingerprint → List ℕ
-hash_line hash = label.FINGERPRINT.now ++ fingerprint_text hash
+abbrev media_hash_line : TheFingerprint → List ℕ
+media_hash_line hash = label.FINGERPRINT.now ++ fingerprint_text hash
 
-pub printed_fingerprint : {Fits : Type 0} (text : List ℕ) (hash : TheFingerprint) → HoldsNoEnd text → StartsWithin 3 text → Fits
-    → fingerprint.Is text hash → fingerprint.Is (hash_line hash) hash × HoldsNoEnd (hash_line hash)
-printed_fingerprint text hash quiet starts fits (p, h, e) =
-    subst (λ (f : TheFingerprint). fingerprint.Is (hash_line f) f × HoldsNoEnd (hash_line f)) (sym e)
-    (subst (λ (t : List ℕ). fingerprint.Is (label.FINGERPRINT.now ++ (p.0 ++ (32 ∷ t))) made
+pub media_printed_fingerprint : {Fits : Type 0} (text : List ℕ) (hash : TheFingerprint) → HoldsNoEnd text → StartsWithin 3 text → Fits
+    → fingerprint_form.Is text hash → fingerprint_form.Is (media_hash_line hash) hash × HoldsNoEnd (media_hash_line hash)
+media_printed_fingerprint text hash quiet starts fits (p, h, e) =
+    subst (λ (f : TheFingerprint). fingerprint_form.Is (media_hash_line f) f × HoldsNoEnd (media_hash_line f)) (sym e)
+    (subst (λ (t : List ℕ). fingerprint_form.Is (label.FINGERPRINT.now ++ (p.0 ++ (32 ∷ t))) made
     × HoldsNoEnd (label.FINGERPRINT.now ++ (p.0 ++ (32 ∷ t))))
-    (pairs_are_joined p.1)
-    ((p, whole.form text p h, refl), quiet_again whole text p quiet h))
+    (word_pairs_are_joined p.1)
+    ((p, whole.form text p h, refl), form_quiet_again whole text p quiet h))
   where
     made : TheFingerprint
     made = record { hash_func = p.0; bytes = p.1 }
 
-    whole : Again (Behind label.FINGERPRINT.now (Two 32 IsText (Parted 58 IsHexPair))) (λ p. label.FINGERPRINT.now ++ fingerprint_pair p)
-    whole = behind_again hash_again label.FINGERPRINT.now
+    whole : PieceAgain (BehindLabel label.FINGERPRINT.now (TwoParts 32 IsTextPiece (Parted 58 IsHexPair)))
+        (λ p. label.FINGERPRINT.now ++ word_fingerprint_pair p)
+    whole = behind_again word_hash_again label.FINGERPRINT.now
 
 -- ---- all forms but mappings and formats
 
 -- as it is read again: an fmtp line has the values that print something
-abbrev pub shown_only : MediaAttribute → MediaAttribute
-shown_only (Fmtp pt values) = Fmtp pt (filter is_fmtp_shown values)
-shown_only attr = attr
+abbrev pub media_shown_only : MediaAttribute → MediaAttribute
+media_shown_only (Fmtp pt values) = Fmtp pt (filter is_fmtp_shown values)
+media_shown_only attr = attr
 
 -- neither a mapping nor a format
-abbrev is_other : MediaAttribute → Bool
-is_other (RtpMap pt value) = false
-is_other (Fmtp pt values) = false
-is_other _ = true
+abbrev media_is_other : MediaAttribute → Bool
+media_is_other (RtpMap pt value) = false
+media_is_other (Fmtp pt values) = false
+media_is_other _ = true
 
 -- so it is printed whole, and has no number that one of these would have
-pub other_whole : (attr : MediaAttribute) → is_other attr ≡ true → (shown_only attr ≡ attr) × KeepsToLine attr
-other_whole (RtpMap pt value) e = absurd (false≢true e)
-other_whole (Fmtp pt values) e = absurd (false≢true e)
-other_whole _ e = (refl, tt)
+pub media_other_whole : (attr : MediaAttribute) → media_is_other attr ≡ true → (media_shown_only attr ≡ attr) × KeepsToLine attr
+media_other_whole (RtpMap pt value) e = absurd (false≢true e)
+media_other_whole (Fmtp pt values) e = absurd (false≢true e)
+media_other_whole _ e = (refl, tt)
 
-abbrev OtherAgain : Form MediaAttribute → Type 0
-OtherAgain = PrintsAgain FitsAgain media_attribute_text is_other
+abbrev OtherMediaAgain : Form MediaAttribute → Type 0
+OtherMediaAgain = PrintsAgain FitsAgain media_attribute_text media_is_other
 
-abbrev pub OtherForm : Form MediaAttribute → Type 0
-OtherForm = Whole FitsAgain media_attribute_text is_other
+abbrev pub OtherMediaForm : Form MediaAttribute → Type 0
+OtherMediaForm = WholeForm FitsAgain media_attribute_text media_is_other
 
-name_readable : Readable name
-name_readable = record {
+media_name_readable : ReadablePiece name_piece
+media_name_readable = record {
   sound = λ text mid e. let w = num_when_some (is_rest text) (beginning_of 16 text) mid e in
       rw (← w.1) (ltb-true 0 (length text) w.0, beginning_is 16 text);
   complete = λ text mid h.
@@ -126,154 +133,178 @@ name_readable = record {
       ∙ ap (λ (t : List ℕ). Some t) (sym (beginning_only 16 text mid h.1));
 }
 
-mid_comes_back : OtherAgain mid
-mid_comes_back = made_again (led_by label.MID.now name) Mid (λ mid. label.MID.now ++ mid)
+media_mid_comes_back : OtherMediaAgain media_mid
+media_mid_comes_back = form_made_again (led_by label.MID.now name_piece) Mid (λ mid. label.MID.now ++ mid)
     (λ text mid quiet starts fits h. back text mid quiet starts h) (λ _ _. refl) (λ _. refl)
   where
     lacks : (c : ℕ) (text mid name : List ℕ) → text ≡ label.MID.now ++ name → IsLongestBeginning 16 name mid → Lacks c text
         → Lacks c (label.MID.now ++ mid)
     lacks c text mid name e kept none =
-        let whole : Lacks c (label.MID.now ++ name) = subst (Lacks c) e none in
-        (whole.0, (whole.1.0, (whole.1.1.0, (whole.1.1.1.0, kept_lacks c 16 name mid kept (behind_lacks c label.MID.now name whole)))))
+        let whole : Lacks c (label.MID.now ++ name) = subst (Lacks c) e none in (
+          whole.0,
+          (
+            whole.1.0,
+            (
+              whole.1.1.0,
+              (whole.1.1.1.0, word_kept_lacks c 16 name mid kept (fmtp_behind_lacks c label.MID.now name whole)),
+            ),
+          ),
+        )
 
-    back : (text mid : List ℕ) → HoldsNoEnd text → StartsWithin 3 text → Behind label.MID.now name.Is text mid
-        → Behind label.MID.now name.Is (label.MID.now ++ mid) mid × HoldsNoEnd (label.MID.now ++ mid)
+    back : (text mid : List ℕ) → HoldsNoEnd text → StartsWithin 3 text → BehindLabel label.MID.now name_piece.Is text mid
+        → BehindLabel label.MID.now name_piece.Is (label.MID.now ++ mid) mid × HoldsNoEnd (label.MID.now ++ mid)
     back text mid quiet starts (name, e, (filled, kept)) = (
       (
         mid,
         refl,
         (
           kept_some name mid filled (behind_starts 3 label.MID.now name (lit≤ tt) (subst (StartsWithin 3) e starts)) kept,
-          kept_again 16 name mid kept,
+          word_kept_again 16 name mid kept,
         ),
       ),
       (lacks 10 text mid name e kept quiet.0, lacks 13 text mid name e kept quiet.1),
     )
 
 -- both sides of a simulcast line
-abbrev simulcast_line : TheSimulcast → List ℕ
-simulcast_line s = label.SIMULCAST.now ++ sides_words s.send.0 s.recv.0
+abbrev media_simulcast_line : TheSimulcast → List ℕ
+media_simulcast_line s = label.SIMULCAST.now ++ rid_simulcast_sides_words s.send.0 s.recv.0
 
-simulcast_comes_back : OtherAgain simulcast
-simulcast_comes_back = made_again (led_by label.SIMULCAST.now (record { Is = IsSimulcast; read = simulcast_fields_read })) Simulcast
-    simulcast_line (λ text s quiet starts fits h. back text s quiet h) shows (λ _. refl)
+media_simulcast_comes_back : OtherMediaAgain media_simulcast
+media_simulcast_comes_back = form_made_again (led_by label.SIMULCAST.now (record { Is = IsSimulcast; read = simulcast_fields_read }))
+    Simulcast
+    media_simulcast_line (λ text s quiet starts fits h. back text s quiet h) shows (λ _. refl)
   where
-    back : (text : List ℕ) (s : TheSimulcast) → HoldsNoEnd text → Behind label.SIMULCAST.now IsSimulcast text s
-        → Behind label.SIMULCAST.now IsSimulcast (simulcast_line s) s × HoldsNoEnd (simulcast_line s)
+    back : (text : List ℕ) (s : TheSimulcast) → HoldsNoEnd text → BehindLabel label.SIMULCAST.now IsSimulcast text s
+        → BehindLabel label.SIMULCAST.now IsSimulcast (media_simulcast_line s) s × HoldsNoEnd (media_simulcast_line s)
     back text s quiet (body, e, (sides, whole)) =
-        let behind : (c : ℕ) → Lacks c text → Lacks c body = λ c none. behind_lacks c label.SIMULCAST.now body (subst (Lacks c) e none) in (
-          (sides_words s.send.0 s.recv.0, refl, (sides_form body s.send.0 s.recv.0 sides, whole)),
-          no_ends label.SIMULCAST.now (sides_words s.send.0 s.recv.0) (no_end label.SIMULCAST.now refl refl) (
-            sides_lack 10 (lit≤ tt) (lacks_from 10 (codes "send ") refl, lacks_from 10 (codes " recv ") refl) body s.send.0 s.recv.0 sides
-                (behind 10 quiet.0),
-            sides_lack 13 (lit≤ tt) (lacks_from 13 (codes "send ") refl, lacks_from 13 (codes " recv ") refl) body s.send.0 s.recv.0 sides
-                (behind 13 quiet.1),
-          ),
+        let behind : (c : ℕ) → Lacks c text → Lacks c body =
+        λ c none. fmtp_behind_lacks c label.SIMULCAST.now body (subst (Lacks c) e none) in (
+          (rid_simulcast_sides_words s.send.0 s.recv.0, refl, (rid_simulcast_sides_form body s.send.0 s.recv.0 sides, whole)),
+          attribute_no_ends label.SIMULCAST.now (rid_simulcast_sides_words s.send.0 s.recv.0)
+              (attribute_no_end label.SIMULCAST.now refl refl) (
+                rid_simulcast_sides_lack 10 (lit≤ tt) (lacks_from 10 (codes "send ") refl, lacks_from 10 (codes " recv ") refl) body
+                    s.send.0
+                    s.recv.0 sides
+                    (behind 10 quiet.0),
+                rid_simulcast_sides_lack 13 (lit≤ tt) (lacks_from 13 (codes "send ") refl, lacks_from 13 (codes " recv ") refl) body
+                    s.send.0
+                    s.recv.0 sides
+                    (behind 13 quiet.1),
+              ),
         )
 
     sides_are : (body : List ℕ) (send recv : List SimulcastLayer) → AreSides body send recv
-        → simulcast_sides_text send recv ≡ attribute_line (label.SIMULCAST.now ++ sides_words send recv)
+        → simulcast_sides_text send recv ≡ attribute_line (label.SIMULCAST.now ++ rid_simulcast_sides_words send recv)
     sides_are body [] [] h = absurd h
     sides_are body (s ∷ send) [] h = refl
     sides_are body [] (r ∷ recv) h = refl
     sides_are body (s ∷ send) (r ∷ recv) h = refl
 
-    shows : (s : TheSimulcast) → Behind label.SIMULCAST.now IsSimulcast (simulcast_line s) s
-        → media_attribute_text (Simulcast s) ≡ attribute_line (simulcast_line s)
+    shows : (s : TheSimulcast) → BehindLabel label.SIMULCAST.now IsSimulcast (media_simulcast_line s) s
+        → media_attribute_text (Simulcast s) ≡ attribute_line (media_simulcast_line s)
     shows s (body, e, (sides, whole)) =
         ap (λ (b : Bool). unless_munged b (simulcast_sides_text s.send.0 s.recv.0)) whole ∙ sides_are body s.send.0 s.recv.0 sides
 
-untyped_rid : (text : List ℕ) (id : RestrictionId) (fields : List ℕ × (List ℕ × List (List ℕ × List ℕ)))
-    → Behind label.RID.now IsRid text (id, fields)
-    → NamesNoTypes fields.1.1 → Behind label.RID.now IsUntypedRid text (id, fields)
-untyped_rid text id fields (body, e, (front, rest, f, lacks, name, directed)) named = grind arith
+media_untyped_rid : (text : List ℕ) (id : RestrictionId) (fields : List ℕ × (List ℕ × List (List ℕ × List ℕ)))
+    → BehindLabel label.RID.now IsRid text (id, fields)
+    → NamesNoTypes fields.1.1 → BehindLabel label.RID.now IsUntypedRid text (id, fields)
+media_untyped_rid text id fields (body, e, (front, rest, f, lacks, name, directed)) named = grind arith
 
-rid_form : (text : List ℕ) (id : RestrictionId) (fields : List ℕ × (List ℕ × List (List ℕ × List ℕ)))
-    → Behind label.RID.now IsUntypedRid text (id, fields)
-    → Behind label.RID.now IsRid text (id, fields)
-rid_form text id fields (body, e, (front, rest, f, lacks, name, directed)) = (body, e, (front, rest, f, lacks, name, directed.0))
+media_rid_form : (text : List ℕ) (id : RestrictionId) (fields : List ℕ × (List ℕ × List (List ℕ × List ℕ)))
+    → BehindLabel label.RID.now IsUntypedRid text (id, fields)
+    → BehindLabel label.RID.now IsRid text (id, fields)
+media_rid_form text id fields (body, e, (front, rest, f, lacks, name, directed)) = (
+  body,
+  e,
+  (front, rest, f, lacks, name, directed.0),
+)
 
-rid_comes_back : OtherAgain rid
-rid_comes_back = made_again (led_by label.RID.now (record { Is = IsRid; read = rid_fields_read })) _ _ (λ text f quiet starts fits h.
+media_rid_comes_back : OtherMediaAgain media_rid
+media_rid_comes_back = form_made_again (led_by label.RID.now (record { Is = IsRid; read = rid_fields_read })) _ _
+    (λ text f quiet starts fits h.
     let whole = behind_again rid_again label.RID.now in
-    let plain = untyped_rid text f.0 f.1 h fits in
-    (rid_form _ f.0 f.1 (whole.form text f plain), quiet_again whole text f quiet plain)) (λ _ _. refl) (λ _. refl)
+    let plain = media_untyped_rid text f.0 f.1 h fits in
+    (media_rid_form _ f.0 f.1 (whole.form text f plain), form_quiet_again whole text f quiet plain)) (λ _ _. refl) (λ _. refl)
 
-abbrev sources_line : List ℕ → List ℕ → List ℕ
-sources_line semantics ssrcs = label.SSRC_GROUP.now ++ (semantics ++ (32 ∷ join_by decimal (codes " ") ssrcs))
+abbrev media_sources_line : List ℕ → List ℕ → List ℕ
+media_sources_line semantics ssrcs = label.SSRC_GROUP.now ++ (semantics ++ (32 ∷ join_by decimal (codes " ") ssrcs))
 
-ssrc_group_comes_back : OtherAgain ssrc_group
-ssrc_group_comes_back =
-    let whole = behind_again (two_again 32 (lit≤ tt) text_again (parted_again (num_again 4294967295 (lit< tt)) 32)) label.SSRC_GROUP.now in
-    made_again (led_by label.SSRC_GROUP.now (two 32 a_text (parted 32 (number 4294967295)))) _ _
-    (λ text p quiet starts fits h. (whole.form text p h, quiet_again whole text p quiet h)) (λ p h. shows p.0 p.1 h) (λ _. refl)
+media_ssrc_group_comes_back : OtherMediaAgain media_ssrc_group
+media_ssrc_group_comes_back =
+    let whole = behind_again (piece_two_again 32 (lit≤ tt) piece_text_again (piece_parted_again (piece_num_again 4294967295 (lit< tt)) 32))
+    label.SSRC_GROUP.now in
+    form_made_again (led_by label.SSRC_GROUP.now (two_pieces 32 text_piece (parted_piece 32 (number_piece 4294967295)))) _ _
+    (λ text p quiet starts fits h. (whole.form text p h, form_quiet_again whole text p quiet h)) (λ p h. shows p.0 p.1 h) (λ _. refl)
   where
     shows : (semantics ssrcs : List ℕ)
-        → Behind label.SSRC_GROUP.now (Two 32 IsText (Parted 32 (IsNum 4294967295))) (sources_line semantics ssrcs) (semantics, ssrcs)
-        → media_attribute_text (SsrcGroup semantics ssrcs) ≡ attribute_line (sources_line semantics ssrcs)
+        → BehindLabel label.SSRC_GROUP.now (TwoParts 32 IsTextPiece (Parted 32 (IsNum 4294967295))) (media_sources_line semantics ssrcs)
+        (semantics, ssrcs)
+        → media_attribute_text (SsrcGroup semantics ssrcs) ≡ attribute_line (media_sources_line semantics ssrcs)
     shows semantics [] h = absurd h.2.5
     shows semantics (ssrc ∷ ssrcs) h = refl
 
-pub other_laws : AllOf OtherForm other_forms
-other_laws =
-    labelled_whole _ _ (two_kept 32 (lit≤ tt) (number_kept 127 (lit< tt)) text_kept) (λ _. refl) (λ _. refl)
-    also labelled_whole _ _ (two_kept 32 (lit≤ tt) (tailed_kept 47 (lit≤ tt) (number_kept 255 (lit< tt)))
+pub media_other_laws : AllOfForms OtherMediaForm other_forms
+media_other_laws =
+    form_labelled_whole _ _ (two_kept 32 (lit≤ tt) (number_kept 127 (lit< tt)) text_kept) (λ _. refl) (λ _. refl)
+    also form_labelled_whole _ _ (two_kept 32 (lit≤ tt) (tailed_kept 47 (lit≤ tt) (number_kept 255 (lit< tt)))
     (tailed_kept 32 (lit≤ tt) text_kept)) (λ _. refl) (λ _. refl)
-    also entire (made_lawful Candidate candidate_lawful) (made_again candidate Candidate _ candidate_back (λ _ _. refl) (λ _. refl))
-    also labelled_whole _ _ (two_kept 32 (lit≤ tt) (number_kept 4294967295 (lit< tt)) (two_kept 58 (lit≤ tt) text_kept text_kept))
+    also form_entire (form_made_lawful Candidate media_candidate_lawful)
+    (form_made_again candidate_form Candidate _ media_candidate_back (λ _ _. refl) (λ _. refl))
+    also form_labelled_whole _ _ (two_kept 32 (lit≤ tt) (number_kept 4294967295 (lit< tt)) (two_kept 58 (lit≤ tt) text_kept text_kept))
     (λ _. refl) (λ _. refl)
-    also labelled_whole _ Setup role_kept (λ _. refl) (λ _. refl)
-    also entire (labelled_lawful _ _ (two_both 32 text_both sources_both)) ssrc_group_comes_back
-    also all_labelled_whole text_kept media_texts refl (λ _. refl)
-    also entire (made_lawful Fingerprint fingerprint_lawful)
-    (made_again fingerprint Fingerprint _ printed_fingerprint (λ _ _. refl) (λ _. refl))
-    also entire (labelled_lawful _ _ name_readable) mid_comes_back
-    also all_labelled_whole pair_kept media_pairs refl (λ _. refl)
-    also entire (labelled_lawful _ _ rid_fields_both) rid_comes_back
-    also labelled_whole _ _ text_kept (λ _. refl) (λ _. refl)
-    also entire (labelled_lawful _ _ simulcast_fields_both) simulcast_comes_back
-    also labelled_whole _ _ (number_kept 65535 (lit< tt)) (λ _. refl) (λ _. refl)
-    also labelled_whole _ _ (number_kept 18446744073709551615 (lit< tt)) (λ _. refl) (λ _. refl)
-    also labelled_whole _ _ text_kept (λ _. refl) (λ _. refl)
-    also words_whole media_words refl refl
+    also form_labelled_whole _ Setup media_role_kept (λ _. refl) (λ _. refl)
+    also form_entire (form_labelled_lawful _ _ (form_two_both 32 form_text_both word_sources_both)) media_ssrc_group_comes_back
+    also form_all_labelled_whole text_kept media_texts refl (λ _. refl)
+    also form_entire (form_made_lawful Fingerprint media_fingerprint_lawful)
+    (form_made_again fingerprint_form Fingerprint _ media_printed_fingerprint (λ _ _. refl) (λ _. refl))
+    also form_entire (form_labelled_lawful _ _ media_name_readable) media_mid_comes_back
+    also form_all_labelled_whole pair_kept media_pairs refl (λ _. refl)
+    also form_entire (form_labelled_lawful _ _ rid_fields_both) media_rid_comes_back
+    also form_labelled_whole _ _ text_kept (λ _. refl) (λ _. refl)
+    also form_entire (form_labelled_lawful _ _ simulcast_fields_both) media_simulcast_comes_back
+    also form_labelled_whole _ _ (number_kept 65535 (lit< tt)) (λ _. refl) (λ _. refl)
+    also form_labelled_whole _ _ (number_kept 18446744073709551615 (lit< tt)) (λ _. refl) (λ _. refl)
+    also form_labelled_whole _ _ text_kept (λ _. refl) (λ _. refl)
+    also form_words_whole media_words refl refl
     also tt
 
-pub other_again : OtherAgain (any other_forms)
-other_again = any_again other_forms (laws_of OtherForm OtherAgain (λ form law. law.prints) other_forms other_laws)
+pub media_other_again : OtherMediaAgain (any_form other_forms)
+media_other_again = form_any_again other_forms
+    (form_laws_of OtherMediaForm OtherMediaAgain (λ form law. law.prints) other_forms media_other_laws)
 
 -- ---- mappings, formats, and all
 
 -- what a codec's text was read as is read of its own text again
-read_codec : (text : List ℕ) (c : Codec) → IsReadAsCodec text c → codec_printed_and_read c ≡ c
-read_codec text c h = grind arith
+media_read_codec : (text : List ℕ) (c : Codec) → IsReadAsCodec text c → codec_printed_and_read c ≡ c
+media_read_codec text c h = grind arith
 
-channels_fit : (channels : Option ℕ) (text : List ℕ) → IsChannels text channels → IfSome channels (λ n. n ≤ 255)
-channels_fit channels text h = grind arith
+media_channels_fit : (channels : Option ℕ) (text : List ℕ) → IsChannels text channels → IfSome channels (λ n. n ≤ 255)
+media_channels_fit channels text h = grind arith
 
-mapping_again : (text : List ℕ) (pt : ℕ) (value : Mapping) → IsRtpMap text pt value
+media_mapping_again : (text : List ℕ) (pt : ℕ) (value : Mapping) → IsRtpMap text pt value
     → IsPrintedAs IsMediaLine (media_attribute_text (RtpMap pt value)) (RtpMap pt value)
-mapping_again text pt value h =
+media_mapping_again text pt value h =
     subst (λ (c : Codec). IsPrintedAs IsMediaLine (media_attribute_text (RtpMap pt value)) (RtpMap pt (record value { codec = c })))
-    (read_codec h.codec value.codec h.codec_is.1)
+    (media_read_codec h.codec value.codec h.codec_is.1)
     (mapping_printed pt value h.number_is.fits
-    (record { clock = (h.clock_is.2, h.clock_is.1.fits); channels = channels_fit value.channels h.channels h.channels_is }))
+    (record { clock = (h.clock_is.2, h.clock_is.1.fits); channels = media_channels_fit value.channels h.channels h.channels_is }))
 
 -- an fmtp line none of whose values prints anything
-abbrev pub IsHidden : MediaAttribute → Type 0
-IsHidden (Fmtp pt values) = filter is_fmtp_shown values ≡ []
-IsHidden _ = ⊥
+abbrev pub IsHiddenMedia : MediaAttribute → Type 0
+IsHiddenMedia (Fmtp pt values) = filter is_fmtp_shown values ≡ []
+IsHiddenMedia _ = ⊥
 
-abbrev pub ComesBack : MediaAttribute → Type 0
-ComesBack attr = IsPrintedAs IsMediaLine (media_attribute_text attr) (shown_only attr) ⊎ IsHidden attr
+abbrev pub MediaComesBack : MediaAttribute → Type 0
+MediaComesBack attr = IsPrintedAs IsMediaLine (media_attribute_text attr) (media_shown_only attr) ⊎ IsHiddenMedia attr
 
 -- an attribute that a line was read as prints nothing, or a line that is read as what it shows
 pub media_again : (text : List ℕ) (attr : MediaAttribute) → HoldsNoEnd text → StartsWithin 3 text → MediaForm text attr → FitsAgain attr
-    → ComesBack attr
-media_again text attr quiet starts (inl (inl (p, h, e))) may = subst ComesBack (sym e) (inl (mapping_again text p.0 p.1 h))
-media_again text attr quiet starts (inl (inr (inl (p, h, e)))) may = subst ComesBack (sym e) (fmtp_again text p.0 p.1 h)
+    → MediaComesBack attr
+media_again text attr quiet starts (inl (inl (p, h, e))) may = subst MediaComesBack (sym e) (inl (media_mapping_again text p.0 p.1 h))
+media_again text attr quiet starts (inl (inr (inl (p, h, e)))) may = subst MediaComesBack (sym e) (fmtp_again text p.0 p.1 h)
 media_again text attr quiet starts (inl (inr (inr h))) may =
-    let new = other_again.again text attr quiet starts may h in
-    let shown = (other_whole attr (other_again.passes text attr h)).0 in
+    let new = media_other_again.again text attr quiet starts may h in
+    let shown = (media_other_whole attr (media_other_again.passes text attr h)).0 in
     inl (rw (new.1, shown) (attribute_printed new.0 attr new.2 (inr (inr new.3))))
 media_again text attr quiet starts (inr (none, (filled, e))) may =
     rw e (inl (line_printed MediaForm text (Unused text) quiet (inr (none, (filled, refl)))))

@@ -8,13 +8,15 @@ use Rattle.str0m_signal.proofs.Common.{num_number_lacks}
 use Rattle.str0m_signal.proofs.Common.{num_rest_true, bind_some, some_is, Codec, codec_of, codec_read_as, Reads, IsReadAsCodec, IsWithout}
 use Rattle.str0m_signal.proofs.Common.{codec_read_only}
 use Rattle.str0m_signal.specs.form.RtpMap.{IsChannels, IsRtpMap}
-use Rattle.str0m_signal.specs.form.RtpMapReading.{frequency_read, clock_read, mapping_read, rtpmap_fields_read}
+use Rattle.str0m_signal.specs.form.RtpMapReading.{mapping_frequency_read, mapping_clock_read, mapping_read, rtpmap_fields_read}
 
-pub frequency_sound : (text : List ℕ) (hertz : ℕ) → frequency_read text ≡ Some hertz → IsNum 4294967295 text hertz × (0 < hertz)
-frequency_sound text hertz e = grind (arith, bind_some, num_when_some, ltb-true, num_found)
+pub rtp_map_frequency_sound : (text : List ℕ) (hertz : ℕ) → mapping_frequency_read text ≡ Some hertz
+    → IsNum 4294967295 text hertz × (0 < hertz)
+rtp_map_frequency_sound text hertz e = grind (arith, bind_some, num_when_some, ltb-true, num_found)
 
-pub frequency_complete : (text : List ℕ) (hertz : ℕ) → IsNum 4294967295 text hertz → 0 < hertz → frequency_read text ≡ Some hertz
-frequency_complete text hertz h positive = rw (num_reads 4294967295 text hertz h, lt-ltb 0 hertz positive) refl
+pub rtp_map_frequency_complete : (text : List ℕ) (hertz : ℕ) → IsNum 4294967295 text hertz → 0 < hertz
+    → mapping_frequency_read text ≡ Some hertz
+rtp_map_frequency_complete text hertz h positive = rw (num_reads 4294967295 text hertz h, lt-ltb 0 hertz positive) refl
 
 -- a clock rate and the channels after it
 record IsClock (text : List ℕ) (hertz : ℕ) (channels : Option ℕ) : Type 0 where
@@ -24,48 +26,50 @@ record IsClock (text : List ℕ) (hertz : ℕ) (channels : Option ℕ) : Type 0 
   number_is : IsWithout 47 number × IsNum 4294967295 number hertz × (0 < hertz)
   more_is : IsChannels more channels
 
-rate_without : (text : List ℕ) (hertz : ℕ) → Lacks 47 text → IsNum 4294967295 text hertz → IsWithout 47 text
-rate_without text hertz h n = grind arith
+rtp_map_rate_without : (text : List ℕ) (hertz : ℕ) → Lacks 47 text → IsNum 4294967295 text hertz → IsWithout 47 text
+rtp_map_rate_without text hertz h n = grind arith
 
-clock_sound : (text : List ℕ) (hertz : ℕ) (channels : Option ℕ) (o : Option (List ℕ × List ℕ)) → cut 47 text ≡ o
-    → clock_read text o ≡ Some (hertz, channels) → IsClock text hertz channels
-clock_sound text hertz channels None cut-is e = grind (arith, bind_some, some_pair_parts, frequency_sound, append-nil, cut_none_lacks)
-clock_sound text hertz channels (Some p) cut-is e =
-    let a = bind_some (frequency_read p.0) (λ hz. num 255 p.1 >>= λ n. Some (hz, Some n)) (hertz, channels) e in
+rtp_map_clock_sound : (text : List ℕ) (hertz : ℕ) (channels : Option ℕ) (o : Option (List ℕ × List ℕ)) → cut 47 text ≡ o
+    → mapping_clock_read text o ≡ Some (hertz, channels) → IsClock text hertz channels
+rtp_map_clock_sound text hertz channels None cut-is e = grind
+    (arith, bind_some, some_pair_parts, rtp_map_frequency_sound, append-nil, cut_none_lacks)
+rtp_map_clock_sound text hertz channels (Some p) cut-is e =
+    let a = bind_some (mapping_frequency_read p.0) (λ hz. num 255 p.1 >>= λ n. Some (hz, Some n)) (hertz, channels) e in
     let b = bind_some (num 255 p.1) (λ n. Some (a.0, Some n)) (hertz, channels) a.2 in
     let pair = some_pair_parts a.0 hertz (Some b.0) channels b.2 in
-    let f = frequency_sound p.0 hertz (a.1 ∙ ap (λ (n : ℕ). Some n) pair.0) in
+    let f = rtp_map_frequency_sound p.0 hertz (a.1 ∙ ap (λ (n : ℕ). Some n) pair.0) in
     let found = cut_found 47 text p.0 p.1 cut-is in
     rw (← pair.1) (record {
       number = p.0;
       more = 47 ∷ p.1;
       joined = found.0;
-      number_is = (rate_without p.0 hertz found.1 f.0, f.0, f.1);
+      number_is = (rtp_map_rate_without p.0 hertz found.1 f.0, f.0, f.1);
       more_is = (p.1, refl, num_found 255 p.1 b.0 b.1);
     })
 
-channels_lack : (text : List ℕ) (hertz : List ℕ) (channels : Option ℕ) (rate : ℕ) → IsWithout 47 hertz → IsNum 4294967295 hertz rate
-    → 0 < rate → IsChannels text channels → clock_read (hertz ++ text) (cut 47 (hertz ++ text)) ≡ Some (rate, channels)
-channels_lack text hertz channels rate w n positive h = grind (arith, append-nil, cut_none, frequency_complete, cut_at, num_reads)
+rtp_map_channels_lack : (text : List ℕ) (hertz : List ℕ) (channels : Option ℕ) (rate : ℕ) → IsWithout 47 hertz → IsNum 4294967295 hertz rate
+    → 0 < rate → IsChannels text channels → mapping_clock_read (hertz ++ text) (cut 47 (hertz ++ text)) ≡ Some (rate, channels)
+rtp_map_channels_lack text hertz channels rate w n positive h = grind
+    (arith, append-nil, cut_none, rtp_map_frequency_complete, cut_at, num_reads)
 
-abbrev made_mapping : ℕ → Codec → Mapping → Option (ℕ × Mapping)
-made_mapping pt codec value = Some (pt, record { codec = codec; clock_rate = value.clock_rate; channels = value.channels })
+abbrev rtp_map_made_mapping : ℕ → Codec → Mapping → Option (ℕ × Mapping)
+rtp_map_made_mapping pt codec value = Some (pt, record { codec = codec; clock_rate = value.clock_rate; channels = value.channels })
 
-rtpmap_found : (text : List ℕ) (fields : ℕ × Mapping) → rtpmap_fields_read text ≡ Some fields → IsRtpMap text fields.0 fields.1
-rtpmap_found text fields e =
+rtp_map_rtpmap_found : (text : List ℕ) (fields : ℕ × Mapping) → rtpmap_fields_read text ≡ Some fields → IsRtpMap text fields.0 fields.1
+rtp_map_rtpmap_found text fields e =
     let a = bind_some (strip label.RTPMAP.now text) (λ body. cut 32 body >>= λ fields. num 127 fields.0 >>= λ pt. mapping_read fields.1
     >>= λ value. Some (pt, value)) fields e in
     let b = bind_some (cut 32 a.0) (λ fields. num 127 fields.0 >>= λ pt. mapping_read fields.1 >>= λ value. Some (pt, value)) fields a.2 in
     let n = bind_some (num 127 b.0.0) (λ pt. mapping_read b.0.1 >>= λ value. Some (pt, value)) fields b.2 in
     let m = bind_some (mapping_read b.0.1) (λ value. Some (n.0, value)) fields n.2 in
-    let c = bind_some (cut 47 b.0.1) (λ codec. when (is_rest codec.0) codec.0 >>= λ name. clock_read codec.1 (cut 47 codec.1)
+    let c = bind_some (cut 47 b.0.1) (λ codec. when (is_rest codec.0) codec.0 >>= λ name. mapping_clock_read codec.1 (cut 47 codec.1)
     >>= λ clock. Some (record { codec = codec_of name; clock_rate = clock.0; channels = clock.1 })) m.0 m.1 in
-    let w = bind_some (when (is_rest c.0.0) c.0.0) (λ name. clock_read c.0.1 (cut 47 c.0.1)
+    let w = bind_some (when (is_rest c.0.0) c.0.0) (λ name. mapping_clock_read c.0.1 (cut 47 c.0.1)
     >>= λ clock. Some (record { codec = codec_of name; clock_rate = clock.0; channels = clock.1 })) m.0 c.2 in
-    let k = bind_some (clock_read c.0.1 (cut 47 c.0.1))
+    let k = bind_some (mapping_clock_read c.0.1 (cut 47 c.0.1))
     (λ clock. Some (record { codec = codec_of w.0; clock_rate = clock.0; channels = clock.1 })) m.0 w.2 in
     let name = num_when_some (is_rest c.0.0) c.0.0 w.0 w.1 in
-    let clock = clock_sound c.0.1 k.0.0 k.0.1 (cut 47 c.0.1) refl k.1 in
+    let clock = rtp_map_clock_sound c.0.1 k.0.0 k.0.1 (cut 47 c.0.1) refl k.1 in
     let head = strip_found label.RTPMAP.now text a.0 a.1 in
     let cut_at_space = cut_found 32 a.0 b.0.0 b.0.1 b.1 in
     let codec = cut_found 47 b.0.1 c.0.0 c.0.1 c.1 in
@@ -89,12 +93,12 @@ rtpmap_found text fields e =
     subst (λ (f : ℕ × Mapping). IsRtpMap text f.0 f.1) (some_is (n.0, m.0) fields m.2)
     (subst (IsRtpMap text n.0) (some_is value m.0 k.2) made)
 
-rtpmap_given : (text : List ℕ) (fields : ℕ × Mapping) → IsRtpMap text fields.0 fields.1 → rtpmap_fields_read text ≡ Some fields
-rtpmap_given text fields h =
+rtp_map_rtpmap_given : (text : List ℕ) (fields : ℕ × Mapping) → IsRtpMap text fields.0 fields.1 → rtpmap_fields_read text ≡ Some fields
+rtp_map_rtpmap_given text fields h =
     grind (
       arith,
       num_number_lacks 32 h.number,
-      channels_lack h.channels h.clock,
+      rtp_map_channels_lack h.channels h.clock,
       cut_at 47 h.codec,
       cut_at 32 h.number,
       num_rest_true h.codec h.codec_is.0.0,
@@ -102,5 +106,5 @@ rtpmap_given text fields h =
       num_reads 127 h.number,
     )
 
-pub rtpmap_fields_both : Reads (λ text fields. IsRtpMap text fields.0 fields.1) rtpmap_fields_read
-rtpmap_fields_both = record { sound = rtpmap_found; complete = rtpmap_given }
+pub rtp_map_rtpmap_fields_both : Reads (λ text fields. IsRtpMap text fields.0 fields.1) rtpmap_fields_read
+rtp_map_rtpmap_fields_both = record { sound = rtp_map_rtpmap_found; complete = rtp_map_rtpmap_given }

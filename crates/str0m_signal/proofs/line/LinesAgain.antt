@@ -4,72 +4,74 @@ use Rattle.str0m_signal.proofs.Common.{◌≡◌, ◌≢◌, ◌⊎◌, ℕ, Lis
 use Rattle.str0m_signal.proofs.Common.{inl, inr, codes, AllByRecursion, append_assoc, FirstFit, Parted, Lacks, IsWord, IsNum, Lacks-append}
 use Rattle.str0m_signal.proofs.Common.{bandwidth_text, pts_text, formats_text, media_type_text, Bandwidth, MediaLine, MediaType, Proto}
 use Rattle.str0m_signal.proofs.Common.{Sctp, none_reads}
-use Rattle.str0m_signal.proofs.form.FmtpPrinted.{behind_lacks}
-use Rattle.str0m_signal.proofs.form.FormPiecesAgain.{num_again, parted_again}
+use Rattle.str0m_signal.proofs.form.FmtpPrinted.{fmtp_behind_lacks}
+use Rattle.str0m_signal.proofs.form.FormPiecesAgain.{piece_num_again, piece_parted_again}
 use Rattle.str0m_signal.proofs.line.WordsCharacterStarts.{StartsWithin, front_starts, behind_starts}
-use Rattle.str0m_signal.proofs.session.AttributesPrinted.{HoldsNoEnd, no_end}
-use Rattle.str0m_signal.proofs.session.SectionLaws.{numbers_both}
+use Rattle.str0m_signal.proofs.session.AttributesPrinted.{HoldsNoEnd, attribute_no_end}
+use Rattle.str0m_signal.proofs.session.SectionLaws.{section_numbers_both}
 use Rattle.str0m_signal.proofs.session.SectionLines.{head_line_read}
-use Rattle.str0m_signal.specs.back.Writable.{IsPrintedAs, HasTypes}
+use Rattle.str0m_signal.specs.back.Writable.{IsPrintedAs, HeadHasTypes}
 use Rattle.str0m_signal.specs.back.WritableAgain.{FitsKind}
-use Rattle.str0m_signal.specs.line.Lines.{Chain, Taken, Line, joined, AreLines, OneLine}
-use Rattle.str0m_signal.specs.session.Section.{Head, IsKind, IsHead, IsBandwidth, NoTypes}
+use Rattle.str0m_signal.specs.line.Lines.{ChainOfLines, TakenLine, Line, lines_joined, AreLines, OneLine}
+use Rattle.str0m_signal.specs.session.Section.{Head, IsMediaKindText, IsHead, IsBandwidth, IsNoTypes}
 
 -- ---- lines
 
 -- lines of a text in which characters begin close to each other
-abbrev pub IsFine : List Line → Type 0
-IsFine lines = AreLines lines × StartsWithin 3 (joined lines)
+abbrev pub IsFineLine : List Line → Type 0
+IsFineLine lines = AreLines lines × StartsWithin 3 (lines_joined lines)
 
 -- the value has the form on some line
 abbrev pub IsOnLine : {A : Type 0} → (List ℕ → A → Type 0) → A → Type 0
 IsOnLine F a = (content : List ℕ) × HoldsNoEnd content × StartsWithin 3 content × F content a
 
-pub one_line : {A : Type 0} (F : List ℕ → A → Type 0) (lines : List Line) (a : A) (rest : List Line) → IsFine lines → OneLine F lines a rest
-    → IsOnLine F a × IsFine rest
+pub one_line : {A : Type 0} (F : List ℕ → A → Type 0) (lines : List Line) (a : A) (rest : List Line) → IsFineLine lines
+    → OneLine F lines a rest
+    → IsOnLine F a × IsFineLine rest
 one_line F lines a rest fine h = grind (arith, front_starts, behind_starts)
 
-pub chain_lines : {A : Type 0} (F : List ℕ → A → Type 0) (lines : List Line) (values : List A) (rest : List Line) → IsFine lines
-    → Chain (OneLine F) lines values rest → AllByRecursion (IsOnLine F) values × IsFine rest
-chain_lines F lines [] rest fine h = (tt, subst IsFine h fine)
+pub chain_lines : {A : Type 0} (F : List ℕ → A → Type 0) (lines : List Line) (values : List A) (rest : List Line) → IsFineLine lines
+    → ChainOfLines (OneLine F) lines values rest → AllByRecursion (IsOnLine F) values × IsFineLine rest
+chain_lines F lines [] rest fine h = (tt, subst IsFineLine h fine)
 chain_lines F lines (a ∷ values) rest fine h = grind (arith, one_line F lines a h.0 fine h.1, chain_lines F h.0 values rest)
 
-pub taken_line : {A : Type 0} (F : List ℕ → A → Type 0) (lines : List Line) (o : Option A) (rest : List Line) → IsFine lines
-    → Taken (OneLine F) lines o rest → IfSome o (IsOnLine F) × IsFine rest
-taken_line F lines None rest fine h = (tt, subst IsFine h.0 fine)
+pub taken_line : {A : Type 0} (F : List ℕ → A → Type 0) (lines : List Line) (o : Option A) (rest : List Line) → IsFineLine lines
+    → TakenLine (OneLine F) lines o rest → IfSome o (IsOnLine F) × IsFineLine rest
+taken_line F lines None rest fine h = (tt, subst IsFineLine h.0 fine)
 taken_line F lines (Some a) rest fine h = one_line F lines a rest fine h
 
 -- the text after `a=`, as the line
-pub record IsBehind (text : List ℕ) : Type 0 where
+pub record IsBehindLine (text : List ℕ) : Type 0 where
   pub quiet : HoldsNoEnd text
   pub starts : StartsWithin 3 text
 
-pub behind_is : (content text : List ℕ) → content ≡ codes "a=" ++ text → HoldsNoEnd content → StartsWithin 3 content → IsBehind text
-behind_is content text e quiet starts = grind arith
+pub line_behind_is : (content text : List ℕ) → content ≡ codes "a=" ++ text → HoldsNoEnd content → StartsWithin 3 content
+    → IsBehindLine text
+line_behind_is content text e quiet starts = grind arith
 
 -- ---- m-lines and bandwidths
 
-pub bandwidth_again : (bw : Option Bandwidth) → IfSome bw (IsOnLine IsBandwidth)
+pub line_bandwidth_again : (bw : Option Bandwidth) → IfSome bw (IsOnLine IsBandwidth)
     → IfSome bw (λ bw. IsPrintedAs IsBandwidth (bandwidth_text bw) bw)
-bandwidth_again bw h = grind (arith, append_assoc)
+line_bandwidth_again bw h = grind (arith, append_assoc)
 
 -- the formats of an m-line
 abbrev AreFormats : List ℕ → List ℕ → Type 0
-AreFormats = FirstFit (Parted 32 (IsNum 255)) NoTypes
+AreFormats = FirstFit (Parted 32 (IsNum 255)) IsNoTypes
 
-types_again : (types pts : List ℕ) → AreFormats types pts → pts ≢ [] → HoldsNoEnd types
+line_types_again : (types pts : List ℕ) → AreFormats types pts → pts ≢ [] → HoldsNoEnd types
     → AreFormats (pts_text pts) pts × HoldsNoEnd (pts_text pts)
-types_again types [] are some quiet = absurd (some refl)
-types_again types (pt ∷ pts) (inr none) some quiet = absurd (some none.1.0)
-types_again types (pt ∷ pts) (inl are) some quiet =
-    let again = parted_again (num_again 255 (lit< tt)) 32 in (
+line_types_again types [] are some quiet = absurd (some refl)
+line_types_again types (pt ∷ pts) (inr none) some quiet = absurd (some none.1.0)
+line_types_again types (pt ∷ pts) (inl are) some quiet =
+    let again = piece_parted_again (piece_num_again 255 (lit< tt)) 32 in (
       inl (again.form types (pt ∷ pts) are),
       (again.lacks 10 (lit≤ tt) types (pt ∷ pts) are quiet.0, again.lacks 13 (lit≤ tt) types (pt ∷ pts) are quiet.1),
     )
 
 -- what a channel prints is no type
-channel_is : AreFormats (codes "webrtc-datachannel") []
-channel_is = grind (arith, none_reads, numbers_both)
+line_channel_is : AreFormats (codes "webrtc-datachannel") []
+line_channel_is = grind (arith, none_reads, section_numbers_both)
 
 -- the formats as they print, and the types that they are read as
 record FormatsAgain (t : MediaType) (proto : Proto) (pts : List ℕ) : Type 0 where
@@ -78,36 +80,36 @@ record FormatsAgain (t : MediaType) (proto : Proto) (pts : List ℕ) : Type 0 wh
   quiet : HoldsNoEnd (formats_text t pts)
   fit : (types ≡ pts) ⊎ ((types ≡ []) × (proto ≡ Sctp))
 
-formats_again : (t : MediaType) (proto : Proto) (pts types : List ℕ) → FitsKind t proto pts → AreFormats types pts → HoldsNoEnd types
+line_formats_again : (t : MediaType) (proto : Proto) (pts types : List ℕ) → FitsKind t proto pts → AreFormats types pts → HoldsNoEnd types
     → FormatsAgain t proto pts
-formats_again typ.Application proto pts types fits are quiet = grind (arith, channel_is, no_end)
-formats_again typ.Audio proto pts types fits are quiet = grind (arith, types_again)
-formats_again typ.Video proto pts types fits are quiet = grind (arith, types_again)
-formats_again (typ.Unknown name) proto pts types fits are quiet = grind (arith, types_again)
+line_formats_again typ.Application proto pts types fits are quiet = grind (arith, line_channel_is, attribute_no_end)
+line_formats_again typ.Audio proto pts types fits are quiet = grind (arith, line_types_again)
+line_formats_again typ.Video proto pts types fits are quiet = grind (arith, line_types_again)
+line_formats_again (typ.Unknown name) proto pts types fits are quiet = grind (arith, line_types_again)
 
-kind_again : (kind : List ℕ) (t : MediaType) → IsKind kind t → kind ≡ media_type_text t
-kind_again kind t h = grind arith
+line_kind_again : (kind : List ℕ) (t : MediaType) → IsMediaKindText kind t → kind ≡ media_type_text t
+line_kind_again kind t h = grind arith
 
-abbrev pub head_of : MediaLine → Head
-head_of m = record { typ = m.typ; disabled = m.disabled; proto = m.proto; pts = m.pts }
+abbrev pub line_head_of : MediaLine → Head
+line_head_of m = record { typ = m.typ; disabled = m.disabled; proto = m.proto; pts = m.pts }
 
 -- an m-line is read with its own types, or with none where it is of a channel
-pub head_again : (m : MediaLine) → FitsKind m.typ m.proto m.pts → IsOnLine IsHead (head_of m)
-    → (types : List ℕ) × HasTypes m types × ((types ≡ m.pts) ⊎ ((types ≡ []) × (m.proto ≡ Sctp)))
-head_again m fits (content, quiet, starts, h) =
+pub line_head_again : (m : MediaLine) → FitsKind m.typ m.proto m.pts → IsOnLine IsHead (line_head_of m)
+    → (types : List ℕ) × HeadHasTypes m types × ((types ≡ m.pts) ⊎ ((types ≡ []) × (m.proto ≡ Sctp)))
+line_head_again m fits (content, quiet, starts, h) =
     let front = codes "m=" in
     let behind : (c : ℕ) → Lacks c content → Lacks c h.kind × Lacks c h.types = λ c none.
-    let whole = behind_lacks c front _ (subst (Lacks c) h.joined none) in
-    let port = behind_lacks c (codes " ") _ (behind_lacks c h.kind _ whole) in
-    let protocol = behind_lacks c (codes " ") _ (behind_lacks c h.port _ port) in
-    (Lacks-append c h.kind _ whole, behind_lacks c (codes " ") h.types (behind_lacks c h.protocol _ protocol)) in
+    let whole = fmtp_behind_lacks c front _ (subst (Lacks c) h.joined none) in
+    let port = fmtp_behind_lacks c (codes " ") _ (fmtp_behind_lacks c h.kind _ whole) in
+    let protocol = fmtp_behind_lacks c (codes " ") _ (fmtp_behind_lacks c h.port _ port) in
+    (Lacks-append c h.kind _ whole, fmtp_behind_lacks c (codes " ") h.types (fmtp_behind_lacks c h.protocol _ protocol)) in
     let lf = behind 10 quiet.0 in
     let cr = behind 13 quiet.1 in
-    let kind = kind_again h.kind m.typ h.kind_is.1 in
-    let formats = formats_again m.typ m.proto m.pts h.types fits h.types_are (lf.1, cr.1) in (
+    let kind = line_kind_again h.kind m.typ h.kind_is.1 in
+    let formats = line_formats_again m.typ m.proto m.pts h.types fits h.types_are (lf.1, cr.1) in (
       formats.types,
       head_line_read m (formats_text m.typ m.pts) formats.types
-          (subst (λ (t : List ℕ). IsWord t × IsKind t m.typ × HoldsNoEnd t) kind (h.kind_is.0, h.kind_is.1, (lf.0, cr.0)))
+          (subst (λ (t : List ℕ). IsWord t × IsMediaKindText t m.typ × HoldsNoEnd t) kind (h.kind_is.0, h.kind_is.1, (lf.0, cr.0)))
           refl formats.quiet formats.are,
       formats.fit,
     )

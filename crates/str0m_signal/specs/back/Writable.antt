@@ -7,7 +7,7 @@ use Rattle.str0m_sdp.specs.section.MediaLine.{m_line}
 use Rattle.str0m_signal.specs.Prelude.{Consistent, IsTheOnly, Lacks, MediaAttribute, MediaLine, Sdp, SessionAttribute, bandwidth_text, is_direction, is_mid, is_of_type, is_setup, line_end, media_attribute_text, session_attribute_text}
 use Rattle.str0m_signal.specs.form.MediaAttribute.{IsMediaLine}
 use Rattle.str0m_signal.specs.form.SessionAttribute.{IsSessionLine}
-use Rattle.str0m_signal.specs.line.LinesReading.{read_attribute}
+use Rattle.str0m_signal.specs.line.LinesReading.{attribute_line_read}
 use Rattle.str0m_signal.specs.session.Section.{IsBandwidth, IsHead}
 
 -- the text is one printed line, which has the form F of the value
@@ -33,13 +33,13 @@ abbrev pub MediaAreReadAs : List MediaAttribute → List MediaAttribute → Type
 MediaAreReadAs = AreReadAs media_attribute_text IsMediaLine MediaGoesWith
 
 -- the section's m-line is read as what it is, with these types
-abbrev pub HasTypes : MediaLine → List ℕ → Type 0
-HasTypes m pts = IsPrintedAs IsHead (m_line m) (record { typ = m.typ; disabled = m.disabled; proto = m.proto; pts = pts })
+abbrev pub HeadHasTypes : MediaLine → List ℕ → Type 0
+HeadHasTypes m pts = IsPrintedAs IsHead (m_line m) (record { typ = m.typ; disabled = m.disabled; proto = m.proto; pts = pts })
 
 -- a section as its lines are read: its types and attributes may be others
 pub record IsMediaReadAs (m read : MediaLine) : Type 0 where
   pub same : read ≡ record m { pts = read.pts; attrs = read.attrs }
-  pub head : HasTypes m read.pts
+  pub head : HeadHasTypes m read.pts
   pub bandwidth : IfSome m.bw (λ bw. IsPrintedAs IsBandwidth (bandwidth_text bw) bw)
   pub attributes : MediaAreReadAs m.attrs read.attrs
 
@@ -55,9 +55,9 @@ pub record IsFrame (m : MediaLine) : Type 0 where
   pub none_of_type : All (λ attr. is_of_type attr ≡ false) m.attrs
 
 -- the only list with P stands after the others; or no list has P
-abbrev pub PutsBack : {X : Type 0} → (List X → Type 0) → List X → List X → Bool → Type 0
-PutsBack {X} P old new true = (reads : List X) × IsTheOnly P (Some reads) × (new ≡ old ++ reads)
-PutsBack P old new false = IsTheOnly P None
+abbrev pub PutsBackAfter : {X : Type 0} → (List X → Type 0) → List X → List X → Bool → Type 0
+PutsBackAfter {X} P old new true = (reads : List X) × IsTheOnly P (Some reads) × (new ≡ old ++ reads)
+PutsBackAfter P old new false = IsTheOnly P None
 
 -- rows may be printed in the section there, and are read again
 pub record Writable (sdp : Sdp) (i : ℕ) : Type 0 where
@@ -70,5 +70,5 @@ pub record Writable (sdp : Sdp) (i : ℕ) : Type 0 where
   pub own : (read : MediaLine) × IsMediaReadAs (frame_of section) read × IsFrame read
 
 -- the line is read so by a function
-abbrev pub IsReadBy : {A : Type 0} → (List ℕ → Option A) → List ℕ → A → Type 0
-IsReadBy f content value = read_attribute f content ≡ Some value
+abbrev pub IsReadByFunction : {A : Type 0} → (List ℕ → Option A) → List ℕ → A → Type 0
+IsReadByFunction f content value = attribute_line_read f content ≡ Some value

@@ -28,8 +28,8 @@ abbrev pub MayBeWrittenAgain : Sdp → Type 0
 MayBeWrittenAgain sdp = AllByRecursion SectionFitsAgain sdp.media_lines
 
 -- some text is read so
-abbrev pub IsRead : Sdp → Type 0
-IsRead sdp = (text : List ℕ) × (rest : List ℕ) × IsUtf8 text × Reading text (sdp, rest)
+abbrev pub IsSomeTextRead : Sdp → Type 0
+IsSomeTextRead sdp = (text : List ℕ) × (rest : List ℕ) × IsUtf8 text × Reading text (sdp, rest)
 
 -- there is a section there, over Srtp
 abbrev pub IsOverSrtp : Sdp → ℕ → Type 0

@@ -4,7 +4,7 @@ use Rattle.str0m_formats.specs.declared.format.format_param.FormatParam.TheVaria
 use Rattle.str0m_formats.specs.format.PairsReading.{params_read}
 use Rattle.str0m_sdp.specs.declared.label.TheConstants as label
 use Rattle.str0m_signal.specs.Prelude.{FormatParam, before, cut, is_rest, lacks, num, strip, when, ◌<|>◌, ◌>>=◌}
-use Rattle.str0m_signal.specs.form.FormReading.{behind, digits_read, two_read, parted_read}
+use Rattle.str0m_signal.specs.form.FormReading.{behind_label_read, digits_read, two_pieces_read, parted_piece_read}
 
 -- the value of an fmtp pair, which ends at `;`, space or tab, and what follows it
 abbrev pub fmtp_value_read : List ℕ → Option (List ℕ × List ℕ)
@@ -23,8 +23,8 @@ abbrev pub NoneEnds : List ℕ → ℕ → Type 0
 NoneEnds text n = (k : ℕ) → k < n → ends_value (get_or text k 0) ≡ false
 
 -- a value ends at the n-th character or at the end of the text, and at none before
-abbrev pub IsValueEnd : List ℕ → ℕ → Type 0
-IsValueEnd text n = (n ≤ length text) × NoneEnds text n × (n < length text → ends_value (get_or text n 0) ≡ true)
+abbrev pub IsFmtpValueEnd : List ℕ → ℕ → Type 0
+IsFmtpValueEnd text n = (n ≤ length text) × NoneEnds text n × (n < length text → ends_value (get_or text n 0) ≡ true)
 
 -- whether a character is a space or a tab
 abbrev pub is_blank : ℕ → Bool
@@ -43,8 +43,8 @@ fmtp_next_read text = if is_rest text then (strip (codes ";") text >>= λ t. Som
 abbrev pub fmtp_key_read : List ℕ → Option (List ℕ)
 fmtp_key_read text = if lacks 32 text then (if lacks 9 text then when (is_rest text) text else None) else None
 
-abbrev pub pair_read : List ℕ → Option ((List ℕ × List ℕ) × Option (List ℕ))
-pair_read text = do
+abbrev pub fmtp_pair_read : List ℕ → Option ((List ℕ × List ℕ) × Option (List ℕ))
+fmtp_pair_read text = do
   fields ← cut 61 text
   key ← fmtp_key_read fields.0
   value ← fmtp_value_read fields.1
@@ -52,47 +52,47 @@ pair_read text = do
   Some ((key, value.0), next)
 
 -- one pair, and those that are read of what follows
-abbrev pub pairs_after : (List ℕ → Option (List (List ℕ × List ℕ))) → List ℕ × List ℕ → Option (List ℕ) → Option (List (List ℕ × List ℕ))
-pairs_after read pair None = Some (pair ∷ [])
-pairs_after read pair (Some more) = read more >>= λ pairs. Some (pair ∷ pairs)
+abbrev pub fmtp_pairs_after : (List ℕ → Option (List (List ℕ × List ℕ))) → List ℕ × List ℕ → Option (List ℕ) → Option (List (List ℕ × List ℕ))
+fmtp_pairs_after read pair None = Some (pair ∷ [])
+fmtp_pairs_after read pair (Some more) = read more >>= λ pairs. Some (pair ∷ pairs)
 
 -- the pairs of a text of fewer than n characters, where f reads the first and what follows it
-unfoldable pub pairs_at : (List ℕ → Option ((List ℕ × List ℕ) × Option (List ℕ))) → ℕ → List ℕ → Option (List (List ℕ × List ℕ))
-pairs_at f zero text = None
-pairs_at f (suc n) text = f text >>= λ p. pairs_after (pairs_at f n) p.0 p.1
+unfoldable pub fmtp_pairs_at : (List ℕ → Option ((List ℕ × List ℕ) × Option (List ℕ))) → ℕ → List ℕ → Option (List (List ℕ × List ℕ))
+fmtp_pairs_at f zero text = None
+fmtp_pairs_at f (suc n) text = f text >>= λ p. fmtp_pairs_after (fmtp_pairs_at f n) p.0 p.1
 
-abbrev pub one_by_one : (List ℕ → Option ((List ℕ × List ℕ) × Option (List ℕ))) → List ℕ → Option (List (List ℕ × List ℕ))
-one_by_one f text = pairs_at f (suc (length text)) text
+abbrev pub fmtp_one_by_one : (List ℕ → Option ((List ℕ × List ℕ) × Option (List ℕ))) → List ℕ → Option (List (List ℕ × List ℕ))
+fmtp_one_by_one f text = fmtp_pairs_at f (suc (length text)) text
 
-abbrev pub pairs_read : List ℕ → Option (List (List ℕ × List ℕ))
-pairs_read = one_by_one pair_read
+abbrev pub fmtp_pairs_read : List ℕ → Option (List (List ℕ × List ℕ))
+fmtp_pairs_read = fmtp_one_by_one fmtp_pair_read
 
-abbrev pub pairs_form_read : List ℕ → Option (List FormatParam)
-pairs_form_read more = do
+abbrev pub fmtp_pairs_form_read : List ℕ → Option (List FormatParam)
+fmtp_pairs_form_read more = do
   text ← strip (codes " ") more
-  pairs ← pairs_read (skip_blanks text)
+  pairs ← fmtp_pairs_read (skip_blanks text)
   Some (params_read pairs)
 
 -- the first of two or more numbers that are parted by `/`
-abbrev pub first_number_read : List ℕ → Option ℕ
-first_number_read text = two_read 47 (num 255) (parted_read 47 (num 255)) text >>= λ numbers. Some numbers.0
+abbrev pub fmtp_first_number_read : List ℕ → Option ℕ
+fmtp_first_number_read text = two_pieces_read 47 (num 255) (parted_piece_read 47 (num 255)) text >>= λ numbers. Some numbers.0
 
 -- where a range from 0 on ends
-abbrev pub range_read : List ℕ → Option ℕ
-range_read text = strip (codes "0-") text >>= digits_read 255
+abbrev pub fmtp_range_read : List ℕ → Option ℕ
+fmtp_range_read text = strip (codes "0-") text >>= digits_read 255
 
-abbrev pub list_form_read : List ℕ → Option (List FormatParam)
-list_form_read more = behind (codes " ") first_number_read more >>= λ first. Some (BarePtList first ∷ [])
+abbrev pub fmtp_list_form_read : List ℕ → Option (List FormatParam)
+fmtp_list_form_read more = behind_label_read (codes " ") fmtp_first_number_read more >>= λ first. Some (BarePtList first ∷ [])
 
-abbrev pub range_form_read : List ℕ → Option (List FormatParam)
-range_form_read more = behind (codes " ") range_read more >>= λ last. Some (BareRange last ∷ [])
+abbrev pub fmtp_range_form_read : List ℕ → Option (List FormatParam)
+fmtp_range_form_read more = behind_label_read (codes " ") fmtp_range_read more >>= λ last. Some (BareRange last ∷ [])
 
 -- what isn't pairs
-abbrev pub bare_read : List ℕ → Option (List FormatParam)
-bare_read more = list_form_read more <|> (range_form_read more <|> Some (Unknown ∷ []))
+abbrev pub fmtp_bare_read : List ℕ → Option (List FormatParam)
+fmtp_bare_read more = fmtp_list_form_read more <|> (fmtp_range_form_read more <|> Some (Unknown ∷ []))
 
 abbrev pub fmtp_values_read : List ℕ → Option (List FormatParam)
-fmtp_values_read more = pairs_form_read more <|> bare_read more
+fmtp_values_read more = fmtp_pairs_form_read more <|> fmtp_bare_read more
 
 abbrev pub fmtp_fields_read : List ℕ → Option (ℕ × List FormatParam)
 fmtp_fields_read text = do

@@ -3,34 +3,34 @@ use Rattle.std.specs.Prelude.{◌≡◌, ℕ, List, [], ◌∷◌}
 use Rattle.str0m_sdp.specs.declared.attribute.setup.Setup.{Setup}
 use Rattle.str0m_sdp.specs.declared.label.TheConstants as label
 use Rattle.str0m_signal.specs.Prelude.{Candidate, Fingerprint, IsCandidateText, candidate_read, setup_text}
-use Rattle.str0m_signal.specs.form.FormTable.{Piece, Form, own, a_text, two, parted, labelled}
+use Rattle.str0m_signal.specs.form.FormTable.{Piece, Form, own_form, text_piece, two_pieces, parted_piece, labelled_form}
 use Rattle.str0m_signal.specs.form.MediaAttributeReading.{role_read}
 use Rattle.str0m_signal.specs.line.Words.{IsHexPair}
 use Rattle.str0m_signal.specs.line.WordsReading.{hex_pair_read}
 use Rattle.str0m_values.specs.declared.candidate_label.TheConstants as candidate_label
 
 -- the credentials of ICE and its options (RFC 8839, sections 5.4 and 5.6)
-abbrev pub ice_texts : {A : Type 0} → (List ℕ → A) → (List ℕ → A) → (List ℕ → A) → List (List ℕ × (List ℕ → A))
-ice_texts ufrag pwd options =
+abbrev pub ice_text_forms : {A : Type 0} → (List ℕ → A) → (List ℕ → A) → (List ℕ → A) → List (List ℕ × (List ℕ → A))
+ice_text_forms ufrag pwd options =
     (label.ICE_UFRAG.now, ufrag)
     ∷ (label.ICE_PWD.now, pwd)
     ∷ (label.ICE_OPTIONS.now, options)
     ∷ []
 
 -- a candidate's text has its own label (RFC 8839, section 5.1)
-abbrev pub candidate : Form Candidate
-candidate = own candidate_label.CANDIDATE.now IsCandidateText candidate_read
+abbrev pub candidate_form : Form Candidate
+candidate_form = own_form candidate_label.CANDIDATE.now IsCandidateText candidate_read
 
 abbrev pub hex_piece : Piece ℕ
 hex_piece = record { Is = IsHexPair; read = hex_pair_read }
 
 -- a word SP bytes, each as two hexadecimal digits, with `:` between each two (RFC 8122, section 5)
-abbrev pub fingerprint : Form Fingerprint
-fingerprint = labelled label.FINGERPRINT.now (two 32 a_text (parted 58 hex_piece)) (λ hash. record { hash_func = hash.0; bytes = hash.1 })
+abbrev pub fingerprint_form : Form Fingerprint
+fingerprint_form = labelled_form label.FINGERPRINT.now (two_pieces 32 text_piece (parted_piece 58 hex_piece)) (λ hash. record { hash_func = hash.0; bytes = hash.1 })
 
-abbrev pub role : Piece Setup
-role = record { Is = λ text setup. text ≡ setup_text setup; read = role_read }
+abbrev pub role_piece : Piece Setup
+role_piece = record { Is = λ text setup. text ≡ setup_text setup; read = role_read }
 
 -- (RFC 8842, section 5.2)
-abbrev pub setup : {A : Type 0} → (Setup → A) → Form A
-setup make = labelled label.SETUP.now role make
+abbrev pub setup_form : {A : Type 0} → (Setup → A) → Form A
+setup_form make = labelled_form label.SETUP.now role_piece make

@@ -5,8 +5,8 @@ use Rattle.str0m_sdp.specs.declared.label.TheConstants as label
 use Rattle.str0m_signal.specs.Prelude.{FirstFit, IsLongestBeginning, IsRest, MediaAttribute, beginning_of, is_rest, media_words, when, ◌<|>◌}
 use Rattle.str0m_signal.specs.form.Fmtp.{IsFmtp}
 use Rattle.str0m_signal.specs.form.FmtpReading.{fmtp_fields_read}
-use Rattle.str0m_signal.specs.form.FormTable.{Piece, Form, own, a_text, number, two, tailed, parted, labelled, made_as, any, any_word, texts, pairs, IsUnused, unused_read, first_byte, by_letter}
-use Rattle.str0m_signal.specs.form.FormTransport.{ice_texts, candidate, fingerprint, setup}
+use Rattle.str0m_signal.specs.form.FormTable.{Piece, Form, own_form, text_piece, number_piece, two_pieces, tailed_piece, parted_piece, labelled_form, form_made_as, any_form, any_word_form, text_forms, pair_forms, IsUnusedForm, unused_form_read, first_byte, by_form_letter}
+use Rattle.str0m_signal.specs.form.FormTransport.{ice_text_forms, candidate_form, fingerprint_form, setup_form}
 use Rattle.str0m_signal.specs.form.Rid.{IsRid}
 use Rattle.str0m_signal.specs.form.RidReading.{rid_fields_read}
 use Rattle.str0m_signal.specs.form.RtpMap.{IsRtpMap}
@@ -16,95 +16,95 @@ use Rattle.str0m_signal.specs.form.SimulcastReading.{simulcast_fields_read}
 use Rattle.str0m_signal.specs.line.Lines.{IsAttributeLine}
 
 abbrev pub media_texts : List (List ℕ × (List ℕ → MediaAttribute))
-media_texts = ice_texts IceUfrag IcePwd IceOptions
+media_texts = ice_text_forms IceUfrag IcePwd IceOptions
 
 abbrev pub media_pairs : List (List ℕ × (List ℕ × List ℕ → MediaAttribute))
 media_pairs = (label.MSID.now, λ p. Msid (record { stream_id = p.0; track_id = p.1 })) ∷ []
 
-abbrev pub rtcp : Form MediaAttribute
-rtcp = labelled label.RTCP.now a_text Rtcp
+abbrev pub media_rtcp : Form MediaAttribute
+media_rtcp = labelled_form label.RTCP.now text_piece Rtcp
 
 -- a name, as far as it is kept
-abbrev pub name : Piece (List ℕ)
-name = record { Is = λ text mid. IsRest text × IsLongestBeginning 16 text mid; read = λ text. when (is_rest text) (beginning_of 16 text) }
+abbrev pub name_piece : Piece (List ℕ)
+name_piece = record { Is = λ text mid. IsRest text × IsLongestBeginning 16 text mid; read = λ text. when (is_rest text) (beginning_of 16 text) }
 
-abbrev pub mid : Form MediaAttribute
-mid = labelled label.MID.now name Mid
+abbrev pub media_mid : Form MediaAttribute
+media_mid = labelled_form label.MID.now name_piece Mid
 
-abbrev pub sctp_port : Form MediaAttribute
-sctp_port = labelled label.SCTP_PORT.now (number 65535) SctpPort
+abbrev pub media_sctp_port : Form MediaAttribute
+media_sctp_port = labelled_form label.SCTP_PORT.now (number_piece 65535) SctpPort
 
-abbrev pub max_message_size : Form MediaAttribute
-max_message_size = labelled label.MAX_MESSAGE_SIZE.now (number 18446744073709551615) MaxMessageSize
+abbrev pub media_max_message_size : Form MediaAttribute
+media_max_message_size = labelled_form label.MAX_MESSAGE_SIZE.now (number_piece 18446744073709551615) MaxMessageSize
 
-abbrev pub sctp_init : Form MediaAttribute
-sctp_init = labelled label.SCTP_INIT.now a_text SctpInit
+abbrev pub media_sctp_init : Form MediaAttribute
+media_sctp_init = labelled_form label.SCTP_INIT.now text_piece SctpInit
 
-abbrev pub ext_map : Form MediaAttribute
-ext_map =
-    labelled label.EXTMAP.now (two 32 (tailed 47 (number 255)) (tailed 32 a_text)) (λ p. ExtMap p.0 (record { uri = p.1; serialized = true }))
+abbrev pub media_ext_map : Form MediaAttribute
+media_ext_map =
+    labelled_form label.EXTMAP.now (two_pieces 32 (tailed_piece 47 (number_piece 255)) (tailed_piece 32 text_piece)) (λ p. ExtMap p.0 (record { uri = p.1; serialized = true }))
 
-abbrev pub rtpmap : Form MediaAttribute
-rtpmap = made_as (own label.RTPMAP.now (λ text p. IsRtpMap text p.0 p.1) rtpmap_fields_read) (λ p. RtpMap p.0 p.1)
+abbrev pub media_rtpmap : Form MediaAttribute
+media_rtpmap = form_made_as (own_form label.RTPMAP.now (λ text p. IsRtpMap text p.0 p.1) rtpmap_fields_read) (λ p. RtpMap p.0 p.1)
 
-abbrev pub rtcp_fb : Form MediaAttribute
-rtcp_fb = labelled label.RTCP_FB.now (two 32 (number 127) a_text) (λ p. RtcpFb p.0 p.1)
+abbrev pub media_rtcp_fb : Form MediaAttribute
+media_rtcp_fb = labelled_form label.RTCP_FB.now (two_pieces 32 (number_piece 127) text_piece) (λ p. RtcpFb p.0 p.1)
 
-abbrev pub fmtp : Form MediaAttribute
-fmtp = made_as (own label.FMTP.now (λ text p. IsFmtp text p.0 p.1) fmtp_fields_read) (λ p. Fmtp p.0 p.1)
+abbrev pub media_fmtp : Form MediaAttribute
+media_fmtp = form_made_as (own_form label.FMTP.now (λ text p. IsFmtp text p.0 p.1) fmtp_fields_read) (λ p. Fmtp p.0 p.1)
 
-abbrev pub rid : Form MediaAttribute
-rid = labelled label.RID.now (record { Is = IsRid; read = rid_fields_read }) (λ f. Rid f.0 f.1.0 f.1.1.0 f.1.1.1)
+abbrev pub media_rid : Form MediaAttribute
+media_rid = labelled_form label.RID.now (record { Is = IsRid; read = rid_fields_read }) (λ f. Rid f.0 f.1.0 f.1.1.0 f.1.1.1)
 
-abbrev pub simulcast : Form MediaAttribute
-simulcast = labelled label.SIMULCAST.now (record { Is = IsSimulcast; read = simulcast_fields_read }) Simulcast
+abbrev pub media_simulcast : Form MediaAttribute
+media_simulcast = labelled_form label.SIMULCAST.now (record { Is = IsSimulcast; read = simulcast_fields_read }) Simulcast
 
-abbrev pub ssrc_group : Form MediaAttribute
-ssrc_group = labelled label.SSRC_GROUP.now (two 32 a_text (parted 32 (number 4294967295))) (λ p. SsrcGroup p.0 p.1)
+abbrev pub media_ssrc_group : Form MediaAttribute
+media_ssrc_group = labelled_form label.SSRC_GROUP.now (two_pieces 32 text_piece (parted_piece 32 (number_piece 4294967295))) (λ p. SsrcGroup p.0 p.1)
 
-abbrev pub ssrc : Form MediaAttribute
-ssrc = labelled label.SSRC.now (two 32 (number 4294967295) (two 58 a_text a_text)) (λ p. Ssrc p.0 p.1.0 p.1.1)
+abbrev pub media_ssrc : Form MediaAttribute
+media_ssrc = labelled_form label.SSRC.now (two_pieces 32 (number_piece 4294967295) (two_pieces 58 text_piece text_piece)) (λ p. Ssrc p.0 p.1.0 p.1.1)
 
 -- those that are neither a mapping nor a format
 abbrev pub other_forms : List (Form MediaAttribute)
 other_forms =
-    rtcp_fb
-    ∷ ext_map
-    ∷ made_as candidate Candidate
-    ∷ ssrc
-    ∷ setup Setup
-    ∷ ssrc_group
-    ∷ texts media_texts
-    ∷ made_as fingerprint Fingerprint
-    ∷ mid
-    ∷ pairs media_pairs
-    ∷ rid
-    ∷ rtcp
-    ∷ simulcast
-    ∷ sctp_port
-    ∷ max_message_size
-    ∷ sctp_init
-    ∷ any_word media_words
+    media_rtcp_fb
+    ∷ media_ext_map
+    ∷ form_made_as candidate_form Candidate
+    ∷ media_ssrc
+    ∷ setup_form Setup
+    ∷ media_ssrc_group
+    ∷ text_forms media_texts
+    ∷ form_made_as fingerprint_form Fingerprint
+    ∷ media_mid
+    ∷ pair_forms media_pairs
+    ∷ media_rid
+    ∷ media_rtcp
+    ∷ media_simulcast
+    ∷ media_sctp_port
+    ∷ media_max_message_size
+    ∷ media_sctp_init
+    ∷ any_word_form media_words
     ∷ []
 
 -- each attribute but `Unused`
 abbrev pub media_forms : List (Form MediaAttribute)
-media_forms = rtpmap ∷ fmtp ∷ other_forms
+media_forms = media_rtpmap ∷ media_fmtp ∷ other_forms
 
 -- the text stands for the attribute: `Unused` only where no other form holds
 abbrev pub MediaForm : List ℕ → MediaAttribute → Type 0
-MediaForm = FirstFit (any media_forms).Is (IsUnused Unused)
+MediaForm = FirstFit (any_form media_forms).Is (IsUnusedForm Unused)
 
 -- a line of a section is `a=` and the text of an attribute
 abbrev pub IsMediaLine : List ℕ → MediaAttribute → Type 0
 IsMediaLine = IsAttributeLine MediaForm
 
 -- the letters with which labels begin
-abbrev pub letters : List ℕ
-letters = codes "cefimrs"
+abbrev pub label_letters : List ℕ
+label_letters = codes "cefimrs"
 
-abbrev pub named_read : List ℕ → Option MediaAttribute
-named_read text = by_letter letters media_forms (first_byte text) text
+abbrev pub named_media_read : List ℕ → Option MediaAttribute
+named_media_read text = by_form_letter label_letters media_forms (first_byte text) text
 
 abbrev pub media_read : List ℕ → Option MediaAttribute
-media_read text = named_read text <|> unused_read Unused text
+media_read text = named_media_read text <|> unused_form_read Unused text

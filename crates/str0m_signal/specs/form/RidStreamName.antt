@@ -8,15 +8,15 @@ use Rattle.unicode.specs.Binary.{is_alphabetic}
 use Rattle.unicode.specs.GeneralCategory.{general_category}
 
 -- the categories Nd, Nl and No
-abbrev pub is_number : GeneralCategory → Bool
-is_number DecimalNumber = true
-is_number LetterNumber = true
-is_number OtherNumber = true
-is_number _ = false
+abbrev pub is_number_character : GeneralCategory → Bool
+is_number_character DecimalNumber = true
+is_number_character LetterNumber = true
+is_number_character OtherNumber = true
+is_number_character _ = false
 
 -- a letter or a number of any script
 unfoldable pub is_name_character : ℕ → Bool
-is_name_character c = is_alphabetic c || is_number (general_category c)
+is_name_character c = is_alphabetic c || is_number_character (general_category c)
 
 -- one or more letters and numbers; no space, comma, semicolon and tilde
 pub record IsStreamName (text : List ℕ) : Type 0 where

@@ -4,18 +4,18 @@ use Rattle.str0m_sdp.specs.declared.attribute.rtp_map.RtpMap.{RtpMap as Mapping}
 use Rattle.str0m_sdp.specs.declared.label.TheConstants as label
 use Rattle.str0m_signal.specs.Prelude.{codec_of, cut, is_rest, num, strip, when, ◌>>=◌}
 
-abbrev pub frequency_read : List ℕ → Option ℕ
-frequency_read text = do
+abbrev pub mapping_frequency_read : List ℕ → Option ℕ
+mapping_frequency_read text = do
   hertz ← num 4294967295 text
   when (nat_lt 0 hertz) hertz
 
 -- the clock rate and the channels, where the text was cut at `/` if it has one
-abbrev pub clock_read : List ℕ → Option (List ℕ × List ℕ) → Option (ℕ × Option ℕ)
-clock_read text None = do
-  hertz ← frequency_read text
+abbrev pub mapping_clock_read : List ℕ → Option (List ℕ × List ℕ) → Option (ℕ × Option ℕ)
+mapping_clock_read text None = do
+  hertz ← mapping_frequency_read text
   Some (hertz, None)
-clock_read text (Some parts) = do
-  hertz ← frequency_read parts.0
+mapping_clock_read text (Some parts) = do
+  hertz ← mapping_frequency_read parts.0
   channels ← num 255 parts.1
   Some (hertz, Some channels)
 
@@ -23,7 +23,7 @@ abbrev pub mapping_read : List ℕ → Option Mapping
 mapping_read text = do
   codec ← cut 47 text
   name ← when (is_rest codec.0) codec.0
-  clock ← clock_read codec.1 (cut 47 codec.1)
+  clock ← mapping_clock_read codec.1 (cut 47 codec.1)
   Some (record { codec = codec_of name; clock_rate = clock.0; channels = clock.1 })
 
 abbrev pub rtpmap_fields_read : List ℕ → Option (ℕ × Mapping)

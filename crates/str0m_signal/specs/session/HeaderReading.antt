@@ -6,11 +6,11 @@ use Rattle.str0m_signal.specs.line.Lines.{Line}
 use Rattle.str0m_signal.specs.line.LinesReading.{line_read}
 use Rattle.str0m_signal.specs.session.SectionReading.{field_read}
 
-abbrev pub exact_read : List ℕ → List ℕ → Option (List ℕ)
-exact_read word content = when (bytes_eq content word) word
+abbrev pub exact_line_read : List ℕ → List ℕ → Option (List ℕ)
+exact_line_read word content = when (bytes_eq content word) word
 
-abbrev pub origin_read : List ℕ → Option ℕ
-origin_read content = do
+abbrev pub header_origin_read : List ℕ → Option ℕ
+header_origin_read content = do
   body ← strip (codes "o=") content
   name ← cut 32 body
   word ← when (is_rest name.0) name.0
@@ -19,16 +19,16 @@ origin_read content = do
   more ← when (is_rest number.1) number.1
   Some id
 
-abbrev pub one_field_read : List (List ℕ) → List ℕ → Option (List ℕ)
-one_field_read [] content = None
-one_field_read (letter ∷ letters) content = field_read letter content <|> one_field_read letters content
+abbrev pub header_field_read : List (List ℕ) → List ℕ → Option (List ℕ)
+header_field_read [] content = None
+header_field_read (letter ∷ letters) content = field_read letter content <|> header_field_read letters content
 
-abbrev pub info_read : List ℕ → Option (List ℕ)
-info_read content = one_field_read (codes "i=" ∷ codes "u=" ∷ codes "e=" ∷ codes "p=" ∷ codes "c=" ∷ codes "z=" ∷ codes "k=" ∷ []) content
+abbrev pub header_info_read : List ℕ → Option (List ℕ)
+header_info_read content = header_field_read (codes "i=" ∷ codes "u=" ∷ codes "e=" ∷ codes "p=" ∷ codes "c=" ∷ codes "z=" ∷ codes "k=" ∷ []) content
 
-abbrev pub opening_read : List Line → Option (ℕ × List Line)
-opening_read lines = do
-  version ← line_read (exact_read (codes "v=0")) lines
-  origin ← line_read origin_read version.1
+abbrev pub header_opening_read : List Line → Option (ℕ × List Line)
+header_opening_read lines = do
+  version ← line_read (exact_line_read (codes "v=0")) lines
+  origin ← line_read header_origin_read version.1
   name ← line_read (field_read (codes "s=")) origin.1
   Some (origin.0, name.1)

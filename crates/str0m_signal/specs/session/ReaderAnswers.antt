@@ -5,8 +5,8 @@ use Rattle.str0m_sdp.specs.declared.session.error.SdpError.{SdpError}
 use Rattle.str0m_sdp.specs.declared.session.error.SdpError.TheVariants.{ParseError, Inconsistent, Memory}
 
 -- a value, and the bytes that are left
-abbrev pub unread : {X : Type 0} → X × Bor (List ℕ) → X × List ℕ
-unread x = (x.0, x.1.now)
+abbrev pub unread_rest : {X : Type 0} → X × Bor (List ℕ) → X × List ℕ
+unread_rest x = (x.0, x.1.now)
 
 -- a ParseError comes only where no value has P; memory aside
 abbrev pub Refuses : {V : Type 0} → SdpError → (V → Type 0) → Type 0

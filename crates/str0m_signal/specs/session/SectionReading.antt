@@ -5,8 +5,8 @@ use Rattle.str0m_sdp.specs.declared.attribute.media_type.MediaType.TheVariants.{
 use Rattle.str0m_sdp.specs.declared.attribute.proto.Proto.TheVariants.{Srtp, Sctp}
 use Rattle.str0m_sdp.specs.declared.label.TheConstants.{AUDIO, VIDEO, APPLICATION, SRTP, SCTP, OLD_SCTP}
 use Rattle.str0m_signal.specs.Prelude.{Bandwidth, MediaLine, MediaType, Proto, cut, is_rest, num, strip, when, ◌<|>◌, ◌>>=◌}
-use Rattle.str0m_signal.specs.form.FormReading.{parted_read}
-use Rattle.str0m_signal.specs.line.Lines.{OneLine, Stops}
+use Rattle.str0m_signal.specs.form.FormReading.{parted_piece_read}
+use Rattle.str0m_signal.specs.line.Lines.{OneLine, StopsLines}
 use Rattle.str0m_signal.specs.line.LinesReading.{lines_of}
 use Rattle.str0m_signal.specs.session.Section.{Head, IsHead, IsSection}
 
@@ -23,8 +23,8 @@ bandwidth_read content = do
   val ← when (is_rest fields.1) fields.1
   Some (record { typ = typ; val = val })
 
-abbrev pub unknown_read : List ℕ → Option MediaType
-unknown_read text =
+abbrev pub unknown_kind_read : List ℕ → Option MediaType
+unknown_kind_read text =
     if is_some (strip AUDIO.now text) then None
     else if is_some (strip VIDEO.now text) then None
     else if is_some (strip APPLICATION.now text) then None
@@ -35,7 +35,7 @@ media_kind_read text =
     when (bytes_eq text AUDIO.now) Audio
     <|> when (bytes_eq text VIDEO.now) Video
     <|> when (bytes_eq text APPLICATION.now) Application
-    <|> unknown_read text
+    <|> unknown_kind_read text
 
 abbrev pub proto_read : List ℕ → Option Proto
 proto_read text =
@@ -45,7 +45,7 @@ proto_read text =
 
 -- numbers parted by spaces
 abbrev pub numbers_read : List ℕ → Option (List ℕ)
-numbers_read = parted_read 32 (num 255)
+numbers_read = parted_piece_read 32 (num 255)
 
 abbrev pub no_types_read : List ℕ → Option (List ℕ)
 no_types_read text = if is_some (strip (codes " ") text) then None else Some []
@@ -67,5 +67,5 @@ head_read content = do
 
 -- the section that stands next, or that no m-line does
 abbrev pub NextSection : List ℕ → Option (MediaLine × Bor (List ℕ)) → Type 0
-NextSection text None = Stops (OneLine IsHead) (lines_of text)
+NextSection text None = StopsLines (OneLine IsHead) (lines_of text)
 NextSection text (Some x) = IsSection (lines_of text) x.0 (lines_of x.1.now)

@@ -2,9 +2,9 @@
 
 ghost use Rattle.std.specs.Prelude.{◌≡◌, ◌∷◌, ◌++◌, ◌↔◌, ◌&&◌, [], ℕ, List, Some, IfOk, IsTrue, option_copied};
 ghost use Rattle.str0m_signal.specs.Prelude.{IsTheOnly, Lacks, lacks, line_end};
-ghost use Rattle.str0m_signal.specs.back.Writable.{AreReadAs, IsPrintedAs, IsReadBy, PutsBack};
+ghost use Rattle.str0m_signal.specs.back.Writable.{AreReadAs, IsPrintedAs, IsReadByFunction, PutsBackAfter};
 
-use crate::session::attributes::{Attribute, line, taken_result};
+use crate::session::attributes::{Attribute, put_taken_result, read_attribute_line};
 use std::alloc::{AllocError, Global};
 use std::fmt;
 use str0m_values::cuts::has;
@@ -33,7 +33,7 @@ fn has_no_end(line: &str) -> bool
 }
 
 /// The line without its end, where the text is one whole line.
-pub(crate) fn content(text: &str) -> Option<&str>
+pub(crate) fn line_content(text: &str) -> Option<&str>
     ensures { IsTheOnly (λ line. (text.now ≡ line ++ line_end) × Lacks 10 line × Lacks 13 line) (option_copied result) }
 {
     let line = text.strip_suffix("\r\n")?;
@@ -41,7 +41,7 @@ pub(crate) fn content(text: &str) -> Option<&str>
 }
 
 /// What was read, where it goes with the attribute.
-fn fitting<A: ReadBack>(attr: &A, read: Option<A>) -> Option<A>
+fn fitting_attribute<A: ReadBack>(attr: &A, read: Option<A>) -> Option<A>
     ensures { IsTheOnly (λ fit. (read ≡ Some fit) × A.GoesWith attr.now fit) result }
 {
     match read {
@@ -52,10 +52,10 @@ fn fitting<A: ReadBack>(attr: &A, read: Option<A>) -> Option<A>
 
 /// What the attribute's line is read as, where it goes with the attribute.
 fn line_back<A: ReadBack>(alloc: Global, attr: &A, text: &str) -> Result<Option<A>, AllocError>
-    ensures { IfOk result (IsTheOnly (λ read. IsPrintedAs (IsReadBy A.reading) text.now read × A.GoesWith attr.now read)) }
+    ensures { IfOk result (IsTheOnly (λ read. IsPrintedAs (IsReadByFunction A.reading) text.now read × A.GoesWith attr.now read)) }
 {
-    match content(text) {
-        Some(content) => Ok(fitting(attr, line(alloc, content)?)),
+    match line_content(text) {
+        Some(content) => Ok(fitting_attribute(attr, read_attribute_line(alloc, content)?)),
         None => Ok(None),
     }
 }
@@ -67,12 +67,12 @@ fn text_back<A: ReadBack>(
     text: &str,
     reads: &mut Vec<A>,
 ) -> Result<bool, AllocError>
-    ensures { IfOk result (PutsBack (AreReadAs (λ _. text.now) (IsReadBy A.reading) A.GoesWith (attr.now ∷ [])) reads.old.items reads.new.items) }
+    ensures { IfOk result (PutsBackAfter (AreReadAs (λ _. text.now) (IsReadByFunction A.reading) A.GoesWith (attr.now ∷ [])) reads.old.items reads.new.items) }
 {
     if text.is_empty() {
         return Ok(true);
     }
-    taken_result(line_back(alloc, attr, text), reads)
+    put_taken_result(line_back(alloc, attr, text), reads)
 }
 
 /// Puts what the attribute comes back as, once it is printed and read, after the others; whether it comes back.
@@ -81,7 +81,7 @@ fn item_back<A: ReadBack + PrintedBack>(
     attr: &A,
     reads: &mut Vec<A>,
 ) -> Result<bool, AllocError>
-    ensures { IfOk result (PutsBack (AreReadAs A.text (IsReadBy A.reading) A.GoesWith (attr.now ∷ [])) reads.old.items reads.new.items) }
+    ensures { IfOk result (PutsBackAfter (AreReadAs A.text (IsReadByFunction A.reading) A.GoesWith (attr.now ∷ [])) reads.old.items reads.new.items) }
 {
     let text = attr.to_string(alloc)?;
     text_back(alloc, attr, text.as_str(), reads)
@@ -92,7 +92,7 @@ pub(crate) fn read_back<A: ReadBack + PrintedBack>(
     alloc: Global,
     attrs: &[A],
 ) -> Result<Option<Items<A>>, AllocError>
-    ensures { IfOk result (IsTheOnly (AreReadAs A.text (IsReadBy A.reading) A.GoesWith attrs.now)) }
+    ensures { IfOk result (IsTheOnly (AreReadAs A.text (IsReadByFunction A.reading) A.GoesWith attrs.now)) }
 {
     let mut reads = Vec::new(alloc);
     for attr in attrs {

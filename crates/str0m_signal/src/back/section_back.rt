@@ -3,12 +3,12 @@
 ghost use Rattle.std.specs.List.{list_any};
 ghost use Rattle.std.specs.Prelude.{◌≡◌, ◌↔◌, IfOk, IfSome, IsTrue, option_map};
 ghost use Rattle.str0m_signal.specs.Prelude.{Consistent, IsTheOnly, MediaLine, bandwidth_text, is_of_type};
-ghost use Rattle.str0m_signal.specs.back.Writable.{HasTypes, IsFrame, IsPrintedAs, IsMediaReadAs, frame_of};
+ghost use Rattle.str0m_signal.specs.back.Writable.{HeadHasTypes, IsFrame, IsPrintedAs, IsMediaReadAs, frame_of};
 ghost use Rattle.str0m_signal.specs.line.Heads.{media_head};
 ghost use Rattle.str0m_signal.specs.session.Section.{IsBandwidth, IsHead};
 
 use crate::back::attributes_back::media_back;
-use crate::back::read_back::content;
+use crate::back::read_back::line_content;
 use crate::line::heads::{MediaHead, head};
 use crate::session::bandwidth::bandwidth;
 use std::alloc::{AllocError, Global};
@@ -19,7 +19,7 @@ use str0m_values::{Items, Pt};
 fn head_back(alloc: Global, text: &str) -> Result<Option<MediaHead>, AllocError>
     ensures { IfOk result (λ found. IsTheOnly (IsPrintedAs IsHead text.now) (option_map media_head found)) }
 {
-    match content(text) {
+    match line_content(text) {
         Some(line) => head(alloc, line),
         None => Ok(None),
     }
@@ -29,7 +29,7 @@ fn head_back(alloc: Global, text: &str) -> Result<Option<MediaHead>, AllocError>
 fn bandwidth_line_back(alloc: Global, text: &str) -> Result<Option<Bandwidth>, AllocError>
     ensures { IfOk result (IsTheOnly (IsPrintedAs IsBandwidth text.now)) }
 {
-    match content(text) {
+    match line_content(text) {
         Some(line) => bandwidth(alloc, line),
         None => Ok(None),
     }
@@ -59,7 +59,7 @@ pub(crate) fn bandwidth_comes_back(
 }
 
 /// Whether the m-line says of the section what it is, but for its payload types.
-fn says_same(head: &MediaHead, section: &MediaLine) -> bool
+fn head_says_same(head: &MediaHead, section: &MediaLine) -> bool
     ensures { IsTrue result ↔ (head.now.typ ≡ section.now.typ) × (head.now.disabled ≡ section.now.disabled) × (head.now.proto ≡ section.now.proto) }
 {
     head.typ == section.typ && head.disabled == section.disabled && head.proto == section.proto
@@ -68,17 +68,17 @@ fn says_same(head: &MediaHead, section: &MediaLine) -> bool
 /// The payload types of the m-line as it is read, where it says the same of all else; `None` where
 /// it doesn't.
 fn pts_back(alloc: Global, section: &MediaLine) -> Result<Option<Items<Pt>>, AllocError>
-    ensures { IfOk result (IsTheOnly (HasTypes section.now)) }
+    ensures { IfOk result (IsTheOnly (HeadHasTypes section.now)) }
 {
     let text = section.m_line()?;
     match head_back(alloc, text.as_str())? {
-        Some(head) if says_same(&head, section) => Ok(Some(head.pts)),
+        Some(head) if head_says_same(&head, section) => Ok(Some(head.pts)),
         _ => Ok(None),
     }
 }
 
 /// A copy of the section with other types and attributes: its own, which may be many, aren't copied.
-fn section_with(
+fn section_with_types(
     section: &MediaLine,
     pts: Items<Pt>,
     attrs: Items<MediaAttribute>,
@@ -114,12 +114,12 @@ fn section_back(
     let Some(attrs) = media_back(alloc, attrs)? else {
         return Ok(None);
     };
-    let read = section_with(section, pts, attrs)?;
+    let read = section_with_types(section, pts, attrs)?;
     Ok(Some(read))
 }
 
 /// Whether the section is read of its lines, and consistent then.
-pub(crate) fn comes_back(alloc: Global, section: &MediaLine) -> Result<bool, AllocError>
+pub(crate) fn section_comes_back(alloc: Global, section: &MediaLine) -> Result<bool, AllocError>
     ensures { IfOk result (λ answer. IsTrue answer ↔ ((read : MediaLine) × IsMediaReadAs section.now read × Consistent read)) }
 {
     match section_back(alloc, section, section.attrs.as_slice())? {

@@ -4,12 +4,12 @@ ghost use Rattle.std.specs.Prelude.{◌≡◌, ◌≢◌, ◌↔◌, ℕ, List, 
 ghost use Rattle.str0m_signal.specs.Prelude.{Consistent, MediaLine, PayloadParams, SessionAttribute, bandwidth_text, session_attribute_text};
 ghost use Rattle.str0m_signal.specs.back.ReadBack.{MayBePrinted, ReadsBack};
 ghost use Rattle.str0m_signal.specs.back.Writable.{AreReadAs, IsPrintedAs, IsMediaReadAs, SessionGoesWith, Writable};
-ghost use Rattle.str0m_signal.specs.back.WritableAgain.{IsOverSrtp, IsRead, MayBeWrittenAgain};
+ghost use Rattle.str0m_signal.specs.back.WritableAgain.{IsOverSrtp, IsSomeTextRead, MayBeWrittenAgain};
 ghost use Rattle.str0m_signal.specs.form.SessionAttribute.{IsSessionLine};
 ghost use Rattle.str0m_signal.specs.session.Section.{IsBandwidth};
 
 use crate::back::attributes_back::session_back;
-use crate::back::section_back::{bandwidth_comes_back, comes_back, frame_comes_back};
+use crate::back::section_back::{bandwidth_comes_back, frame_comes_back, section_comes_back};
 use std::alloc::{AllocError, Global};
 use str0m_sdp::{MediaLine, Sdp, Session};
 
@@ -31,7 +31,7 @@ fn others_come_back(alloc: Global, sections: &[MediaLine], own: usize) -> Result
         → (read : MediaLine) × IsMediaReadAs m read × Consistent read)) }
 {
     for (i, section) in sections.iter().enumerate() {
-        if i != own && !comes_back(alloc, section)? {
+        if i != own && !section_comes_back(alloc, section)? {
             return Ok(false);
         }
     }
@@ -72,8 +72,8 @@ fn surroundings_come_back(sdp: &Sdp, section: usize) -> Result<bool, AllocError>
 /// The only error is that memory was refused. Nothing is changed.
 pub fn is_writable(sdp: &Sdp, section: usize) -> Result<bool, AllocError>
     ensures exact { IfOk result (λ answer. IsTrue answer ↔ Writable sdp.now section) }
-    ensures read_is_writable { IsRead sdp.now → MayBeWrittenAgain sdp.now → IsOverSrtp sdp.now section → Writable sdp.now section }
-    ensures of_reading { IfOk result (λ answer. IsRead sdp.now → MayBeWrittenAgain sdp.now → IsOverSrtp sdp.now section → IsTrue answer) }
+    ensures read_is_writable { IsSomeTextRead sdp.now → MayBeWrittenAgain sdp.now → IsOverSrtp sdp.now section → Writable sdp.now section }
+    ensures of_reading { IfOk result (λ answer. IsSomeTextRead sdp.now → MayBeWrittenAgain sdp.now → IsOverSrtp sdp.now section → IsTrue answer) }
     ensures read_back { result ≡ Ok true → (rows : List PayloadParams) → MayBePrinted rows → ReadsBack sdp.now section rows }
 {
     surroundings_come_back(sdp, section)

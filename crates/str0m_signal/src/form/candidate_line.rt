@@ -2,7 +2,7 @@
 
 ghost use Rattle.str0m_signal.specs.Prelude.{candidate_read};
 
-use crate::session::attributes::{Attribute, Place, taken};
+use crate::session::attributes::{Attribute, Place, put_taken};
 use std::alloc::{AllocError, Global};
 use str0m_values::Candidate;
 use str0m_values::candidate_text::candidate;
@@ -15,6 +15,6 @@ impl Attribute for Candidate {
         text: &str,
         place: &mut P,
     ) -> Result<bool, AllocError> {
-        taken(candidate(alloc, text)?, place)
+        put_taken(candidate(alloc, text)?, place)
     }
 }

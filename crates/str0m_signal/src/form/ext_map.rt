@@ -1,8 +1,8 @@
 //! Lines of header extensions.
 ghost use Rattle.std.specs.Prelude.{◌≡◌, IfOk, option_map};
 ghost use Rattle.str0m_signal.specs.Prelude.{cut, num, parts};
-ghost use Rattle.str0m_signal.specs.form.FormReading.{text_read, tailed_read};
-ghost use Rattle.str0m_signal.specs.form.MediaAttribute.{ext_map};
+ghost use Rattle.str0m_signal.specs.form.FormReading.{text_piece_read, tailed_piece_read};
+ghost use Rattle.str0m_signal.specs.form.MediaAttribute.{media_ext_map};
 
 use memchr::memchr;
 use std::alloc::{AllocError, Global};
@@ -11,8 +11,8 @@ use str0m_values::cuts::{cut, num_u8, strip};
 use str0m_values::{Extension, Separator};
 
 /// The number of the extension; a direction may stand after it.
-fn id(text: &str) -> Option<u8>
-    ensures { result ≡ tailed_read 47 (num 255) text.now }
+fn ext_map_id(text: &str) -> Option<u8>
+    ensures { result ≡ tailed_piece_read 47 (num 255) text.now }
 {
     match cut(text, Separator::Slash) {
         None => num_u8(text, 255),
@@ -24,7 +24,7 @@ fn id(text: &str) -> Option<u8>
 }
 
 /// The parts before and after the first space. URIs are long, so a search over many bytes at once finds it sooner.
-fn cut_far(text: &str) -> Option<(&str, &str)>
+fn cut_far_space(text: &str) -> Option<(&str, &str)>
     ensures { parts result ≡ cut 32 text.now }
 {
     match memchr(b' ', text.as_bytes()) {
@@ -34,10 +34,10 @@ fn cut_far(text: &str) -> Option<(&str, &str)>
 }
 
 /// The URI; more may stand after it.
-fn uri(text: &str) -> Option<&str>
-    ensures { option_map (λ x. x.now) result ≡ tailed_read 32 text_read text.now }
+fn ext_map_uri(text: &str) -> Option<&str>
+    ensures { option_map (λ x. x.now) result ≡ tailed_piece_read 32 text_piece_read text.now }
 {
-    match cut_far(text) {
+    match cut_far_space(text) {
         None => { if text.is_empty() { None } else { Some(text) } }
         Some((uri, more)) => {
             if uri.is_empty() {
@@ -50,7 +50,7 @@ fn uri(text: &str) -> Option<&str>
 
 /// The extmap line of the text after `a=`.
 pub(crate) fn ext_map(alloc: Global, text: &str) -> Result<Option<MediaAttribute>, AllocError>
-    ensures { IfOk result (λ found. found ≡ ext_map.read text.now) }
+    ensures { IfOk result (λ found. found ≡ media_ext_map.read text.now) }
 {
     let Some(body) = strip(text, label::EXTMAP) else {
         return Ok(None);
@@ -58,10 +58,10 @@ pub(crate) fn ext_map(alloc: Global, text: &str) -> Result<Option<MediaAttribute
     let Some((number, rest)) = cut(body, Separator::Space) else {
         return Ok(None);
     };
-    let Some(id) = id(number) else {
+    let Some(id) = ext_map_id(number) else {
         return Ok(None);
     };
-    let Some(uri) = uri(rest) else {
+    let Some(uri) = ext_map_uri(rest) else {
         return Ok(None);
     };
     let ext = Extension::from_sdp_uri(alloc, uri)?;

@@ -1,6 +1,6 @@
 //! Lines with the fingerprint of a certificate.
 ghost use Rattle.std.specs.Prelude.{◌≡◌, IfOk};
-ghost use Rattle.str0m_signal.specs.form.FormTransport.{fingerprint};
+ghost use Rattle.str0m_signal.specs.form.FormTransport.{fingerprint_form};
 
 use crate::line::parts::parts;
 use std::alloc::{AllocError, Global};
@@ -10,7 +10,7 @@ use str0m_values::{Fingerprint, Separator, Text};
 
 /// The fingerprint of the text after `a=`.
 pub(crate) fn fingerprint(alloc: Global, text: &str) -> Result<Option<Fingerprint>, AllocError>
-    ensures { IfOk result (λ found. found ≡ fingerprint.read text.now) }
+    ensures { IfOk result (λ found. found ≡ fingerprint_form.read text.now) }
 {
     let Some(body) = strip(text, label::FINGERPRINT) else {
         return Ok(None);

@@ -1,8 +1,8 @@
 //! Lines with the parameters of a format.
 
 ghost use Rattle.std.specs.Prelude.{◌≡◌, IfOk, Some};
-ghost use Rattle.str0m_signal.specs.form.FmtpReading.{pairs_form_read, fmtp_values_read};
-ghost use Rattle.str0m_signal.specs.form.MediaAttribute.{fmtp};
+ghost use Rattle.str0m_signal.specs.form.FmtpReading.{fmtp_pairs_form_read, fmtp_values_read};
+ghost use Rattle.str0m_signal.specs.form.MediaAttribute.{media_fmtp};
 
 use crate::line::bare_values::bare;
 use crate::line::pairs::{pairs, skip_blanks};
@@ -14,7 +14,7 @@ use str0m_values::{Items, Pt, Separator};
 
 /// The values of pairs after a space.
 fn pairs_form(alloc: Global, more: &str) -> Result<Option<Items<FormatParam>>, AllocError>
-    ensures { IfOk result (λ found. found ≡ pairs_form_read more.now) }
+    ensures { IfOk result (λ found. found ≡ fmtp_pairs_form_read more.now) }
 {
     let Some(text) = strip(more, " ") else {
         return Ok(None);
@@ -29,7 +29,7 @@ fn pairs_form(alloc: Global, more: &str) -> Result<Option<Items<FormatParam>>, A
 }
 
 /// The values after the payload type.
-fn values(alloc: Global, more: &str) -> Result<Items<FormatParam>, AllocError>
+fn fmtp_values(alloc: Global, more: &str) -> Result<Items<FormatParam>, AllocError>
     ensures { IfOk result (λ values. Some values ≡ fmtp_values_read more.now) }
 {
     if let Some(values) = pairs_form(alloc, more)? {
@@ -42,7 +42,7 @@ fn values(alloc: Global, more: &str) -> Result<Items<FormatParam>, AllocError>
 
 /// The fmtp line of the text after `a=`.
 pub(crate) fn fmtp(alloc: Global, text: &str) -> Result<Option<MediaAttribute>, AllocError>
-    ensures { IfOk result (λ found. found ≡ fmtp.read text.now) }
+    ensures { IfOk result (λ found. found ≡ media_fmtp.read text.now) }
 {
     let Some(body) = strip(text, label::FMTP) else {
         return Ok(None);
@@ -54,7 +54,7 @@ pub(crate) fn fmtp(alloc: Global, text: &str) -> Result<Option<MediaAttribute>, 
     let Some(more) = strip(body, number) else {
         return Ok(None);
     };
-    let values = values(alloc, more)?;
+    let values = fmtp_values(alloc, more)?;
     Ok(Some(MediaAttribute::Fmtp {
         pt: Pt::new_with_value(pt),
         values,

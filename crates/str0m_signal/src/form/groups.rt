@@ -1,6 +1,6 @@
 //! Lines of a session that list names.
 ghost use Rattle.std.specs.Prelude.{◌≡◌, IfOk};
-ghost use Rattle.str0m_signal.specs.form.SessionAttribute.{names_form_read, group, msid_semantic};
+ghost use Rattle.str0m_signal.specs.form.SessionAttribute.{names_form_read, session_group, session_msid_semantic};
 
 use crate::line::parts::parts;
 use crate::line::words::without_space;
@@ -10,7 +10,7 @@ use str0m_values::cuts::{cut, strip};
 use str0m_values::{Items, Mid, Separator, Text};
 
 /// The group of a word and of names after it.
-fn names(alloc: Global, text: &str) -> Result<Option<SessionAttribute>, AllocError>
+fn group_names(alloc: Global, text: &str) -> Result<Option<SessionAttribute>, AllocError>
     ensures { IfOk result (λ found. found ≡ names_form_read text.now) }
 {
     let Some((word, list)) = cut(text, Separator::Space) else {
@@ -33,10 +33,10 @@ fn names(alloc: Global, text: &str) -> Result<Option<SessionAttribute>, AllocErr
 
 /// The group line of the text after `a=`.
 pub(crate) fn group(alloc: Global, text: &str) -> Result<Option<SessionAttribute>, AllocError>
-    ensures { IfOk result (λ found. found ≡ group.read text.now) }
+    ensures { IfOk result (λ found. found ≡ session_group.read text.now) }
 {
     match strip(text, label::GROUP) {
-        Some(body) => names(alloc, without_space(body)),
+        Some(body) => group_names(alloc, without_space(body)),
         None => Ok(None),
     }
 }
@@ -46,7 +46,7 @@ pub(crate) fn msid_semantic(
     alloc: Global,
     text: &str,
 ) -> Result<Option<SessionAttribute>, AllocError>
-    ensures { IfOk result (λ found. found ≡ msid_semantic.read text.now) }
+    ensures { IfOk result (λ found. found ≡ session_msid_semantic.read text.now) }
 {
     let Some(body) = strip(text, label::MSID_SEMANTIC) else {
         return Ok(None);

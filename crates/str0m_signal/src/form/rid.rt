@@ -3,9 +3,9 @@ ghost use Rattle.std.specs.Prelude.{◌≡◌, ◌∷◌, ◌++◌, [], IfOk, op
 ghost use Rattle.str0m_sdp.specs.declared.attribute.MediaAttribute.TheVariants.{Rid};
 ghost use Rattle.str0m_sdp.specs.declared.label.TheConstants as label;
 ghost use Rattle.str0m_signal.specs.Prelude.{parts, when};
-ghost use Rattle.str0m_signal.specs.form.FormReading.{behind, two_read};
-ghost use Rattle.str0m_signal.specs.form.MediaAttribute.{rid};
-ghost use Rattle.str0m_signal.specs.form.RidReading.{lists_of, next_read, restriction_read, restrictions_read, restricted_read, typed_read, lists_read, more_read, direction_read};
+ghost use Rattle.str0m_signal.specs.form.FormReading.{behind_label_read, two_pieces_read};
+ghost use Rattle.str0m_signal.specs.form.MediaAttribute.{media_rid};
+ghost use Rattle.str0m_signal.specs.form.RidReading.{rid_lists_of, rid_next_read, restriction_read, restrictions_read, restricted_read, typed_rid_lists_read, rid_lists_read, rid_more_read, rid_direction_read};
 ghost use Rattle.str0m_signal.specs.form.RidStreamName.{is_stream_name};
 
 use crate::form::simulcast::is_stream_name;
@@ -18,8 +18,8 @@ use str0m_values::cuts::{cut, strip};
 use str0m_values::{Items, Pt, Separator, Text};
 
 /// What stands after a value: the end, or `;` and more.
-fn next(text: &str) -> Option<Option<&str>>
-    ensures { option_map (λ o. option_map (λ x. x.now) o) result ≡ next_read text.now }
+fn rid_next(text: &str) -> Option<Option<&str>>
+    ensures { option_map (λ o. option_map (λ x. x.now) o) result ≡ rid_next_read text.now }
 {
     if text.is_empty() {
         return Some(None);
@@ -35,7 +35,7 @@ fn restriction(text: &str) -> Option<(&str, &str, Option<&str>)>
     let (front, behind) = cut(skip_blanks(text), Separator::Equals)?;
     let key = key(front)?;
     let (value, behind) = value(behind)?;
-    let more = next(behind)?;
+    let more = rid_next(behind)?;
     Some((key, value, more))
 }
 
@@ -129,8 +129,8 @@ struct Lists {
 }
 
 /// The lists after `pt=`. Memory is asked for only where both can be read.
-fn typed(alloc: Global, text: &str) -> Result<Option<Lists>, AllocError>
-    ensures { IfOk result (λ found. option_map lists_of found ≡ typed_read text.now) }
+fn typed_rid_lists(alloc: Global, text: &str) -> Result<Option<Lists>, AllocError>
+    ensures { IfOk result (λ found. option_map rid_lists_of found ≡ typed_rid_lists_read text.now) }
 {
     let Some((front, behind)) = cut(text, Separator::Semicolon) else {
         return match parts::<Number<127>>(alloc, text, Separator::Comma)? {
@@ -160,11 +160,11 @@ fn typed(alloc: Global, text: &str) -> Result<Option<Lists>, AllocError>
 }
 
 /// The lists after the direction and a space.
-fn listed(alloc: Global, text: &str) -> Result<Option<Lists>, AllocError>
-    ensures { IfOk result (λ found. option_map lists_of found ≡ lists_read text.now) }
+fn rid_lists(alloc: Global, text: &str) -> Result<Option<Lists>, AllocError>
+    ensures { IfOk result (λ found. option_map rid_lists_of found ≡ rid_lists_read text.now) }
 {
     if let Some(body) = strip(text, "pt=") {
-        return typed(alloc, body);
+        return typed_rid_lists(alloc, body);
     }
     match restricted(alloc, text)? {
         Some(restrictions) => {
@@ -179,8 +179,8 @@ fn listed(alloc: Global, text: &str) -> Result<Option<Lists>, AllocError>
 }
 
 /// The lists after the direction.
-fn more(alloc: Global, text: &str) -> Result<Option<Lists>, AllocError>
-    ensures { IfOk result (λ found. option_map lists_of found ≡ more_read text.now) }
+fn rid_more(alloc: Global, text: &str) -> Result<Option<Lists>, AllocError>
+    ensures { IfOk result (λ found. option_map rid_lists_of found ≡ rid_more_read text.now) }
 {
     if text.is_empty() {
         let types = Items::empty(alloc);
@@ -191,14 +191,14 @@ fn more(alloc: Global, text: &str) -> Result<Option<Lists>, AllocError>
         }));
     }
     match strip(text, " ") {
-        Some(body) => listed(alloc, body),
+        Some(body) => rid_lists(alloc, body),
         None => Ok(None),
     }
 }
 
 /// The word at the front of the text, and what stands after it.
-fn direction(text: &str) -> Option<(&'static str, &str)>
-    ensures { parts result ≡ direction_read text.now }
+fn rid_direction(text: &str) -> Option<(&'static str, &str)>
+    ensures { parts result ≡ rid_direction_read text.now }
 {
     if let Some(behind) = strip(text, "send") {
         return Some(("send", behind));
@@ -208,20 +208,20 @@ fn direction(text: &str) -> Option<(&'static str, &str)>
 }
 
 /// The name of the stream, its direction, and what stands after them.
-fn fields(text: &str) -> Option<(&str, &'static str, &str)>
-    ensures { option_map (λ x. (x.0.now, (x.1.now, x.2.now))) result ≡ behind label.RID.now (two_read 32 (λ name. when (is_stream_name name) name) direction_read) text.now }
+fn rid_fields(text: &str) -> Option<(&str, &'static str, &str)>
+    ensures { option_map (λ x. (x.0.now, (x.1.now, x.2.now))) result ≡ behind_label_read label.RID.now (two_pieces_read 32 (λ name. when (is_stream_name name) name) rid_direction_read) text.now }
 {
     let body = strip(text, label::RID)?;
     let (name, directed) = cut(body, Separator::Space)?;
     if !is_stream_name(name) {
         return None;
     }
-    let (word, behind) = direction(directed)?;
+    let (word, behind) = rid_direction(directed)?;
     Some((name, word, behind))
 }
 
 /// The rid line of these parts.
-fn made(name: Text, word: &'static str, lists: Lists) -> MediaAttribute
+fn made_rid(name: Text, word: &'static str, lists: Lists) -> MediaAttribute
     ensures { result ≡ Rid (record { 0 = name; 1 = true }) word.now lists.types lists.restrictions }
 {
     MediaAttribute::Rid {
@@ -234,14 +234,14 @@ fn made(name: Text, word: &'static str, lists: Lists) -> MediaAttribute
 
 /// The rid line of the text after `a=`.
 pub(crate) fn rid(alloc: Global, text: &str) -> Result<Option<MediaAttribute>, AllocError>
-    ensures { IfOk result (λ found. found ≡ rid.read text.now) }
+    ensures { IfOk result (λ found. found ≡ media_rid.read text.now) }
 {
-    let Some((name, word, behind)) = fields(text) else {
+    let Some((name, word, behind)) = rid_fields(text) else {
         return Ok(None);
     };
-    let Some(lists) = more(alloc, behind)? else {
+    let Some(lists) = rid_more(alloc, behind)? else {
         return Ok(None);
     };
     let name = Text::from_str(alloc, name)?;
-    Ok(Some(made(name, word, lists)))
+    Ok(Some(made_rid(name, word, lists)))
 }

@@ -2,8 +2,8 @@
 
 ghost use Rattle.std.specs.Prelude.{◌≡◌};
 ghost use Rattle.str0m_signal.specs.Prelude.{codec_of, cut};
-ghost use Rattle.str0m_signal.specs.form.MediaAttribute.{rtpmap};
-ghost use Rattle.str0m_signal.specs.form.RtpMapReading.{frequency_read, clock_read, mapping_read};
+ghost use Rattle.str0m_signal.specs.form.MediaAttribute.{media_rtpmap};
+ghost use Rattle.str0m_signal.specs.form.RtpMapReading.{mapping_frequency_read, mapping_clock_read, mapping_read};
 
 use str0m_formats::Codec;
 use str0m_sdp::{MediaAttribute, RtpMap, label};
@@ -11,24 +11,24 @@ use str0m_values::cuts::{cut, num_u8, num_u32, strip};
 use str0m_values::{Frequency, Pt, Separator};
 
 #[tactic(auto, using(str0m_formats::proofs::codec_read_only))]
-fn codec(name: &str) -> Codec
+fn mapping_codec(name: &str) -> Codec
     ensures { result ≡ codec_of name.now }
 {
     Codec::from(name)
 }
 
-fn frequency(text: &str) -> Option<Frequency>
-    ensures { result ≡ frequency_read text.now }
+fn mapping_frequency(text: &str) -> Option<Frequency>
+    ensures { result ≡ mapping_frequency_read text.now }
 {
     Frequency::new(num_u32(text)?)
 }
 
-fn clock(text: &str) -> Option<(Frequency, Option<u8>)>
-    ensures { result ≡ clock_read text.now (cut 47 text.now) }
+fn mapping_clock(text: &str) -> Option<(Frequency, Option<u8>)>
+    ensures { result ≡ mapping_clock_read text.now (cut 47 text.now) }
 {
     match cut(text, Separator::Slash) {
-        None => Some((frequency(text)?, None)),
-        Some((hertz, channels)) => Some((frequency(hertz)?, Some(num_u8(channels, 255)?))),
+        None => Some((mapping_frequency(text)?, None)),
+        Some((hertz, channels)) => Some((mapping_frequency(hertz)?, Some(num_u8(channels, 255)?))),
     }
 }
 
@@ -39,9 +39,9 @@ fn mapping(text: &str) -> Option<RtpMap>
     if name.is_empty() {
         return None;
     }
-    let (clock_rate, channels) = clock(rates)?;
+    let (clock_rate, channels) = mapping_clock(rates)?;
     Some(RtpMap {
-        codec: codec(name),
+        codec: mapping_codec(name),
         clock_rate,
         channels,
     })
@@ -49,7 +49,7 @@ fn mapping(text: &str) -> Option<RtpMap>
 
 /// The rtpmap line of the text after `a=`.
 pub(crate) fn rtp_map(text: &str) -> Option<MediaAttribute>
-    ensures { result ≡ rtpmap.read text.now }
+    ensures { result ≡ media_rtpmap.read text.now }
 {
     let body = strip(text, label::RTPMAP)?;
     let (number, mapped) = cut(body, Separator::Space)?;

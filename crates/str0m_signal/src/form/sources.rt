@@ -1,6 +1,6 @@
 //! Lines of sources and of feedback.
 ghost use Rattle.std.specs.Prelude.{◌≡◌, IfOk};
-ghost use Rattle.str0m_signal.specs.form.MediaAttribute.{rtcp_fb, ssrc, ssrc_group};
+ghost use Rattle.str0m_signal.specs.form.MediaAttribute.{media_rtcp_fb, media_ssrc, media_ssrc_group};
 
 use crate::line::fields::two_texts;
 use crate::line::parts::parts;
@@ -11,7 +11,7 @@ use str0m_values::{Pt, Separator, Ssrc, Text};
 
 /// The rtcp-fb line of the text after `a=`.
 pub(crate) fn rtcp_fb(alloc: Global, text: &str) -> Result<Option<MediaAttribute>, AllocError>
-    ensures { IfOk result (λ found. found ≡ rtcp_fb.read text.now) }
+    ensures { IfOk result (λ found. found ≡ media_rtcp_fb.read text.now) }
 {
     let Some(body) = strip(text, label::RTCP_FB) else {
         return Ok(None);
@@ -34,7 +34,7 @@ pub(crate) fn rtcp_fb(alloc: Global, text: &str) -> Result<Option<MediaAttribute
 
 /// The ssrc line of the text after `a=`.
 pub(crate) fn ssrc(alloc: Global, text: &str) -> Result<Option<MediaAttribute>, AllocError>
-    ensures { IfOk result (λ found. found ≡ ssrc.read text.now) }
+    ensures { IfOk result (λ found. found ≡ media_ssrc.read text.now) }
 {
     let Some(body) = strip(text, label::SSRC) else {
         return Ok(None);
@@ -59,7 +59,7 @@ pub(crate) fn ssrc(alloc: Global, text: &str) -> Result<Option<MediaAttribute>, 
 
 /// The ssrc-group line of the text after `a=`.
 pub(crate) fn ssrc_group(alloc: Global, text: &str) -> Result<Option<MediaAttribute>, AllocError>
-    ensures { IfOk result (λ found. found ≡ ssrc_group.read text.now) }
+    ensures { IfOk result (λ found. found ≡ media_ssrc_group.read text.now) }
 {
     let Some(body) = strip(text, label::SSRC_GROUP) else {
         return Ok(None);

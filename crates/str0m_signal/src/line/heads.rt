@@ -1,8 +1,8 @@
 //! The m-lines of sections.
 
 ghost use Rattle.std.specs.Prelude.{◌≡◌, IfOk, codes, is_some, option_map, bytes_eq};
-ghost use Rattle.str0m_signal.specs.line.Heads.{kind_is, media_head};
-ghost use Rattle.str0m_signal.specs.session.SectionReading.{unknown_read, media_kind_read, proto_read, types_read, head_read};
+ghost use Rattle.str0m_signal.specs.line.Heads.{head_kind_is, media_head};
+ghost use Rattle.str0m_signal.specs.session.SectionReading.{unknown_kind_read, media_kind_read, proto_read, types_read, head_read};
 
 use crate::line::parts::parts;
 use crate::line::words::Number;
@@ -32,7 +32,7 @@ enum Kind<'a> {
 
 impl<'a> Kind<'a> {
     fn to_media_type(self, alloc: Global) -> Result<MediaType, AllocError>
-        ensures { IfOk result (λ typ. typ ≡ kind_is self.entry) }
+        ensures { IfOk result (λ typ. typ ≡ head_kind_is self.entry) }
     {
         match self {
             Kind::Audio => Ok(MediaType::Audio),
@@ -43,8 +43,8 @@ impl<'a> Kind<'a> {
     }
 }
 
-fn unknown(text: &str) -> Option<Kind<'_>>
-    ensures { option_map kind_is result ≡ unknown_read text.now }
+fn unknown_kind(text: &str) -> Option<Kind<'_>>
+    ensures { option_map head_kind_is result ≡ unknown_kind_read text.now }
 {
     if strip(text, AUDIO).is_some()
         || strip(text, VIDEO).is_some()
@@ -56,18 +56,18 @@ fn unknown(text: &str) -> Option<Kind<'_>>
     Some(Kind::Unknown(text))
 }
 
-fn kind_of(text: &str) -> Option<Kind<'_>>
-    ensures { option_map kind_is result ≡ media_kind_read text.now }
+fn head_kind(text: &str) -> Option<Kind<'_>>
+    ensures { option_map head_kind_is result ≡ media_kind_read text.now }
 {
     match text {
         AUDIO => Some(Kind::Audio),
         VIDEO => Some(Kind::Video),
         APPLICATION => Some(Kind::Application),
-        _ => unknown(text),
+        _ => unknown_kind(text),
     }
 }
 
-fn proto(text: &str) -> Option<Proto>
+fn head_proto(text: &str) -> Option<Proto>
     ensures { result ≡ proto_read text.now }
 {
     match text {
@@ -85,7 +85,7 @@ fn is_disabled(port: &str) -> bool
 }
 
 /// The types of an m-line. Memory is asked for only where they are numbers.
-fn types(alloc: Global, text: &str) -> Result<Option<Items<Pt>>, AllocError>
+fn head_types(alloc: Global, text: &str) -> Result<Option<Items<Pt>>, AllocError>
     ensures { IfOk result (λ found. found ≡ types_read text.now) }
 {
     if let Some(numbers) = parts::<Number<255>>(alloc, text, Separator::Space)? {
@@ -113,16 +113,16 @@ pub(crate) fn head(alloc: Global, line: &str) -> Result<Option<MediaHead>, Alloc
     let Some((protocol, body)) = cut(body, Separator::Space) else {
         return Ok(None);
     };
-    let Some(kind) = kind_of(kind_text) else {
+    let Some(kind) = head_kind(kind_text) else {
         return Ok(None);
     };
     if port.is_empty() {
         return Ok(None);
     }
-    let Some(proto) = proto(protocol) else {
+    let Some(proto) = head_proto(protocol) else {
         return Ok(None);
     };
-    let Some(pts) = types(alloc, body)? else {
+    let Some(pts) = head_types(alloc, body)? else {
         return Ok(None);
     };
     let typ = kind.to_media_type(alloc)?;

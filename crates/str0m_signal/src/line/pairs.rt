@@ -3,7 +3,7 @@
 ghost use Rattle.std.specs.List.{list_any};
 ghost use Rattle.std.specs.Prelude.{◌≡◌, IfOk, option_map};
 ghost use Rattle.str0m_signal.specs.Prelude.{pair_texts, parts};
-ghost use Rattle.str0m_signal.specs.form.FmtpReading.{IsValueEnd, ends_value, is_blank, fmtp_value_read, skip_blanks, fmtp_next_read, fmtp_key_read, pair_read, pairs_read};
+ghost use Rattle.str0m_signal.specs.form.FmtpReading.{IsFmtpValueEnd, ends_value, is_blank, fmtp_value_read, skip_blanks, fmtp_next_read, fmtp_key_read, fmtp_pair_read, fmtp_pairs_read};
 
 use std::alloc::{AllocError, Global};
 use str0m_values::Separator;
@@ -17,7 +17,7 @@ fn ends_value(byte: u8) -> bool
 
 /// Where a value ends. Most are short: to go over them takes less than to call a search.
 fn value_end(bytes: &[u8]) -> usize
-    ensures { IsValueEnd bytes.now result }
+    ensures { IsFmtpValueEnd bytes.now result }
 {
     for i in 0..bytes.len() {
         if ends_value(bytes[i]) {
@@ -69,7 +69,7 @@ fn is_blank(byte: u8) -> bool
 }
 
 /// A key: one or more characters other than space and tab.
-#[tactic(auto, using(crate::proofs::line::PairLaws::key_is))]
+#[tactic(auto, using(crate::proofs::line::PairLaws::pair_key_is))]
 pub(crate) fn key(text: &str) -> Option<&str>
     ensures { option_map (λ x. x.now) result ≡ fmtp_key_read text.now }
 {
@@ -94,8 +94,8 @@ fn fmtp_next(text: &str) -> Option<Option<&str>>
     }
 }
 
-fn pair(text: &str) -> Option<(&str, &str, Option<&str>)>
-    ensures { option_map (λ x. ((x.0.now, x.1.now), option_map (λ y. y.now) x.2)) result ≡ pair_read text.now }
+fn key_value_pair(text: &str) -> Option<(&str, &str, Option<&str>)>
+    ensures { option_map (λ x. ((x.0.now, x.1.now), option_map (λ y. y.now) x.2)) result ≡ fmtp_pair_read text.now }
 {
     let (front, behind) = cut(text, Separator::Equals)?;
     let key = key(front)?;
@@ -109,12 +109,12 @@ pub(crate) fn pairs<'a>(
     alloc: Global,
     text: &'a str,
 ) -> Result<Option<Vec<(&'a str, &'a str)>>, AllocError>
-    ensures { IfOk result (λ found. option_map (λ list. pair_texts list.items) found ≡ pairs_read text.now) }
+    ensures { IfOk result (λ found. option_map (λ list. pair_texts list.items) found ≡ fmtp_pairs_read text.now) }
 {
     let mut pairs = Vec::new(alloc);
     let mut rest = text;
     loop {
-        let Some((key, value, next)) = pair(rest) else {
+        let Some((key, value, next)) = key_value_pair(rest) else {
             return Ok(None);
         };
         pairs.push((key, value))?;

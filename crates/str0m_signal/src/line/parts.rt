@@ -1,9 +1,9 @@
 //! Lists whose items have a character between them.
 ghost use Rattle.std.specs.Prelude.{◌≡◌, ℕ, List, Option, IfOk, is_some};
 ghost use Rattle.str0m_signal.specs.Prelude.{separator_code};
-ghost use Rattle.str0m_signal.specs.form.FormReading.{parted_read};
+ghost use Rattle.str0m_signal.specs.form.FormReading.{parted_piece_read};
 
-use crate::session::attributes::taken_result;
+use crate::session::attributes::put_taken_result;
 use std::alloc::{AllocError, Global};
 use str0m_values::cuts::cut;
 use str0m_values::{Items, Separator};
@@ -27,7 +27,7 @@ pub(crate) trait Part {
 
 /// Whether the text is items with `at` between each two.
 pub(crate) fn are_parts<T: Part>(text: &str, at: Separator) -> bool
-    ensures { result ≡ is_some (parted_read (separator_code at) T.reading text.now) }
+    ensures { result ≡ is_some (parted_piece_read (separator_code at) T.reading text.now) }
 {
     let mut rest = text;
     while let Some((part, more)) = cut(rest, at) {
@@ -45,17 +45,17 @@ fn read_parts<T: Part>(
     text: &str,
     at: Separator,
 ) -> Result<Option<Items<T::Value>>, AllocError>
-    ensures { IfOk result (λ found. found ≡ parted_read (separator_code at) T.reading text.now) }
+    ensures { IfOk result (λ found. found ≡ parted_piece_read (separator_code at) T.reading text.now) }
 {
     let mut parts = Vec::new(alloc);
     let mut rest = text;
     while let Some((part, more)) = cut(rest, at) {
-        if !taken_result(T::read(alloc, part), &mut parts)? {
+        if !put_taken_result(T::read(alloc, part), &mut parts)? {
             return Ok(None);
         }
         rest = more;
     }
-    if taken_result(T::read(alloc, rest), &mut parts)? {
+    if put_taken_result(T::read(alloc, rest), &mut parts)? {
         Ok(Some(Items::from(parts)))
     } else {
         Ok(None)
@@ -68,7 +68,7 @@ pub(crate) fn parts<T: Part>(
     text: &str,
     at: Separator,
 ) -> Result<Option<Items<T::Value>>, AllocError>
-    ensures { IfOk result (λ found. found ≡ parted_read (separator_code at) T.reading text.now) }
+    ensures { IfOk result (λ found. found ≡ parted_piece_read (separator_code at) T.reading text.now) }
 {
     if are_parts::<T>(text, at) {
         read_parts::<T>(alloc, text, at)

@@ -1,9 +1,9 @@
 //! The items of lists.
 ghost use Rattle.std.specs.Prelude.{◌≡◌, ◌&&◌};
 ghost use Rattle.str0m_signal.specs.Prelude.{is_rest, lacks, num};
-ghost use Rattle.str0m_signal.specs.line.WordsReading.{word_text_read, name_read, digit_read, hex_pair_read, without_space};
+ghost use Rattle.str0m_signal.specs.line.WordsReading.{word_text_read, kept_name_read, digit_read, hex_pair_read, without_space};
 
-use crate::line::fields::short;
+use crate::line::fields::kept_name;
 use crate::line::parts::Part;
 use std::alloc::{AllocError, Global};
 use str0m_values::cuts::{has, num_u8, num_u32};
@@ -38,7 +38,7 @@ impl Part for Text {
 impl Part for Mid {
     type Value = Mid;
 
-    ghost reading = { name_read };
+    ghost reading = { kept_name_read };
 
     fn is_part(text: &str) -> bool {
         is_word(text)
@@ -46,7 +46,7 @@ impl Part for Mid {
 
     fn read(_alloc: Global, text: &str) -> Result<Option<Mid>, AllocError> {
         if is_word(text) {
-            Ok(Some(short(text)))
+            Ok(Some(kept_name(text)))
         } else {
             Ok(None)
         }
@@ -91,7 +91,7 @@ impl Part for Ssrc {
     }
 }
 
-fn digit(byte: u8) -> Option<u32>
+fn hex_digit(byte: u8) -> Option<u32>
     ensures { result ≡ digit_read byte }
 {
     char::from(byte).to_digit(16)
@@ -103,8 +103,8 @@ fn hex_pair(text: &str) -> Option<u8>
     let [high, low] = text.as_bytes() else {
         return None;
     };
-    let first = digit(*high)?;
-    let second = digit(*low)?;
+    let first = hex_digit(*high)?;
+    let second = hex_digit(*low)?;
     Some((first * 16 + second) as u8)
 }
 

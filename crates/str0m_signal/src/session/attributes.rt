@@ -2,7 +2,7 @@
 
 ghost use Rattle.std.specs.Prelude.{◌≡◌, ◌∷◌, ◌++◌, [], ℕ, List, Ok, Option, Some, IfOk, option_map};
 ghost use Rattle.str0m_signal.specs.line.Lines.{Run};
-ghost use Rattle.str0m_signal.specs.line.LinesReading.{lines_of, line_read, read_attribute, left, ReadsTo, Takes, TakesLine};
+ghost use Rattle.str0m_signal.specs.line.LinesReading.{lines_of, line_read, attribute_line_read, lines_left, ReadsLineTo, TakesPart, TakesLine};
 
 use crate::line::lines::clean_line;
 use std::alloc::{AllocError, Global};
@@ -50,16 +50,16 @@ pub(crate) trait Attribute: Drop {
     fn take<P: Place<Self>>(alloc: Global, text: &str, place: &mut P) -> Result<bool, AllocError>
     where
         Self: Sized,
-        ensures { IfOk result (Takes P.Puts (reading text.now) place.old place.new) };
+        ensures { IfOk result (TakesPart P.Puts (reading text.now) place.old place.new) };
 }
 
 /// Puts what was found in its place; whether there was anything.
 #[inline(always)]
-pub(crate) fn taken<A: Drop, P: Place<A>>(
+pub(crate) fn put_taken<A: Drop, P: Place<A>>(
     found: Option<A>,
     place: &mut P,
 ) -> Result<bool, AllocError>
-    ensures { IfOk result (Takes P.Puts found place.old place.new) }
+    ensures { IfOk result (TakesPart P.Puts found place.old place.new) }
 {
     match found {
         Some(item) => {
@@ -72,22 +72,22 @@ pub(crate) fn taken<A: Drop, P: Place<A>>(
 
 /// The same of what a form answers that asks for memory.
 #[inline(always)]
-pub(crate) fn taken_result<A: Drop, P: Place<A>>(
+pub(crate) fn put_taken_result<A: Drop, P: Place<A>>(
     answer: Result<Option<A>, AllocError>,
     place: &mut P,
 ) -> Result<bool, AllocError>
-    ensures { IfOk result (λ taken. (found : Option A) × (answer ≡ Ok found) × Takes P.Puts found place.old place.new taken) }
+    ensures { IfOk result (λ taken. (found : Option A) × (answer ≡ Ok found) × TakesPart P.Puts found place.old place.new taken) }
 {
-    taken(answer?, place)
+    put_taken(answer?, place)
 }
 
 /// Puts the attribute of the line in its place, where it is one; whether it is.
-fn take_content<A: Attribute, P: Place<A>>(
+fn take_line_content<A: Attribute, P: Place<A>>(
     alloc: Global,
     line: &str,
     place: &mut P,
 ) -> Result<bool, AllocError>
-    ensures { IfOk result (Takes P.Puts (read_attribute A.reading line.now) place.old place.new) }
+    ensures { IfOk result (TakesPart P.Puts (attribute_line_read A.reading line.now) place.old place.new) }
 {
     match strip(line, "a=") {
         Some(text) => A::take(alloc, text, place),
@@ -96,42 +96,45 @@ fn take_content<A: Attribute, P: Place<A>>(
 }
 
 /// The attribute of the line. No list is made for it, which would take memory.
-pub(crate) fn line<A: Attribute>(alloc: Global, line: &str) -> Result<Option<A>, AllocError>
-    ensures { IfOk result (λ found. found ≡ read_attribute A.reading line.now) }
+pub(crate) fn read_attribute_line<A: Attribute>(
+    alloc: Global,
+    line: &str,
+) -> Result<Option<A>, AllocError>
+    ensures { IfOk result (λ found. found ≡ attribute_line_read A.reading line.now) }
 {
     let mut found = None;
-    take_content(alloc, line, &mut found)?;
+    take_line_content(alloc, line, &mut found)?;
     Ok(found)
 }
 
 /// The attribute of the first line, and what follows that line.
-pub(crate) fn next_line<A: Attribute>(
+pub(crate) fn next_attribute_line<A: Attribute>(
     alloc: Global,
     text: &str,
 ) -> Result<Option<(A, &str)>, AllocError>
-    ensures { IfOk result (λ found. option_map left found ≡ line_read (read_attribute A.reading) (lines_of text.now)) }
+    ensures { IfOk result (λ found. option_map lines_left found ≡ line_read (attribute_line_read A.reading) (lines_of text.now)) }
 {
     let Some((content, rest)) = clean_line(text) else {
         return Ok(None);
     };
-    match line(alloc, content)? {
+    match read_attribute_line(alloc, content)? {
         Some(attribute) => Ok(Some((attribute, rest))),
         None => Ok(None),
     }
 }
 
 /// Puts the attribute of the first line after the others, and answers what follows that line.
-fn take_line<'a, A: Attribute>(
+fn take_attribute_line<'a, A: Attribute>(
     alloc: Global,
     text: &'a str,
     attributes: &mut Vec<A>,
 ) -> Result<Option<&'a str>, AllocError>
-    ensures { IfOk result (λ rest. TakesLine (read_attribute A.reading) (lines_of text.now) attributes.old.items attributes.new.items rest) }
+    ensures { IfOk result (λ rest. TakesLine (attribute_line_read A.reading) (lines_of text.now) attributes.old.items attributes.new.items rest) }
 {
     let Some((content, rest)) = clean_line(text) else {
         return Ok(None);
     };
-    if take_content(alloc, content, attributes)? {
+    if take_line_content(alloc, content, attributes)? {
         Ok(Some(rest))
     } else {
         Ok(None)
@@ -156,11 +159,11 @@ pub(crate) fn attribute_run<A: Attribute>(
     alloc: Global,
     text: &str,
 ) -> Result<(Items<A>, &str), AllocError>
-    ensures { IfOk result (λ found. Run (ReadsTo (read_attribute A.reading)) (lines_of text.now) found.0 (lines_of found.1.now)) }
+    ensures { IfOk result (λ found. Run (ReadsLineTo (attribute_line_read A.reading)) (lines_of text.now) found.0 (lines_of found.1.now)) }
 {
     let mut attributes = Vec::new(alloc);
     let mut rest = text;
-    while let Some(after) = take_line(alloc, rest, &mut attributes)? {
+    while let Some(after) = take_attribute_line(alloc, rest, &mut attributes)? {
         rest = after;
     }
     Ok((without_spare_room(attributes), rest))

@@ -4,19 +4,19 @@ ghost use Rattle.std.specs.Prelude.{◌≡◌, All, IfErr, IfOk, OnErr, filter_m
 ghost use Rattle.str0m_signal.specs.Prelude.{AllDistinct, HasBoundedRows, IsPlain, Sdp, types};
 ghost use Rattle.str0m_signal.specs.back.ReadBack.{MayBePrinted, ReadsBack};
 ghost use Rattle.str0m_signal.specs.back.Writable.{Writable};
-ghost use Rattle.str0m_signal.specs.back.WritableAgain.{IsOverSrtp, IsRead, MayBeWrittenAgain};
-ghost use Rattle.str0m_signal.specs.session.Negotiation.{Negotiated, NegotiatedText, brought, brought_by};
+ghost use Rattle.str0m_signal.specs.back.WritableAgain.{IsOverSrtp, IsSomeTextRead, MayBeWrittenAgain};
+ghost use Rattle.str0m_signal.specs.session.Negotiation.{Negotiated, NegotiatedText, brought_rows, rows_brought_by};
 ghost use Rattle.str0m_signal.specs.session.Reader.{Described};
 ghost use Rattle.str0m_signal.specs.session.ReaderAnswers.{Refuses};
 
-use crate::session::offer::described;
+use crate::session::offer::described_offer;
 use std::alloc::{AllocError, Global};
 use str0m_formats::{CodecConfig, NegotiationError, Round};
 use str0m_sdp::{MediaLine, SdpError};
 
 /// What an audio or video section brings to a round.
-fn round_of(section: &MediaLine) -> Result<Option<Round>, AllocError>
-    ensures { IfOk result (λ found. option_map brought found ≡ brought_by section.now) }
+fn section_round(section: &MediaLine) -> Result<Option<Round>, AllocError>
+    ensures { IfOk result (λ found. option_map brought_rows found ≡ rows_brought_by section.now) }
 {
     if section.typ.is_media() {
         let remote = section.rtp_params()?;
@@ -28,12 +28,12 @@ fn round_of(section: &MediaLine) -> Result<Option<Round>, AllocError>
 }
 
 /// The rounds of the audio and video sections, in order.
-fn rounds_of(alloc: Global, sections: &[MediaLine]) -> Result<Vec<Round>, AllocError>
-    ensures { IfOk result (λ rounds. map brought rounds.items ≡ filter_map brought_by sections.now) }
+fn section_rounds(alloc: Global, sections: &[MediaLine]) -> Result<Vec<Round>, AllocError>
+    ensures { IfOk result (λ rounds. map brought_rows rounds.items ≡ filter_map rows_brought_by sections.now) }
 {
     let mut rounds = Vec::new(alloc);
     for section in sections {
-        if let Some(round) = round_of(section)? {
+        if let Some(round) = section_round(section)? {
             rounds.push(round)?;
         }
     }
@@ -52,7 +52,7 @@ fn negotiate(
     ensures plain { All HasBoundedRows sections.now → All IsPlain config.old.params.items → All IsPlain config.new.params.items }
     ensures printable { All HasBoundedRows sections.now → MayBePrinted config.old.params.items → MayBePrinted config.new.params.items }
 {
-    let rounds = rounds_of(*config.allocator(), sections)?;
+    let rounds = section_rounds(*config.allocator(), sections)?;
     config.update_all(rounds.as_slice())
 }
 
@@ -90,9 +90,9 @@ pub fn negotiate_text(
     ensures read_back { MayBePrinted config.old.params.items → (sdp : Sdp) (i : ℕ) → Writable sdp i → ReadsBack sdp i config.new.params.items }
 
     // And so in every session that was read, in each section over Srtp: `is_writable` needn't be asked.
-    ensures back_in_readings { MayBePrinted config.old.params.items → (sdp : Sdp) (i : ℕ) → IsRead sdp → MayBeWrittenAgain sdp
+    ensures back_in_readings { MayBePrinted config.old.params.items → (sdp : Sdp) (i : ℕ) → IsSomeTextRead sdp → MayBeWrittenAgain sdp
         → IsOverSrtp sdp i → ReadsBack sdp i config.new.params.items }
 {
-    let sdp = described(*config.allocator(), text)?;
+    let sdp = described_offer(*config.allocator(), text)?;
     Ok(negotiate(config, sdp.media_lines.as_slice())?)
 }

@@ -22,7 +22,7 @@ pub struct SdpOffer(Sdp);
 pub struct SdpAnswer(Sdp);
 
 /// The description that a text begins with; what follows it is dropped.
-pub(crate) fn described(alloc: Global, text: &str) -> Result<Sdp, SdpError>
+pub(crate) fn described_offer(alloc: Global, text: &str) -> Result<Sdp, SdpError>
     ensures read { Answers (λ sdp. sdp) result (Described text.now) }
     ensures one { AtMostOne (Described text.now) }
     ensures bounded { IfOk result (λ sdp. All HasBoundedRows sdp.media_lines) }
@@ -37,7 +37,7 @@ pub(crate) fn described(alloc: Global, text: &str) -> Result<Sdp, SdpError>
 const BYTES_OF_A_LINE: usize = 48;
 
 /// How many bytes the description takes where it is printed, as a guess: no answer depends on it.
-fn likely_length(sdp: &Sdp) -> usize {
+fn likely_offer_length(sdp: &Sdp) -> usize {
     let mut lines = sdp.session.attrs.as_slice().len().saturating_add(8);
     for section in sdp.media_lines.as_slice() {
         let more = section.attrs.as_slice().len().saturating_add(4);
@@ -47,11 +47,11 @@ fn likely_length(sdp: &Sdp) -> usize {
 }
 
 /// The printed description.
-fn printed(sdp: &Sdp) -> Result<String, AllocError>
+fn printed_offer(sdp: &Sdp) -> Result<String, AllocError>
     ensures { IfOk result (λ text. string_bytes text ≡ sdp_text sdp.now) }
 {
     let alloc = *sdp.media_lines.allocator();
-    let mut text = String::with_capacity(alloc, likely_length(sdp))?;
+    let mut text = String::with_capacity(alloc, likely_offer_length(sdp))?;
     write!(text, "{sdp}")?;
     Ok(text)
 }
@@ -81,7 +81,7 @@ impl SdpOffer {
         // The rows of its sections have types of seven bits, and modes and distances in their ranges.
         ensures bounded { IfOk result (λ offer. All HasBoundedRows offer.media_lines) }
     {
-        match described(alloc, text) {
+        match described_offer(alloc, text) {
             Ok(sdp) => Ok(SdpOffer(sdp)),
             Err(error) => Err(error),
         }
@@ -91,7 +91,7 @@ impl SdpOffer {
     pub fn to_sdp_string(&self) -> Result<String, AllocError>
         ensures { IfOk result (λ text. string_bytes text ≡ sdp_text self.now) }
     {
-        printed(&self.0)
+        printed_offer(&self.0)
     }
 }
 
@@ -147,7 +147,7 @@ impl SdpAnswer {
         // The rows of its sections have types of seven bits, and modes and distances in their ranges.
         ensures bounded { IfOk result (λ answer. All HasBoundedRows answer.media_lines) }
     {
-        match described(alloc, text) {
+        match described_offer(alloc, text) {
             Ok(sdp) => Ok(SdpAnswer(sdp)),
             Err(error) => Err(error),
         }
@@ -157,7 +157,7 @@ impl SdpAnswer {
     pub fn to_sdp_string(&self) -> Result<String, AllocError>
         ensures { IfOk result (λ text. string_bytes text ≡ sdp_text self.now) }
     {
-        printed(&self.0)
+        printed_offer(&self.0)
     }
 }
 

@@ -6,12 +6,12 @@ ghost use Rattle.str0m_signal.specs.form.CandidateLine.{IsCandidateLine};
 ghost use Rattle.str0m_signal.specs.form.MediaAttribute.{IsMediaLine};
 ghost use Rattle.str0m_signal.specs.form.SessionAttribute.{IsSessionLine};
 ghost use Rattle.str0m_signal.specs.line.Lines.{FirstLine};
-ghost use Rattle.str0m_signal.specs.line.LinesReading.{left, line_read, lines_of, read_attribute};
+ghost use Rattle.str0m_signal.specs.line.LinesReading.{lines_left, line_read, lines_of, attribute_line_read};
 ghost use Rattle.str0m_signal.specs.session.Reader.{IsFromLine, Sections, IsSession, IsReading, Reading, SessionReading};
-ghost use Rattle.str0m_signal.specs.session.ReaderAnswers.{Answers, AtMostOne, GivesRead, IsRefusal, unread};
+ghost use Rattle.str0m_signal.specs.session.ReaderAnswers.{Answers, AtMostOne, GivesRead, IsRefusal, unread_rest};
 
 use crate::form::session_attribute::session_attributes;
-use crate::session::attributes::{Attribute, next_line};
+use crate::session::attributes::{Attribute, next_attribute_line};
 use crate::session::header::{SessionHead, next_header};
 use crate::session::section::section;
 use std::alloc::Global;
@@ -29,8 +29,8 @@ pub(crate) fn refusal(alloc: Global, message: &str) -> SdpError
 }
 
 /// The consistent sections that stand next.
-fn sections(alloc: Global, text: &str) -> Result<(Items<MediaLine>, &str), SdpError>
-    ensures { Answers left result (λ v. Sections (lines_of text.now) v.0 v.1) }
+fn read_sections(alloc: Global, text: &str) -> Result<(Items<MediaLine>, &str), SdpError>
+    ensures { Answers lines_left result (λ v. Sections (lines_of text.now) v.0 v.1) }
 {
     let mut sections = Vec::new(alloc);
     let mut rest = text;
@@ -45,7 +45,7 @@ fn sections(alloc: Global, text: &str) -> Result<(Items<MediaLine>, &str), SdpEr
 }
 
 fn read_session(alloc: Global, text: &str) -> Result<(Session, &str), SdpError>
-    ensures { Answers left result (λ v. IsSession (lines_of text.now) v.0 v.1) }
+    ensures { Answers lines_left result (λ v. IsSession (lines_of text.now) v.0 v.1) }
 {
     let Some((head, rest)) = next_header(alloc, text)? else {
         return Err(refusal(alloc, "bad session header"));
@@ -56,10 +56,10 @@ fn read_session(alloc: Global, text: &str) -> Result<(Session, &str), SdpError>
 }
 
 fn read_sdp(alloc: Global, text: &str) -> Result<(Sdp, &str), SdpError>
-    ensures { Answers left result (λ v. IsReading (lines_of text.now) v.0 v.1) }
+    ensures { Answers lines_left result (λ v. IsReading (lines_of text.now) v.0 v.1) }
 {
     let (session, rest) = read_session(alloc, text)?;
-    let (media_lines, rest) = sections(alloc, rest)?;
+    let (media_lines, rest) = read_sections(alloc, rest)?;
     let sdp = Sdp {
         session,
         media_lines,
@@ -69,9 +69,9 @@ fn read_sdp(alloc: Global, text: &str) -> Result<(Sdp, &str), SdpError>
 
 /// The attribute of the first line, where it is one.
 fn first_attribute<A: Attribute>(alloc: Global, text: &str) -> Result<(A, &str), SdpError>
-    ensures { GivesRead left result (line_read (read_attribute A.reading) (lines_of text.now)) }
+    ensures { GivesRead lines_left result (line_read (attribute_line_read A.reading) (lines_of text.now)) }
 {
-    match next_line(alloc, text)? {
+    match next_attribute_line(alloc, text)? {
         Some(found) => Ok(found),
         None => Err(refusal(alloc, "line does not fit")),
     }
@@ -86,7 +86,7 @@ fn first_attribute<A: Attribute>(alloc: Global, text: &str) -> Result<(A, &str),
 /// `ParseError` exactly where a header line is missing or wrong; `Memory` where a growth was
 /// refused.
 pub fn session_parser(alloc: Global, text: &str) -> Result<(Session, &str), SdpError>
-    ensures read { Answers unread result (SessionReading text.now) }
+    ensures read { Answers unread_rest result (SessionReading text.now) }
     ensures one { AtMostOne (SessionReading text.now) }
 
     // The rest begins a line, or is nothing.
@@ -104,7 +104,7 @@ pub fn session_parser(alloc: Global, text: &str) -> Result<(Session, &str), SdpE
 /// `ParseError` exactly where a header line is missing or wrong, or where a section that is reached
 /// isn't consistent; `Memory` where a growth was refused.
 pub fn sdp_parser(alloc: Global, text: &str) -> Result<(Sdp, &str), SdpError>
-    ensures read { Answers unread result (Reading text.now) }
+    ensures read { Answers unread_rest result (Reading text.now) }
     ensures one { AtMostOne (Reading text.now) }
 
     // The rest begins a line, or is nothing.
@@ -127,7 +127,7 @@ pub fn session_attribute_line(
     alloc: Global,
     text: &str,
 ) -> Result<(SessionAttribute, &str), SdpError>
-    ensures read { Answers unread result (FirstLine IsSessionLine text.now) }
+    ensures read { Answers unread_rest result (FirstLine IsSessionLine text.now) }
     ensures one { AtMostOne (FirstLine IsSessionLine text.now) }
 
     // The rest begins a line, or is nothing.
@@ -144,7 +144,7 @@ pub fn session_attribute_line(
 /// `ParseError` exactly where the first line is no attribute line; `Memory` where a growth was
 /// refused.
 pub fn media_attribute_line(alloc: Global, text: &str) -> Result<(MediaAttribute, &str), SdpError>
-    ensures read { Answers unread result (FirstLine IsMediaLine text.now) }
+    ensures read { Answers unread_rest result (FirstLine IsMediaLine text.now) }
     ensures one { AtMostOne (FirstLine IsMediaLine text.now) }
 
     // The rest begins a line, or is nothing.
@@ -160,7 +160,7 @@ pub fn media_attribute_line(alloc: Global, text: &str) -> Result<(MediaAttribute
 ///
 /// `ParseError` exactly where the first line is no candidate's; `Memory` where a growth was refused.
 pub fn candidate_attribute(alloc: Global, text: &str) -> Result<(Candidate, &str), SdpError>
-    ensures read { Answers unread result (FirstLine IsCandidateLine text.now) }
+    ensures read { Answers unread_rest result (FirstLine IsCandidateLine text.now) }
     ensures one { AtMostOne (FirstLine IsCandidateLine text.now) }
 
     // The rest begins a line, or is nothing.

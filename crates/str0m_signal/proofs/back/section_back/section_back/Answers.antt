@@ -1,8 +1,9 @@
-use Rattle.str0m_signal.proofs.back.WritableLaws.{no_types, whole_section}
+use Rattle.str0m_signal.proofs.back.WritableLaws.{writable_no_types, writable_whole_section}
 use Rattle.str0m_signal.proofs.back.section_back.section_back.Goals as goal
 
 pub returns-in_default : goal.returns-in_default
-returns-in_default c = no_types (record c.args.section.now { attrs = c.args.attrs.now }) (rw c.in_default.is at c.in_ok-pts.ensures)
+returns-in_default c = writable_no_types (record c.args.section.now { attrs = c.args.attrs.now })
+    (rw c.in_default.is at c.in_ok-pts.ensures)
 
 pub returns : goal.returns
 returns c =
@@ -10,4 +11,5 @@ returns c =
     let attributes = rw c.in-Some-2.is at c.in_ok-attrs.ensures in
     let bandwidth = c.in_ok-bandwidth_comes_back.ensures.0 c.if-not-branch.false in
     rw c.in_ok-read.ensures
-    (whole_section (record c.args.section.now { attrs = c.args.attrs.now }) c.in-Some.pts c.in-Some-2.attrs bandwidth types attributes)
+    (writable_whole_section (record c.args.section.now { attrs = c.args.attrs.now }) c.in-Some.pts c.in-Some-2.attrs bandwidth types
+    attributes)

@@ -1,12 +1,13 @@
 use Rattle.str0m_signal.proofs.Common.{length, Utf8, shadow}
 use Rattle.str0m_signal.proofs.session.attributes.attribute_run.Given as goal
-use Rattle.str0m_signal.specs.line.Lines.{Chain}
-use Rattle.str0m_signal.specs.line.LinesReading.{lines_of, read_attribute, ReadsTo}
+use Rattle.str0m_signal.specs.line.Lines.{ChainOfLines}
+use Rattle.str0m_signal.specs.line.LinesReading.{lines_of, attribute_line_read, ReadsLineTo}
 
 -- the attributes so far are those of the lines before the rest
 abbrev pub invariant-loop-attributes : goal.invariant-loop-attributes
 invariant-loop-attributes g l =
-    shadow (Utf8 l.rest) × Chain (ReadsTo (read_attribute g.A.Attribute.reading)) (lines_of l.fn.text) l.attributes.items (lines_of l.rest)
+    shadow (Utf8 l.rest) × ChainOfLines (ReadsLineTo (attribute_line_read g.A.Attribute.reading)) (lines_of l.fn.text) l.attributes.items
+    (lines_of l.rest)
 
 abbrev pub decreases-loop-attributes : goal.decreases-loop-attributes
 decreases-loop-attributes g l = length (lines_of l.rest)

@@ -1,10 +1,10 @@
 use Rattle.str0m_signal.proofs.Common.{arith, IsCharBoundary-after_ascii}
-use Rattle.str0m_signal.proofs.form.ExtMapSearchLaws.{first_place, search_cut, search_fails}
-use Rattle.str0m_signal.proofs.form.ext_map.cut_far.Goals as goal
+use Rattle.str0m_signal.proofs.form.ExtMapSearchLaws.{ext_map_first_place, search_cut, search_fails}
+use Rattle.str0m_signal.proofs.form.ext_map.cut_far_space.Goals as goal
 
 pub range_from-requires : goal.range_from-requires
 range_from-requires c =
-    let first = first_place 32 c.args.text.now c.in-Some.place (rw c.as_bytes.ensures.value at c.in-Some.ensures) in
+    let first = ext_map_first_place 32 c.args.text.now c.in-Some.place (rw c.as_bytes.ensures.value at c.in-Some.ensures) in
     λ _. IsCharBoundary-after_ascii c.args.text.now c.in-Some.place c.utf8.text first.0 (rw first.1 (omega arith))
 
 pub returns-in-Some : goal.returns-in-Some
