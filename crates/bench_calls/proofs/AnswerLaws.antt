@@ -1,14 +1,14 @@
 -- An answer has as many sections as the offer that it answers.
 use Rattle.bench_calls.specs.Answers.{HasAnswered}
-use Rattle.exchange.specs.answer.Offered.{IsOffer}
+use Rattle.exchange.specs.answer.Offered.{IsOfferText}
 use Rattle.exchange.specs.offer.Rules.{HasShapeOf}
-use Rattle.exchange.specs.state.Exchange.{EachSection}
+use Rattle.exchange.specs.state.Exchange.{EachOfferedSection}
 use Rattle.std.proofs.Common.{List, ℕ, Option, Some, None, IsSomeAnd, length}
 use Rattle.std.proofs.lemmas.Slice.Zip.{AllZip-long}
 use Rattle.str0m_sdp.specs.declared.session.Sdp.{Sdp}
 
-pub as_many_sections : (text : List ℕ) (remote : Option Sdp) (answer : Sdp) → IsSomeAnd remote (IsOffer text)
-    → EachSection (λ offer. HasShapeOf) remote answer
+pub as_many_sections : (text : List ℕ) (remote : Option Sdp) (answer : Sdp) → IsSomeAnd remote (IsOfferText text)
+    → EachOfferedSection (λ offer. HasShapeOf) remote answer
     → HasAnswered text (length answer.media_lines)
 as_many_sections text None answer is_offer each = absurd is_offer
 as_many_sections text (Some offer) answer is_offer each = (

@@ -1,5 +1,5 @@
 -- The numbers that the calls answer.
-use Rattle.exchange.specs.answer.Offered.{IsOffer}
+use Rattle.exchange.specs.answer.Offered.{IsOfferText}
 use Rattle.std.specs.Prelude.{◌≡◌, ◌≢◌, ◌-◌, ◌^◌, ℕ, List, length}
 use Rattle.str0m_formats.specs.declared.row.payload_params.PayloadParams.{PayloadParams}
 use Rattle.str0m_formats.specs.round.RoundsRuns.{Outcome}
@@ -26,7 +26,7 @@ HasRounds text told = (outcomes : List Outcome) × (after : List PayloadParams)
 
 -- the text is an offer, which has so many sections
 abbrev pub HasAnswered : List ℕ → ℕ → Type 0
-HasAnswered text told = (offer : Sdp) × IsOffer text offer × (told ≡ sections offer)
+HasAnswered text told = (offer : Sdp) × IsOfferText text offer × (told ≡ sections offer)
 
 -- a call tells what is said of its number, or else the greatest of 64 bits: that there is no description, or no memory
 abbrev pub TellsNumber : (ℕ → Type 0) → ℕ → Type 0

@@ -1,6 +1,6 @@
 -- What an exchange of offers and answers is behind a call.
 use Rattle.c_calls.specs.Common.{Of}
-use Rattle.c_calls.specs.Prelude.{AllDistinct, AnswersOffer, AreDistinct, AreFresh, BundlesAccepted, CodecConfig, Direction, EachSection, Exchange, FitsOffer, Follows, HasShapeOf, IsAcceptedExactly, IsAnswer, IsNewName, IsOffer, IsOffered, IsPlain, IsReadBack, IsSound, KeepsPlaces, KeepsRules, LockedStay, MakesOffer, NegotiatesOffer, OwnNumbers, OwnSide, OwnTexts, SaysOwn, Sdp, SignalingState, StaysInPlaces, grown, pending_sdp, placed_as, placed_of, ready_with, section_mids, sections_of, state_of, taken_names, tracks, types, versioned_text, with_entry, with_placed}
+use Rattle.c_calls.specs.Prelude.{AllDistinct, AnswersOffer, AreDistinct, AreFresh, BundlesAccepted, CodecConfig, Direction, EachOfferedSection, Exchange, FitsOffer, Follows, HasShapeOf, IsAcceptedExactly, IsAnswerText, IsNewName, IsOfferText, KeepsOfferRules, IsPlain, IsReadBack, IsSoundExchange, KeepsPlaces, KeepsRules, LockedStay, MakesOffer, NegotiatesOffer, OwnNumbers, OwnSide, OwnTexts, SaysOwn, Sdp, SignalingState, StaysInPlaces, grown_names, pending_sdp, placed_as, placed_of_offer, ready_with_added, section_mids, sections_of, state_of, taken_names, answer_tracks, types, versioned_text, with_direction_entry, with_added_directions}
 use Rattle.exchange.specs.declared.state.signaling_state.SignalingState.TheVariants.{HaveLocalOffer, Stable}
 use Rattle.std.specs.Prelude.{◌≡◌, ◌+◌, ◌-◌, ◌^◌, [], ℕ, List, All, IsSomeAnd, None, Option, Some, drop, length, min}
 
@@ -8,16 +8,16 @@ use Rattle.std.specs.Prelude.{◌≡◌, ◌+◌, ◌-◌, ◌^◌, [], ℕ, Lis
 pub record AcceptsOffer (before after : Exchange) (text : List ℕ) (answer : Sdp) (version : ℕ) : Type 0 where
   -- no offer of this side was open; the text is an offer whose sections are in their places
   pub stable : state_of before ≡ Stable
-  pub read : IsSomeAnd after.remote (IsOffer text)
+  pub read : IsSomeAnd after.remote (IsOfferText text)
   pub different : IsSomeAnd after.remote (λ offer. AreDistinct (section_mids offer.media_lines))
   pub placed : IsSomeAnd after.remote (StaysInPlaces before.names (sections_of before.local) before.remote)
   -- the answer answers it, line by line, by the rules and with its bundle, and the other side reads it as what it says
   pub answers : IsSomeAnd after.remote (λ offer. AnswersOffer before.own after.config.params.items offer answer)
-  pub shape : EachSection (λ offer. HasShapeOf) after.remote answer
-  pub exactly : EachSection (IsAcceptedExactly before.own after.config.params.items) after.remote answer
-  pub rules : EachSection (KeepsRules before.own after.config.params.items) after.remote answer
+  pub shape : EachOfferedSection (λ offer. HasShapeOf) after.remote answer
+  pub exactly : EachOfferedSection (IsAcceptedExactly before.own after.config.params.items) after.remote answer
+  pub rules : EachOfferedSection (KeepsRules before.own after.config.params.items) after.remote answer
   pub bundle : IsSomeAnd after.remote (λ offer. BundlesAccepted offer answer)
-  pub tracks : AreDistinct (tracks answer)
+  pub tracks : AreDistinct (answer_tracks answer)
   pub read_back : IsReadBack answer (versioned_text version answer)
   pub version_is : version ≡ before.version
   -- the rounds of the offer are run, and rows that were locked stay locked
@@ -29,11 +29,11 @@ pub record AcceptsOffer (before after : Exchange) (text : List ℕ) (answer : Sd
   -- the answer is this side's description from then on, and the next has the next version
   pub local : after.local ≡ Some answer
   pub next : after.version ≡ min (before.version + 1) (2 ^ 64 - 1)
-  pub names : after.names ≡ grown before.names answer.media_lines
+  pub names : after.names ≡ grown_names before.names answer.media_lines
   pub own_same : after.own ≡ before.own
   pub else_same : (after.pending ≡ before.pending) × (after.added ≡ before.added)
   pub follows : Follows before after
-  pub sound : IsSound before → IsSound after
+  pub sound : IsSoundExchange before → IsSoundExchange after
 
 -- this side makes an offer
 pub record CreatesOffer (before after : Exchange) (offer : Sdp) (version : ℕ) : Type 0 where
@@ -46,7 +46,7 @@ pub record CreatesOffer (before after : Exchange) (offer : Sdp) (version : ℕ) 
   -- it is offered with what goes on, by the rules, and the other side reads it as what it says
   pub says : MakesOffer before names offer
   pub places : KeepsPlaces before 0 (sections_of before.local) offer.media_lines
-  pub rules : All (IsOffered before (ready_with before names)) offer.media_lines
+  pub rules : All (KeepsOfferRules before (ready_with_added before names)) offer.media_lines
   pub different : AreDistinct (section_mids (sections_of before.local)) → AreDistinct (section_mids offer.media_lines)
   pub read_back : IsReadBack offer (versioned_text version offer)
   pub version_is : version ≡ before.version
@@ -56,13 +56,13 @@ pub record CreatesOffer (before after : Exchange) (offer : Sdp) (version : ℕ) 
     version = min (before.version + 1) (2 ^ 64 - 1);
   }
   pub follows : Follows before after
-  pub sound : IsSound before → IsSound after
+  pub sound : IsSoundExchange before → IsSoundExchange after
 
 -- the other side's answer is taken
 pub record AcceptsAnswer (before after : Exchange) (text : List ℕ) : Type 0 where
   -- an offer of this side was open, which the text answers, and it fits
   pub waiting : state_of before ≡ HaveLocalOffer
-  pub read : IsSomeAnd after.remote (IsAnswer text)
+  pub read : IsSomeAnd after.remote (IsAnswerText text)
   pub fits : IsSomeAnd after.local (λ offer. IsSomeAnd after.remote (FitsOffer after.config.params.items offer))
   -- its rounds are run, and rows that were locked stay locked
   pub negotiated : IsSomeAnd after.remote (λ answer. NegotiatesOffer answer before.config.params.items after.config.params.items)
@@ -73,12 +73,12 @@ pub record AcceptsAnswer (before after : Exchange) (text : List ℕ) : Type 0 wh
   -- the offer is this side's description from then on, and what it placed is no longer added
   pub local : after.local ≡ pending_sdp before
   pub stable : state_of after ≡ Stable
-  pub names : after.names ≡ grown before.names (sections_of after.local)
-  pub own : after.own ≡ record before.own { directions = with_placed before.own.directions (placed_of before) }
-  pub added : after.added ≡ drop (length (placed_of before)) before.added
+  pub names : after.names ≡ grown_names before.names (sections_of after.local)
+  pub own : after.own ≡ record before.own { directions = with_added_directions before.own.directions (placed_of_offer before) }
+  pub added : after.added ≡ drop (length (placed_of_offer before)) before.added
   pub version_same : after.version ≡ before.version
-  pub follows : IsSound before → Follows before after
-  pub sound : IsSound before → IsSound after
+  pub follows : IsSoundExchange before → Follows before after
+  pub sound : IsSoundExchange before → IsSoundExchange after
 
 -- an exchange in which nothing was said yet
 abbrev pub begun : OwnSide → CodecConfig → Exchange
@@ -91,7 +91,7 @@ BeginsExchange numbers texts config after = (own : OwnSide) × SaysOwn numbers t
 -- this side is ready for a direction in the section of a name, from its next description on (RFC 3264, section 8.4)
 abbrev pub turned : List ℕ → Direction → Exchange → Exchange
 turned mid direction before =
-    record before { own = record before.own { directions = with_entry mid direction before.own.directions } }
+    record before { own = record before.own { directions = with_direction_entry mid direction before.own.directions } }
 
 -- what a handle held becomes this, and another handle gets that
 abbrev pub Goes : {X Y : Type 0} → (X → X → Y → Type 0) → Option X → Option X → Option Y → Type 0

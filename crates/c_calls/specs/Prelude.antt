@@ -9,24 +9,24 @@ pub use Rattle.c_parts.specs.declared.row.Row.{Row}
 pub use Rattle.c_parts.specs.declared.section.Section.{Section}
 pub use Rattle.c_parts.specs.declared.side.OwnNumbers.{OwnNumbers}
 pub use Rattle.c_parts.specs.declared.side.OwnTexts.{OwnTexts}
-pub use Rattle.exchange.specs.answer.AcceptedOffer.{tracks}
+pub use Rattle.exchange.specs.answer.AcceptedOffer.{answer_tracks}
 pub use Rattle.exchange.specs.answer.AnsweredSession.{BundlesAccepted}
-pub use Rattle.exchange.specs.answer.Offered.{IsOffer, NegotiatesOffer}
+pub use Rattle.exchange.specs.answer.Offered.{IsOfferText, NegotiatesOffer}
 pub use Rattle.exchange.specs.declared.state.exchange.Exchange.{Exchange}
 pub use Rattle.exchange.specs.declared.state.own_side.OwnSide.{OwnSide}
 pub use Rattle.exchange.specs.declared.state.signaling_state.SignalingState.{SignalingState}
-pub use Rattle.exchange.specs.offer.AcceptedAnswer.{IsAnswer, RefusesAnswer, placed_of}
-pub use Rattle.exchange.specs.offer.Added.{with_channels, with_media, with_placed}
+pub use Rattle.exchange.specs.offer.AcceptedAnswer.{IsAnswerText, RefusesAnswer, placed_of_offer}
+pub use Rattle.exchange.specs.offer.Added.{with_added_channels, with_added_media, with_added_directions}
 pub use Rattle.exchange.specs.offer.Fits.{FitsOffer}
 pub use Rattle.exchange.specs.offer.FreshNames.{AreFresh}
-pub use Rattle.exchange.specs.offer.MadeOffer.{MakesOffer, placed_as, ready_with}
-pub use Rattle.exchange.specs.offer.Names.{grown}
-pub use Rattle.exchange.specs.offer.OfferRules.{IsNewName, IsOffered, KeepsPlaces}
+pub use Rattle.exchange.specs.offer.MadeOffer.{MakesOffer, placed_as, ready_with_added}
+pub use Rattle.exchange.specs.offer.Names.{grown_names}
+pub use Rattle.exchange.specs.offer.OfferRules.{IsNewName, KeepsOfferRules, KeepsPlaces}
 pub use Rattle.exchange.specs.offer.Rules.{HasShapeOf, IsAcceptedExactly, KeepsRules}
 pub use Rattle.exchange.specs.section.Places.{StaysInPlaces}
-pub use Rattle.exchange.specs.state.Exchange.{AnswersOffer, EachSection, RefusesChannels, RefusesMedia, RefusesOffer, RefusesToOffer}
-pub use Rattle.exchange.specs.state.ExchangeFollows.{Follows, IsSound}
-pub use Rattle.exchange.specs.state.OwnSide.{with_entry}
+pub use Rattle.exchange.specs.state.Exchange.{AnswersOffer, EachOfferedSection, RefusesChannels, RefusesMedia, RefusesOffer, RefusesToOffer}
+pub use Rattle.exchange.specs.state.ExchangeFollows.{Follows, IsSoundExchange}
+pub use Rattle.exchange.specs.state.OwnSide.{with_direction_entry}
 pub use Rattle.exchange.specs.state.ReadBack.{IsReadBack}
 pub use Rattle.exchange.specs.state.State.{pending_sdp, sections_of, state_of, taken_names}
 pub use Rattle.str0m_formats.specs.codec.Codec.{codec_text}

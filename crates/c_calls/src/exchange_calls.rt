@@ -2,7 +2,7 @@
 
 ghost use Rattle.c_calls.specs.Common.{Of};
 ghost use Rattle.c_calls.specs.ExchangeCalls.{AcceptsOffer, BeginsExchange, Goes, state_number};
-ghost use Rattle.c_calls.specs.Prelude.{IsFull, IsSound, RefusesOffer, RefusesOwn, SaysOwn, c_row, own_texts, state_of};
+ghost use Rattle.c_calls.specs.Prelude.{IsFull, IsSoundExchange, RefusesOffer, RefusesOwn, SaysOwn, c_row, own_texts, state_of};
 ghost use Rattle.c_calls.specs.Said.{Says};
 ghost use Rattle.c_calls.specs.SectionCalls.{text_in};
 ghost use Rattle.c_calls.specs.Told.{done};
@@ -85,7 +85,7 @@ pub extern "C" fn zaxp_exchange_new(
     ensures made { result ≡ done → BeginsExchange numbers.now
         (own_texts ice_ufrag.entry ice_pwd.entry fingerprint.entry stream_id.entry extensions.entry candidates.entry)
         config.old.inner handle.new.inner }
-    ensures sound { result ≡ done → Of handle.new.inner IsSound }
+    ensures sound { result ≡ done → Of handle.new.inner IsSoundExchange }
     ensures taken { result ≡ done → config.new.inner ≡ None }
     ensures empty { result ≢ done → handle.new.inner ≡ None }
     ensures kept { result ≢ done → config.new.inner ≡ config.old.inner }

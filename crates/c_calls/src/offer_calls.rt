@@ -2,7 +2,7 @@
 
 ghost use Rattle.c_calls.specs.Common.{Of};
 ghost use Rattle.c_calls.specs.ExchangeCalls.{AcceptsAnswer, CreatesOffer, Goes, turned};
-ghost use Rattle.c_calls.specs.Prelude.{IsFull, RefusesAnswer, RefusesBoth, RefusesChannels, RefusesMedia, RefusesToOffer, direction_numbered, kind_numbered, kind_rows, with_channels, with_media};
+ghost use Rattle.c_calls.specs.Prelude.{IsFull, RefusesAnswer, RefusesBoth, RefusesChannels, RefusesMedia, RefusesToOffer, direction_numbered, kind_numbered, kind_rows, with_added_channels, with_added_media};
 ghost use Rattle.c_calls.specs.Told.{done, no_memory, no_utf8, wrong_argument};
 ghost use Rattle.c_parts.specs.Fault.{RefusesCall, RefusesBytes, ToldFault, ToldAt};
 ghost use Rattle.std.specs.Prelude.{◌≡◌, ◌≢◌, ◌<◌, ◌≤◌, ◌↔◌, ◌⊎◌, [], IfErr, IfOk, None, OnErr, OnOk, Some, length, true, IsUtf8};
@@ -132,7 +132,7 @@ pub extern "C" fn zaxp_exchange_add_media(
 ) -> u32
     requires { IsFull handle.old.inner }
     ensures added { result ≡ done → Of handle.old.inner (λ before.
-        handle.new.inner ≡ Some (with_media (kind_numbered kind) (direction_numbered direction) before)) }
+        handle.new.inner ≡ Some (with_added_media (kind_numbered kind) (direction_numbered direction) before)) }
     ensures has_rows { result ≡ done → Of handle.old.inner (λ before.
         kind_rows (kind_numbered kind) true before.config.params.items ≢ []) }
     ensures same { result ≢ done → handle.new.inner ≡ handle.old.inner }
@@ -158,7 +158,7 @@ pub extern "C" fn zaxp_exchange_add_channels(
 ) -> u32
     requires { IsFull handle.old.inner }
     ensures added { result ≡ done → Of handle.old.inner (λ before.
-        handle.new.inner ≡ Some (with_channels before)) }
+        handle.new.inner ≡ Some (with_added_channels before)) }
     ensures has_channels { result ≡ done → Of handle.old.inner (λ before. before.own.channels ≢ None) }
     ensures same { result ≢ done → handle.new.inner ≡ handle.old.inner }
     ensures refused { result ≢ done → Of handle.old.inner (λ before. ToldFault (RefusesCall (RefusesChannels before)) result) }

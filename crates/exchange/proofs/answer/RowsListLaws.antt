@@ -10,9 +10,9 @@ use Rattle.str0m_sdp.proofs.{distinct_push}
 -- ---- each once
 
 -- leaving out what differs from k loses no k
-has_after_filter : (k x : ℕ) → (x == k) ≡ false → (xs : List ℕ) → has (filter (λ y. not (x == y)) xs) k ≡ has xs k
-has_after_filter k x apart [] = refl
-has_after_filter k x apart (y ∷ ys) = grind (arith, nat_tests, has_after_filter k x apart ys)
+list_has_after_filter : (k x : ℕ) → (x == k) ≡ false → (xs : List ℕ) → has (filter (λ y. not (x == y)) xs) k ≡ has xs k
+list_has_after_filter k x apart [] = refl
+list_has_after_filter k x apart (y ∷ ys) = grind (arith, nat_tests, list_has_after_filter k x apart ys)
 
 pub has-distinct : (xs : List ℕ) (k : ℕ) → has (distinct ◌==◌ xs) k ≡ has xs k
 has-distinct [] k = refl
@@ -20,12 +20,12 @@ has-distinct (x ∷ xs) k = go (x == k) refl (has-distinct xs k) where
   go : (b : Bool) → (x == k) ≡ b → has (distinct ◌==◌ xs) k ≡ has xs k
       → (b || has (filter (λ y. not (x == y)) (distinct ◌==◌ xs)) k) ≡ (b || has xs k)
   go true e rec = refl
-  go false e rec = has_after_filter k x e (distinct ◌==◌ xs) ∙ rec
+  go false e rec = list_has_after_filter k x e (distinct ◌==◌ xs) ∙ rec
 
 -- one type more
-pub distinct_more : (xs : List ℕ) (i x : ℕ) → i < length xs → x ≡ get_or xs i x
+pub list_distinct_more : (xs : List ℕ) (i x : ℕ) → i < length xs → x ≡ get_or xs i x
     → distinct ◌==◌ (take (i + 1) xs) ≡ distinct ◌==◌ (take i xs) ++ cond (has (distinct ◌==◌ (take i xs)) x) [] (x ∷ [])
-distinct_more xs i x lt is =
+list_distinct_more xs i x lt is =
     ap (distinct ◌==◌) ((take_at_read xs i x lt).1 ∙ ap (λ (y : ℕ). take i xs ++ y ∷ []) (sym is))
     ∙ distinct_push ◌==◌ (take i xs) x
     ∙ ap (λ (b : Bool). distinct ◌==◌ (take i xs) ++ cond b [] (x ∷ [])) (sym (has-distinct (take i xs) x))
@@ -45,9 +45,9 @@ times-filter test (x ∷ xs) t = go (test x) (times-filter test xs t) where
   go false rec = omega (arith, rec, times-cons x xs t)
 
 -- the type that is left out doesn't stand there
-filtered_out : (x : ℕ) (xs : List ℕ) → has (filter (λ y. not (x == y)) xs) x ≡ false
-filtered_out x [] = refl
-filtered_out x (y ∷ ys) = grind (arith, nat_tests, filtered_out x ys)
+list_filtered_out : (x : ℕ) (xs : List ℕ) → has (filter (λ y. not (x == y)) xs) x ≡ false
+list_filtered_out x [] = refl
+list_filtered_out x (y ∷ ys) = grind (arith, nat_tests, list_filtered_out x ys)
 
 pub distinct-once : (xs : List ℕ) (t : ℕ) → times (distinct ◌==◌ xs) t ≤ 1
 distinct-once [] t = omega arith
@@ -56,7 +56,7 @@ distinct-once (x ∷ xs) t = go (x == t) refl (distinct-once xs t) where
   go true e rec =
       let none : times (filter (λ y. not (x == y)) (distinct ◌==◌ xs)) t ≡ 0 =
       times-none (filter (λ y. not (x == y)) (distinct ◌==◌ xs)) t
-      (ap (has (filter (λ y. not (x == y)) (distinct ◌==◌ xs))) (sym (eqb-true x t e)) ∙ filtered_out x (distinct ◌==◌ xs)) in
+      (ap (has (filter (λ y. not (x == y)) (distinct ◌==◌ xs))) (sym (eqb-true x t e)) ∙ list_filtered_out x (distinct ◌==◌ xs)) in
       omega (arith, none, times-cons x (filter (λ y. not (x == y)) (distinct ◌==◌ xs)) t, one_time_if (x == t) true e)
   go false e rec = omega (
     arith,
@@ -69,9 +69,9 @@ distinct-once (x ∷ xs) t = go (x == t) refl (distinct-once xs t) where
 -- ---- what is found
 
 -- an item that is found passes the test, and stands in the list
-pub found : {X : Type 0} (test : X → Bool) (xs : List X) → IfSome (find test xs) (λ x. (test x ≡ true) × Contains xs x)
-found test [] = tt
-found {X} test (x ∷ xs) = go (test x) refl (found test xs) where
+pub list_found : {X : Type 0} (test : X → Bool) (xs : List X) → IfSome (find test xs) (λ x. (test x ≡ true) × Contains xs x)
+list_found test [] = tt
+list_found {X} test (x ∷ xs) = go (test x) refl (list_found test xs) where
   behind : (y : X) → (test y ≡ true) × Contains xs y → (test y ≡ true) × Contains (x ∷ xs) y
   behind y h = (h.0, Contains-append_right (x ∷ []) xs y h.1)
 
@@ -87,10 +87,10 @@ found {X} test (x ∷ xs) = go (test x) refl (found test xs) where
 -- ---- what is mapped
 
 -- where each image has a mark, which is the item, the marks are the items that have an image
-pub marks : {Y : Type 0} (mark : Y → ℕ) (f : ℕ → Option Y) → ((x : ℕ) → IfSome (f x) (λ y. mark y ≡ x)) → (xs : List ℕ)
+pub list_marks : {Y : Type 0} (mark : Y → ℕ) (f : ℕ → Option Y) → ((x : ℕ) → IfSome (f x) (λ y. mark y ≡ x)) → (xs : List ℕ)
     → map mark (filter_map f xs) ≡ filter (λ x. is_some (f x)) xs
-marks mark f each [] = refl
-marks {Y} mark f each (x ∷ xs) = go (f x) (each x) (marks mark f each xs) where
+list_marks mark f each [] = refl
+list_marks {Y} mark f each (x ∷ xs) = go (f x) (each x) (list_marks mark f each xs) where
   go : (o : Option Y) → IfSome o (λ y. mark y ≡ x) → map mark (filter_map f xs) ≡ filter (λ x. is_some (f x)) xs
       → map mark (cons_option o (filter_map f xs)) ≡ cond (is_some o) (x ∷ filter (λ x. is_some (f x)) xs) (filter (λ x. is_some (f x)) xs)
   go None h rec = rec
@@ -105,26 +105,26 @@ All-filter_map P Q f each (x ∷ xs) all =
 
 -- ---- what stands in a list
 
-pub is_some_find : {X : Type 0} (test : X → Bool) (xs : List X) → is_some (find test xs) ≡ list_any test xs
-is_some_find test [] = refl
-is_some_find {X} test (x ∷ xs) = go (test x) (is_some_find test xs) where
+pub list_is_some_find : {X : Type 0} (test : X → Bool) (xs : List X) → is_some (find test xs) ≡ list_any test xs
+list_is_some_find test [] = refl
+list_is_some_find {X} test (x ∷ xs) = go (test x) (list_is_some_find test xs) where
   go : (b : Bool) → is_some (find test xs) ≡ list_any test xs → is_some (cond b (Some x) (find test xs)) ≡ (b || list_any test xs)
   go true rec = refl
   go false rec = rec
 
 -- where an item passes the test, one is found
-pub found_some : {X : Type 0} (test : X → Bool) (xs : List X) (x : X) → Contains xs x → test x ≡ true → is_some (find test xs) ≡ true
-found_some test xs x there passes = is_some_find test xs ∙ list_any_at test xs there.0 x there.1 (ap test there.2 ∙ passes)
+pub list_found_some : {X : Type 0} (test : X → Bool) (xs : List X) (x : X) → Contains xs x → test x ≡ true → is_some (find test xs) ≡ true
+list_found_some test xs x there passes = list_is_some_find test xs ∙ list_any_at test xs there.0 x there.1 (ap test there.2 ∙ passes)
 
-pub contains_type : (xs : List ℕ) (k : ℕ) → has xs k ≡ true → Contains xs k
-contains_type [] k h = absurd (false≢true h)
-contains_type (x ∷ xs) k h = go (x == k) refl h (contains_type xs k) where
+pub list_contains_type : (xs : List ℕ) (k : ℕ) → has xs k ≡ true → Contains xs k
+list_contains_type [] k h = absurd (false≢true h)
+list_contains_type (x ∷ xs) k h = go (x == k) refl h (list_contains_type xs k) where
   go : (b : Bool) → (x == k) ≡ b → (b || has xs k) ≡ true → (has xs k ≡ true → Contains xs k) → Contains (x ∷ xs) k
   go true e h rec = (0, omega arith, eqb-true x k e)
   go false e h rec = Contains-append_right (x ∷ []) xs k (rec h)
 
-has_contained : (xs : List ℕ) (k : ℕ) → Contains xs k → has xs k ≡ true
-has_contained xs k there = list_any_at (λ x. x == k) xs there.0 k there.1 (eq-eqb _ _ there.2)
+list_has_contained : (xs : List ℕ) (k : ℕ) → Contains xs k → has xs k ≡ true
+list_has_contained xs k there = list_any_at (λ x. x == k) xs there.0 k there.1 (eq-eqb _ _ there.2)
 
 has-filter : (test : ℕ → Bool) (xs : List ℕ) (k : ℕ) → test k ≡ true → has (filter test xs) k ≡ has xs k
 has-filter test [] k passes = refl
@@ -136,7 +136,7 @@ has-filter test (x ∷ xs) k passes = go (test x) (x == k) refl refl (has-filter
   go false false e f rec = rec
 
 -- a type that passes stands among those that pass, each once
-pub kept_type : (test : ℕ → Bool) (xs : List ℕ) (k : ℕ) → Contains xs k → test k ≡ true → Contains (filter test (distinct ◌==◌ xs)) k
-kept_type test xs k there passes =
-    contains_type (filter test (distinct ◌==◌ xs)) k (has-filter test (distinct ◌==◌ xs) k passes ∙ has-distinct xs k
-    ∙ has_contained xs k there)
+pub list_keeps_type : (test : ℕ → Bool) (xs : List ℕ) (k : ℕ) → Contains xs k → test k ≡ true → Contains (filter test (distinct ◌==◌ xs)) k
+list_keeps_type test xs k there passes =
+    list_contains_type (filter test (distinct ◌==◌ xs)) k (has-filter test (distinct ◌==◌ xs) k passes ∙ has-distinct xs k
+    ∙ list_has_contained xs k there)

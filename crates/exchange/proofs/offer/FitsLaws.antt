@@ -3,13 +3,13 @@ use Rattle.exchange.proofs.Common.{arith, ◌≡◌, ◌<◌, ◌≤◌, ℕ, Li
 use Rattle.exchange.proofs.Common.{slice_get-get_or, slice_get_past, PayloadParams, MediaLine, Sdp}
 use Rattle.exchange.specs.declared.offer.rule.Rule.{Rule}
 use Rattle.exchange.specs.declared.offer.rule.Rule.TheVariants as rule
-use Rattle.exchange.specs.offer.Fits.{BreaksFirst, FitsAt, KeepsEveryRule, Keeps, rules_asked}
+use Rattle.exchange.specs.offer.Fits.{BreaksFirst, FitsAt, FitsEveryRule, Keeps, fit_rules_asked}
 use Rattle.exchange.specs.section.Places.{StaysInPlaceAt}
 
 -- after the last section of the offer nothing is asked
-pub all_fit : (ours : List PayloadParams) (offer answer : Sdp) (n : ℕ) → length offer.media_lines ≤ n
+pub all_sections_fit : (ours : List PayloadParams) (offer answer : Sdp) (n : ℕ) → length offer.media_lines ≤ n
     → ((k : ℕ) → k < n → FitsAt ours offer answer k) → (at : ℕ) → FitsAt ours offer answer at
-all_fit ours offer answer n past fits at = elim (cases_lt at n) [
+all_sections_fit ours offer answer n past fits at = elim (cases_lt at n) [
   | inl lt ↦ fits at lt
   | inr ge ↦ λ offered answered there here.
       let behind : length offer.media_lines ≤ at = omega arith in
@@ -31,18 +31,18 @@ all_in_place names local remote offer n past kept at = elim (cases_lt at n) [
 -- ---- the rules of a section
 
 -- the first that isn't kept
-pub first_broken : (ours : List PayloadParams) (answer : Sdp) (offered answered : MediaLine) (i : ℕ) → i < length rules_asked
-    → All (Keeps ours answer offered answered) (take i rules_asked)
-    → (Keeps ours answer offered answered (get_or rules_asked i rule.Sections) → ⊥)
-    → BreaksFirst ours answer offered answered (get_or rules_asked i rule.Sections)
-first_broken ours answer offered answered i lt kept broken =
-    record { place = i; stands = slice_get-get_or rules_asked i rule.Sections lt; earlier = kept; broken = broken }
+pub first_rule_broken : (ours : List PayloadParams) (answer : Sdp) (offered answered : MediaLine) (i : ℕ) → i < length fit_rules_asked
+    → All (Keeps ours answer offered answered) (take i fit_rules_asked)
+    → (Keeps ours answer offered answered (get_or fit_rules_asked i rule.Sections) → ⊥)
+    → BreaksFirst ours answer offered answered (get_or fit_rules_asked i rule.Sections)
+first_rule_broken ours answer offered answered i lt kept broken =
+    record { place = i; stands = slice_get-get_or fit_rules_asked i rule.Sections lt; earlier = kept; broken = broken }
 
 -- each rule is among those that are asked, or asks nothing
-pub rules_kept : (ours : List PayloadParams) (answer : Sdp) (offered answered : MediaLine) (rules : List Rule) → rules ≡ rules_asked
-    → All (Keeps ours answer offered answered) rules → KeepsEveryRule ours answer offered answered
+pub rules_kept : (ours : List PayloadParams) (answer : Sdp) (offered answered : MediaLine) (rules : List Rule) → rules ≡ fit_rules_asked
+    → All (Keeps ours answer offered answered) rules → FitsEveryRule ours answer offered answered
 rules_kept ours answer offered answered rules is all = kept (subst (All (Keeps ours answer offered answered)) is all) where
-  kept : All (Keeps ours answer offered answered) rules_asked → KeepsEveryRule ours answer offered answered
+  kept : All (Keeps ours answer offered answered) fit_rules_asked → FitsEveryRule ours answer offered answered
   kept all rule.MediaType = all 0 rule.MediaType (omega arith)
   kept all rule.Protocol = all 1 rule.Protocol (omega arith)
   kept all rule.Name = all 2 rule.Name (omega arith)

@@ -2,22 +2,23 @@
 use Rattle.exchange.proofs.Common.{◌≡◌, ◌+◌, ◌++◌, inl, inr, ℕ, true, false, List, [], ◌∷◌, Option, Some, None, MatchOption, All, map, refl}
 use Rattle.exchange.proofs.Common.{subst, sym, ◌∙◌, All-cons, All-head, All-nil, All-tail, flat_map, kind_rows, MediaAttribute, MediaType}
 use Rattle.exchange.proofs.Common.{Audio, Video, Application, Unknown, Proto, Srtp, Sctp, ActPass, MediaLine, Sdp, row_attrs, MediaKind}
-use Rattle.exchange.proofs.offer.RuleLaws.{direction_said, rejecting_shape}
+use Rattle.exchange.proofs.offer.RuleLaws.{rule_direction_said, rule_rejecting_shape}
 use Rattle.exchange.proofs.section.PlaceLaws.{places_hold}
-use Rattle.exchange.specs.answer.Accepted.{candidate_line, msid_lines}
-use Rattle.exchange.specs.answer.RejectedSection.{rejecting}
+use Rattle.exchange.specs.answer.Accepted.{accepted_candidate_line, accepted_msid_lines}
+use Rattle.exchange.specs.answer.RejectedSection.{rejecting_section}
 use Rattle.exchange.specs.declared.offer.added.Added.{Added}
 use Rattle.exchange.specs.declared.offer.added.Added.TheVariants as added
 use Rattle.exchange.specs.declared.offer.added.Placed.{Placed}
 use Rattle.exchange.specs.declared.state.exchange.Exchange.{Exchange}
 use Rattle.exchange.specs.declared.state.own_side.DataChannels.{DataChannels}
 use Rattle.exchange.specs.declared.state.own_side.SectionDirection.{SectionDirection}
-use Rattle.exchange.specs.offer.Added.{placed_under}
-use Rattle.exchange.specs.offer.MadeOffer.{MakesOffer, ready_with, sections_added}
-use Rattle.exchange.specs.offer.OfferPlaces.{FillsPlace, FillsPlaces, theirs_at}
-use Rattle.exchange.specs.offer.OfferRules.{HasNewName, IsNewName, IsOffered, KeepsOffered, KeepsPlace, KeepsPlaces}
-use Rattle.exchange.specs.offer.OfferSection.{asked_lines, kept_lines, new_section, next_section, offered_channels, offered_media}
-use Rattle.exchange.specs.offer.OfferSection.{section_by, section_for, section_with}
+use Rattle.exchange.specs.offer.Added.{added_under_names}
+use Rattle.exchange.specs.offer.MadeOffer.{MakesOffer, ready_with_added, sections_added}
+use Rattle.exchange.specs.offer.OfferPlaces.{FillsPlace, FillsPlaces, their_section_at}
+use Rattle.exchange.specs.offer.OfferRules.{HasNewPlaceName, IsNewName, KeepsOfferRules, KeepsOfferedRules, KeepsPlace, KeepsPlaces}
+use Rattle.exchange.specs.offer.OfferSection.{asked_section_lines, kept_section_lines, new_section, next_section, offered_channels}
+use Rattle.exchange.specs.offer.OfferSection.{offered_media}
+use Rattle.exchange.specs.offer.OfferSection.{section_by, section_for, offered_section_with}
 use Rattle.exchange.specs.offer.Rules.{HasShapeOf}
 use Rattle.exchange.specs.section.Stopped.{name_of}
 use Rattle.exchange.specs.state.OwnSide.{direction_among}
@@ -27,109 +28,116 @@ use Rattle.str0m_values.specs.declared.media_kind.MediaKind.TheVariants as kind
 
 -- ---- shapes and names
 
-channels_shape : (old : Exchange) (mine : MediaLine) (mid : List ℕ) (channels : Option DataChannels) → name_of mine ≡ Some mid
+offer_channels_shape : (old : Exchange) (mine : MediaLine) (mid : List ℕ) (channels : Option DataChannels) → name_of mine ≡ Some mid
     → mine.typ ≡ Application → mine.proto ≡ Sctp
     → HasShapeOf mine (offered_channels old.own mine mid channels)
-channels_shape old mine mid None name typ proto = rejecting_shape mine
-channels_shape old mine mid (Some channels) name typ proto = record { typ = sym typ; proto = sym proto; name = sym name }
+offer_channels_shape old mine mid None name typ proto = rule_rejecting_shape mine
+offer_channels_shape old mine mid (Some channels) name typ proto = record { typ = sym typ; proto = sym proto; name = sym name }
 
-shape_by : (old : Exchange) (ready : List SectionDirection) (theirs : Option MediaLine) (mine : MediaLine) (name : Option (List ℕ))
+offer_shape_by : (old : Exchange) (ready : List SectionDirection) (theirs : Option MediaLine) (mine : MediaLine) (name : Option (List ℕ))
     (typ : MediaType) (proto : Proto)
     → name_of mine ≡ name → mine.typ ≡ typ → mine.proto ≡ proto → HasShapeOf mine (section_by old ready theirs mine name typ proto)
-shape_by old ready theirs mine (Some mid) Audio Srtp name typ proto = record { typ = sym typ; proto = sym proto; name = sym name }
-shape_by old ready theirs mine (Some mid) Video Srtp name typ proto = record { typ = sym typ; proto = sym proto; name = sym name }
-shape_by old ready theirs mine (Some mid) Application Sctp name typ proto = channels_shape old mine mid old.own.channels name typ proto
-shape_by old ready theirs mine (Some mid) Audio Sctp name typ proto = rejecting_shape mine
-shape_by old ready theirs mine (Some mid) Video Sctp name typ proto = rejecting_shape mine
-shape_by old ready theirs mine (Some mid) Application Srtp name typ proto = rejecting_shape mine
-shape_by old ready theirs mine (Some mid) (Unknown text) proto name typ p = rejecting_shape mine
-shape_by old ready theirs mine None typ proto name t p = rejecting_shape mine
+offer_shape_by old ready theirs mine (Some mid) Audio Srtp name typ proto = record { typ = sym typ; proto = sym proto; name = sym name }
+offer_shape_by old ready theirs mine (Some mid) Video Srtp name typ proto = record { typ = sym typ; proto = sym proto; name = sym name }
+offer_shape_by old ready theirs mine (Some mid) Application Sctp name typ proto = offer_channels_shape old mine mid old.own.channels name
+    typ proto
+offer_shape_by old ready theirs mine (Some mid) Audio Sctp name typ proto = rule_rejecting_shape mine
+offer_shape_by old ready theirs mine (Some mid) Video Sctp name typ proto = rule_rejecting_shape mine
+offer_shape_by old ready theirs mine (Some mid) Application Srtp name typ proto = rule_rejecting_shape mine
+offer_shape_by old ready theirs mine (Some mid) (Unknown text) proto name typ p = rule_rejecting_shape mine
+offer_shape_by old ready theirs mine None typ proto name t p = rule_rejecting_shape mine
 
-pub next_shape : (old : Exchange) (ready : List SectionDirection) (theirs : Option MediaLine) (mine : MediaLine)
+pub offer_next_shape : (old : Exchange) (ready : List SectionDirection) (theirs : Option MediaLine) (mine : MediaLine)
     → HasShapeOf mine (next_section old ready theirs mine)
-next_shape old ready theirs mine = shape_by old ready theirs mine (name_of mine) mine.typ mine.proto refl refl refl
+offer_next_shape old ready theirs mine = offer_shape_by old ready theirs mine (name_of mine) mine.typ mine.proto refl refl refl
 
-channels_name : (old : Exchange) (mid : List ℕ) (channels : Option DataChannels)
-    → name_of (offered_channels old.own (section_with Application Sctp (media.Mid mid ∷ [])) mid channels) ≡ Some mid
-channels_name old mid None = refl
-channels_name old mid (Some channels) = refl
+offer_channels_name : (old : Exchange) (mid : List ℕ) (channels : Option DataChannels)
+    → name_of (offered_channels old.own (offered_section_with Application Sctp (media.Mid mid ∷ [])) mid channels) ≡ Some mid
+offer_channels_name old mid None = refl
+offer_channels_name old mid (Some channels) = refl
 
-name_for : (old : Exchange) (ready : List SectionDirection) (extensions : List MediaAttribute) (mid : List ℕ) (what : Added)
+offer_name_for : (old : Exchange) (ready : List SectionDirection) (extensions : List MediaAttribute) (mid : List ℕ) (what : Added)
     → name_of (section_for old ready extensions mid what) ≡ Some mid
-name_for old ready extensions mid (added.Media kind direction) = refl
-name_for old ready extensions mid added.Channels = channels_name old mid old.own.channels
+offer_name_for old ready extensions mid (added.Media kind direction) = refl
+offer_name_for old ready extensions mid added.Channels = offer_channels_name old mid old.own.channels
 
-pub new_section_name : (old : Exchange) (ready : List SectionDirection) (extensions : List MediaAttribute) (placed : Placed)
+pub offer_new_section_name : (old : Exchange) (ready : List SectionDirection) (extensions : List MediaAttribute) (placed : Placed)
     → name_of (new_section old ready extensions placed) ≡ Some placed.mid
-new_section_name old ready extensions placed = name_for old ready extensions placed.mid placed.added
+offer_new_section_name old ready extensions placed = offer_name_for old ready extensions placed.mid placed.added
 
 -- ---- places
 
 -- what holds of the names holds of the sections under them
-pub all_named : (P : List ℕ → Type 0) (old : Exchange) (ready : List SectionDirection) (extensions : List MediaAttribute)
+pub offer_all_named : (P : List ℕ → Type 0) (old : Exchange) (ready : List SectionDirection) (extensions : List MediaAttribute)
     (names : List (List ℕ)) (what : List Added) → All P names
-    → All (λ m. MatchOption (name_of m) ⊥ P) (map (new_section old ready extensions) (placed_under names what))
-all_named P old ready extensions [] what all = All-nil (λ (m : MediaLine). MatchOption (name_of m) ⊥ P)
-all_named P old ready extensions (name ∷ names) [] all = All-nil (λ (m : MediaLine). MatchOption (name_of m) ⊥ P)
-all_named P old ready extensions (name ∷ names) (it ∷ more) all =
+    → All (λ m. MatchOption (name_of m) ⊥ P) (map (new_section old ready extensions) (added_under_names names what))
+offer_all_named P old ready extensions [] what all = All-nil (λ (m : MediaLine). MatchOption (name_of m) ⊥ P)
+offer_all_named P old ready extensions (name ∷ names) [] all = All-nil (λ (m : MediaLine). MatchOption (name_of m) ⊥ P)
+offer_all_named P old ready extensions (name ∷ names) (it ∷ more) all =
     All-cons (λ (m : MediaLine). MatchOption (name_of m) ⊥ P) (new_section old ready extensions (record { mid = name; added = it }))
-    (map (new_section old ready extensions) (placed_under names more))
+    (map (new_section old ready extensions) (added_under_names names more))
     (subst (λ (found : Option (List ℕ)). MatchOption found ⊥ P)
-    (sym (new_section_name old ready extensions (record { mid = name; added = it }))) (All-head P name names all))
-    (all_named P old ready extensions names more (All-tail P name names all))
+    (sym (offer_new_section_name old ready extensions (record { mid = name; added = it }))) (All-head P name names all))
+    (offer_all_named P old ready extensions names more (All-tail P name names all))
 
 record KeptPlace (old : Exchange) (at : ℕ) (mine said : MediaLine) (left : List MediaLine) : Type 0 where
   place : KeepsPlace old at mine said
-  later : All (HasNewName old) left
+  later : All (HasNewPlaceName old) left
 
-place_kept : (old : Exchange) (ready : List SectionDirection) (at : ℕ) (mine : MediaLine) (added : List MediaLine) (said : MediaLine)
+offer_place_kept : (old : Exchange) (ready : List SectionDirection) (at : ℕ) (mine : MediaLine) (added : List MediaLine) (said : MediaLine)
     (left : List MediaLine)
-    → All (HasNewName old) added → FillsPlace old ready at mine added said left → KeptPlace old at mine said left
-place_kept old ready at mine added said left new (inl (runs, is, same)) =
+    → All (HasNewPlaceName old) added → FillsPlace old ready at mine added said left → KeptPlace old at mine said left
+offer_place_kept old ready at mine added said left new (inl (runs, is, same)) =
     record {
-      place = inl (subst (HasShapeOf mine) (sym is) (next_shape old ready (theirs_at old.remote at) mine));
-      later = subst (All (HasNewName old)) (sym same) new;
+      place = inl (subst (HasShapeOf mine) (sym is) (offer_next_shape old ready (their_section_at old.remote at) mine));
+      later = subst (All (HasNewPlaceName old)) (sym same) new;
     }
-place_kept old ready at mine [] said left new (inr (over, is, same)) =
-    record { place = inl (subst (HasShapeOf mine) (sym is) (rejecting_shape mine)); later = subst (All (HasNewName old)) (sym same) new }
-place_kept old ready at mine (x ∷ xs) said left new (inr (over, is, same)) =
+offer_place_kept old ready at mine [] said left new (inr (over, is, same)) =
     record {
-      place = inr (over, subst (HasNewName old) (sym is) (All-head (HasNewName old) x xs new));
-      later = subst (All (HasNewName old)) (sym same) (All-tail (HasNewName old) x xs new);
+      place = inl (subst (HasShapeOf mine) (sym is) (rule_rejecting_shape mine));
+      later = subst (All (HasNewPlaceName old)) (sym same) new;
+    }
+offer_place_kept old ready at mine (x ∷ xs) said left new (inr (over, is, same)) =
+    record {
+      place = inr (over, subst (HasNewPlaceName old) (sym is) (All-head (HasNewPlaceName old) x xs new));
+      later = subst (All (HasNewPlaceName old)) (sym same) (All-tail (HasNewPlaceName old) x xs new);
     }
 
-places_kept : (old : Exchange) (ready : List SectionDirection) (at : ℕ) (ms added filled left : List MediaLine)
-    → All (HasNewName old) added → FillsPlaces old ready at ms added filled left → KeepsPlaces old at ms (filled ++ left)
-places_kept old ready at [] added [] left new fills = tt
-places_kept old ready at [] added (x ∷ filled) left new fills = absurd fills
-places_kept old ready at (m ∷ ms) added [] left new fills = absurd fills
-places_kept old ready at (m ∷ ms) added (x ∷ filled) left new fills =
-    let kept : KeptPlace old at m x fills.0 = place_kept old ready at m added x fills.0 new fills.1 in
-    (kept.place, places_kept old ready (at + 1) ms fills.0 filled left kept.later fills.2)
+offer_places_kept : (old : Exchange) (ready : List SectionDirection) (at : ℕ) (ms added filled left : List MediaLine)
+    → All (HasNewPlaceName old) added → FillsPlaces old ready at ms added filled left → KeepsPlaces old at ms (filled ++ left)
+offer_places_kept old ready at [] added [] left new fills = tt
+offer_places_kept old ready at [] added (x ∷ filled) left new fills = absurd fills
+offer_places_kept old ready at (m ∷ ms) added [] left new fills = absurd fills
+offer_places_kept old ready at (m ∷ ms) added (x ∷ filled) left new fills =
+    let kept : KeptPlace old at m x fills.0 = offer_place_kept old ready at m added x fills.0 new fills.1 in
+    (kept.place, offer_places_kept old ready (at + 1) ms fills.0 filled left kept.later fills.2)
 
 pub offer_places : (old : Exchange) (names : List (List ℕ)) (offer : Sdp) → All (IsNewName old) names → MakesOffer old names offer
     → KeepsPlaces old 0 (sections_of old.local) offer.media_lines
 offer_places old names offer new makes =
     subst (KeepsPlaces old 0 (sections_of old.local)) (sym makes.sections.all)
-    (places_kept old (ready_with old names) 0 (sections_of old.local) (sections_added old names) makes.sections.filled makes.sections.left
-    (all_named (IsNewName old) old (ready_with old names) _ names old.added new) makes.sections.fills)
+    (offer_places_kept old (ready_with_added old names) 0 (sections_of old.local) (sections_added old names) makes.sections.filled
+    makes.sections.left
+    (offer_all_named (IsNewName old) old (ready_with_added old names) _ names old.added new) makes.sections.fills)
 
 -- ---- sections with a port
 
-off : (m : MediaLine) (P : Type 0) → m.disabled ≡ true → m.disabled ≡ false → P
-off m P t f = absurd (let e : true ≡ false = sym t ∙ f in cc)
+offer_disabled_absurd : (m : MediaLine) (P : Type 0) → m.disabled ≡ true → m.disabled ≡ false → P
+offer_disabled_absurd m P t f = absurd (let e : true ≡ false = sym t ∙ f in cc)
 
-rejecting_offered : (old : Exchange) (ready : List SectionDirection) (mine : MediaLine) → IsOffered old ready (rejecting mine)
-rejecting_offered old ready mine = off (rejecting mine) (KeepsOffered old ready (rejecting mine)) refl
+rejecting_offered : (old : Exchange) (ready : List SectionDirection) (mine : MediaLine) → KeepsOfferRules old ready (rejecting_section mine)
+rejecting_offered old ready mine = offer_disabled_absurd (rejecting_section mine) (KeepsOfferedRules old ready (rejecting_section mine))
+    refl
 
 media_offered : (old : Exchange) (ready : List SectionDirection) (what : MediaKind) (mid : List ℕ) (asked : List MediaAttribute)
-    → IsOffered old ready (offered_media old ready what mid asked)
+    → KeepsOfferRules old ready (offered_media old ready what mid asked)
 media_offered old ready kind.Audio mid asked = λ on. record {
   creds = refl;
   fingerprint = refl;
   role = refl;
-  flows = λ typ. direction_said old.own mid ActPass (direction_among old.own ready (Some mid) Audio)
-      (map candidate_line old.own.candidates ++ asked ++ msid_lines old.own (direction_among old.own ready (Some mid) Audio) mid)
+  flows = λ typ. rule_direction_said old.own mid ActPass (direction_among old.own ready (Some mid) Audio)
+      (map accepted_candidate_line old.own.candidates ++ asked ++ accepted_msid_lines old.own
+      (direction_among old.own ready (Some mid) Audio) mid)
       (flat_map row_attrs (kind_rows kind.Audio true old.config.params.items));
   rows = refl;
 }
@@ -137,26 +145,27 @@ media_offered old ready kind.Video mid asked = λ on. record {
   creds = refl;
   fingerprint = refl;
   role = refl;
-  flows = λ typ. direction_said old.own mid ActPass (direction_among old.own ready (Some mid) Video)
-      (map candidate_line old.own.candidates ++ asked ++ msid_lines old.own (direction_among old.own ready (Some mid) Video) mid)
+  flows = λ typ. rule_direction_said old.own mid ActPass (direction_among old.own ready (Some mid) Video)
+      (map accepted_candidate_line old.own.candidates ++ asked ++ accepted_msid_lines old.own
+      (direction_among old.own ready (Some mid) Video) mid)
       (flat_map row_attrs (kind_rows kind.Video true old.config.params.items));
   rows = refl;
 }
 
-absurd_media : (P : Type 0) → false ≡ true → P
-absurd_media P e = cc
+offer_absurd_media : (P : Type 0) → false ≡ true → P
+offer_absurd_media P e = cc
 
 channels_offered : (old : Exchange) (ready : List SectionDirection) (instead : MediaLine) (mid : List ℕ) (channels : Option DataChannels)
-    → IsOffered old ready (offered_channels old.own instead mid channels)
+    → KeepsOfferRules old ready (offered_channels old.own instead mid channels)
 channels_offered old ready instead mid None = rejecting_offered old ready instead
 channels_offered old ready instead mid (Some channels) =
-    λ on. record { creds = refl; fingerprint = refl; role = refl; flows = λ typ. absurd_media _ typ; rows = tt }
+    λ on. record { creds = refl; fingerprint = refl; role = refl; flows = λ typ. offer_absurd_media _ typ; rows = tt }
 
 offered_by : (old : Exchange) (ready : List SectionDirection) (theirs : Option MediaLine) (mine : MediaLine) (name : Option (List ℕ))
     (typ : MediaType) (proto : Proto)
-    → IsOffered old ready (section_by old ready theirs mine name typ proto)
-offered_by old ready theirs mine (Some mid) Audio Srtp = media_offered old ready kind.Audio mid (kept_lines theirs mine)
-offered_by old ready theirs mine (Some mid) Video Srtp = media_offered old ready kind.Video mid (kept_lines theirs mine)
+    → KeepsOfferRules old ready (section_by old ready theirs mine name typ proto)
+offered_by old ready theirs mine (Some mid) Audio Srtp = media_offered old ready kind.Audio mid (kept_section_lines theirs mine)
+offered_by old ready theirs mine (Some mid) Video Srtp = media_offered old ready kind.Video mid (kept_section_lines theirs mine)
 offered_by old ready theirs mine (Some mid) Application Sctp = channels_offered old ready mine mid old.own.channels
 offered_by old ready theirs mine (Some mid) Audio Sctp = rejecting_offered old ready mine
 offered_by old ready theirs mine (Some mid) Video Sctp = rejecting_offered old ready mine
@@ -165,28 +174,28 @@ offered_by old ready theirs mine (Some mid) (Unknown text) proto = rejecting_off
 offered_by old ready theirs mine None typ proto = rejecting_offered old ready mine
 
 offered_for : (old : Exchange) (ready : List SectionDirection) (extensions : List MediaAttribute) (mid : List ℕ) (what : Added)
-    → IsOffered old ready (section_for old ready extensions mid what)
-offered_for old ready extensions mid (added.Media kind direction) = media_offered old ready kind mid (asked_lines extensions)
+    → KeepsOfferRules old ready (section_for old ready extensions mid what)
+offered_for old ready extensions mid (added.Media kind direction) = media_offered old ready kind mid (asked_section_lines extensions)
 offered_for old ready extensions mid added.Channels =
-    channels_offered old ready (section_with Application Sctp (media.Mid mid ∷ [])) mid old.own.channels
+    channels_offered old ready (offered_section_with Application Sctp (media.Mid mid ∷ [])) mid old.own.channels
 
 all_offered : (old : Exchange) (ready : List SectionDirection) (extensions : List MediaAttribute) (placed : List Placed)
-    → All (IsOffered old ready) (map (new_section old ready extensions) placed)
-all_offered old ready extensions [] = All-nil (IsOffered old ready)
+    → All (KeepsOfferRules old ready) (map (new_section old ready extensions) placed)
+all_offered old ready extensions [] = All-nil (KeepsOfferRules old ready)
 all_offered old ready extensions (it ∷ more) =
-    All-cons (IsOffered old ready) (new_section old ready extensions it) (map (new_section old ready extensions) more)
+    All-cons (KeepsOfferRules old ready) (new_section old ready extensions it) (map (new_section old ready extensions) more)
     (offered_for old ready extensions it.mid it.added) (all_offered old ready extensions more)
 
-abbrev IsAny : MediaLine → Type 0
-IsAny m = Unit {0}
+abbrev IsAnySection : MediaLine → Type 0
+IsAnySection m = Unit {0}
 
 pub offer_rules : (old : Exchange) (names : List (List ℕ)) (offer : Sdp) → MakesOffer old names offer
-    → All (IsOffered old (ready_with old names)) offer.media_lines
+    → All (KeepsOfferRules old (ready_with_added old names)) offer.media_lines
 offer_rules old names offer makes =
-    let ready : List SectionDirection = ready_with old names in
-    subst (All (IsOffered old ready)) (sym makes.sections.all)
-    (places_hold (IsOffered old ready) IsAny old ready
+    let ready : List SectionDirection = ready_with_added old names in
+    subst (All (KeepsOfferRules old ready)) (sym makes.sections.all)
+    (places_hold (KeepsOfferRules old ready) IsAnySection old ready
     (λ theirs mine any. offered_by old ready theirs mine (name_of mine) mine.typ mine.proto)
     (λ mine any. rejecting_offered old ready mine)
     0 (sections_of old.local) (sections_added old names) makes.sections.filled makes.sections.left
-    (λ k d lt. tt) (all_offered old ready _ (placed_under names old.added)) makes.sections.fills)
+    (λ k d lt. tt) (all_offered old ready _ (added_under_names names old.added)) makes.sections.fills)

@@ -6,17 +6,18 @@ use Rattle.exchange.proofs.Common.{Application, Unknown, Proto, Srtp, Sctp, Setu
 use Rattle.exchange.proofs.Common.{made}
 use Rattle.exchange.proofs.Common.{row_attrs, section_direction, AnswersDirection, Direction}
 use Rattle.exchange.proofs.answer.OfferedLaws.{accepted_channels_offered, accepted_media_offered}
-use Rattle.exchange.specs.answer.Accepted.{AcceptsChannels, AcceptsMedia, candidate_line, first_lines, framed, layer_lines, media_lines}
-use Rattle.exchange.specs.answer.Accepted.{msid_lines}
+use Rattle.exchange.specs.answer.Accepted.{AcceptsChannels, AcceptsMedia, accepted_candidate_line, first_accepted_lines, accepted_frame}
+use Rattle.exchange.specs.answer.Accepted.{accepted_layer_lines, accepted_media_lines}
+use Rattle.exchange.specs.answer.Accepted.{accepted_msid_lines}
 use Rattle.exchange.specs.answer.AnsweredSection.{AnswersSection, SaysChoice}
-use Rattle.exchange.specs.answer.Choice.{IsSectionChoice, choice_by_kind, by_name, channels_or_none, rows_or_none}
-use Rattle.exchange.specs.answer.RejectedSection.{direction_over, first_type, line_that, rejecting}
+use Rattle.exchange.specs.answer.Choice.{IsSectionChoice, choice_by_kind, choice_by_name, channels_choice, rows_choice}
+use Rattle.exchange.specs.answer.RejectedSection.{rejected_direction, first_rejected_type, first_rejected_line, rejecting_section}
 use Rattle.exchange.specs.answer.Rows.{answered_rows}
 use Rattle.exchange.specs.declared.answer.choice.Choice.{Choice}
 use Rattle.exchange.specs.declared.answer.choice.Choice.TheVariants.{Rejected, Media, Channels}
 use Rattle.exchange.specs.declared.state.own_side.DataChannels.{DataChannels}
 use Rattle.exchange.specs.declared.state.own_side.OwnSide.{OwnSide}
-use Rattle.exchange.specs.offer.Rules.{HasAnswerFor, HasShapeOf, IsAcceptedExactly, IsReachable, KeepsRules, SaysOnlyOffered}
+use Rattle.exchange.specs.offer.Rules.{HasAnswerFor, HasShapeOf, IsAcceptedExactly, IsReachableAnswer, KeepsRules, SaysOnlyOffered}
 use Rattle.exchange.specs.section.RepeatedLines.{repeated_lines}
 use Rattle.exchange.specs.section.Stopped.{IsStopped, name_of}
 use Rattle.exchange.specs.state.OwnSide.{own_direction}
@@ -26,35 +27,36 @@ use Rattle.str0m_values.specs.declared.direction.Direction.TheVariants as way
 -- ---- lists place by place
 
 -- what follows from a relation holds at each place
-pub all_zip_weaker : {A B : Type 0} (R S : A → B → Type 0) → ((x : A) (y : B) → R x y → S x y) → (xs : List A) (ys : List B)
+pub rule_all_zip_weaker : {A B : Type 0} (R S : A → B → Type 0) → ((x : A) (y : B) → R x y → S x y) → (xs : List A) (ys : List B)
     → AllZip R xs ys → AllZip S xs ys
-all_zip_weaker R S weaker [] [] zip = zip
-all_zip_weaker R S weaker [] (y ∷ ys) zip = zip
-all_zip_weaker R S weaker (x ∷ xs) [] zip = zip
-all_zip_weaker R S weaker (x ∷ xs) (y ∷ ys) zip = (weaker x y zip.0, all_zip_weaker R S weaker xs ys zip.1)
+rule_all_zip_weaker R S weaker [] [] zip = zip
+rule_all_zip_weaker R S weaker [] (y ∷ ys) zip = zip
+rule_all_zip_weaker R S weaker (x ∷ xs) [] zip = zip
+rule_all_zip_weaker R S weaker (x ∷ xs) (y ∷ ys) zip = (weaker x y zip.0, rule_all_zip_weaker R S weaker xs ys zip.1)
 
 -- ---- what is chosen
 
 -- the rows that are accepted
-from_rows : (mid name : List ℕ) (theirs rows : List PayloadParams) → Media mid theirs ≡ rows_or_none name rows
+rule_choice_from_rows : (mid name : List ℕ) (theirs rows : List PayloadParams) → Media mid theirs ≡ rows_choice name rows
     → (name ≡ mid) × (theirs ≡ rows) × (rows ≢ [])
-from_rows mid name theirs [] e = cc
-from_rows mid name theirs (row ∷ rows) e = ((cc), (cc), λ (n : row ∷ rows ≡ []). cc)
+rule_choice_from_rows mid name theirs [] e = cc
+rule_choice_from_rows mid name theirs (row ∷ rows) e = ((cc), (cc), λ (n : row ∷ rows ≡ []). cc)
 
-rows_not_channels : (mid name : List ℕ) (theirs : List PayloadParams) (channels : Option DataChannels)
-    → Media mid theirs ≡ channels_or_none name channels → ⊥
-rows_not_channels mid name theirs None e = cc
-rows_not_channels mid name theirs (Some channels) e = cc
+rule_rows_not_channels : (mid name : List ℕ) (theirs : List PayloadParams) (channels : Option DataChannels)
+    → Media mid theirs ≡ channels_choice name channels → ⊥
+rule_rows_not_channels mid name theirs None e = cc
+rule_rows_not_channels mid name theirs (Some channels) e = cc
 
-channels_not_rows : (mid name : List ℕ) (theirs : DataChannels) (rows : List PayloadParams) → Channels mid theirs ≡ rows_or_none name rows
+rule_channels_not_rows : (mid name : List ℕ) (theirs : DataChannels) (rows : List PayloadParams)
+    → Channels mid theirs ≡ rows_choice name rows
     → ⊥
-channels_not_rows mid name theirs [] e = cc
-channels_not_rows mid name theirs (row ∷ rows) e = cc
+rule_channels_not_rows mid name theirs [] e = cc
+rule_channels_not_rows mid name theirs (row ∷ rows) e = cc
 
-from_channels : (mid name : List ℕ) (theirs : DataChannels) (channels : Option DataChannels)
-    → Channels mid theirs ≡ channels_or_none name channels → (name ≡ mid) × (channels ≢ None)
-from_channels mid name theirs None e = cc
-from_channels mid name theirs (Some channels) e = ((cc), λ (n : Some channels ≡ None). cc)
+rule_choice_from_channels : (mid name : List ℕ) (theirs : DataChannels) (channels : Option DataChannels)
+    → Channels mid theirs ≡ channels_choice name channels → (name ≡ mid) × (channels ≢ None)
+rule_choice_from_channels mid name theirs None e = cc
+rule_choice_from_channels mid name theirs (Some channels) e = ((cc), λ (n : Some channels ≡ None). cc)
 
 record MediaChosen (own : OwnSide) (rows : List PayloadParams) (name : Option (List ℕ)) (typ : MediaType) (proto : Proto) (mid : List ℕ)
     (theirs : List PayloadParams) : Type 0 where
@@ -63,25 +65,25 @@ record MediaChosen (own : OwnSide) (rows : List PayloadParams) (name : Option (L
   some : rows ≢ []
   answerable : HasAnswerFor own rows typ proto
 
-media_of_kind : (own : OwnSide) (rows : List PayloadParams) (name : List ℕ) (typ : MediaType) (proto : Proto) (mid : List ℕ)
+rule_media_of_kind : (own : OwnSide) (rows : List PayloadParams) (name : List ℕ) (typ : MediaType) (proto : Proto) (mid : List ℕ)
     (theirs : List PayloadParams)
     → Media mid theirs ≡ choice_by_kind own rows name typ proto → MediaChosen own rows (Some name) typ proto mid theirs
-media_of_kind own rows name Audio Srtp mid theirs e = let f = from_rows mid name theirs rows e in
+rule_media_of_kind own rows name Audio Srtp mid theirs e = let f = rule_choice_from_rows mid name theirs rows e in
     record { named_so = ap Some f.0; same = f.1; some = f.2; answerable = f.2 }
-media_of_kind own rows name Video Srtp mid theirs e = let f = from_rows mid name theirs rows e in
+rule_media_of_kind own rows name Video Srtp mid theirs e = let f = rule_choice_from_rows mid name theirs rows e in
     record { named_so = ap Some f.0; same = f.1; some = f.2; answerable = f.2 }
-media_of_kind own rows name Application Sctp mid theirs e = absurd (rows_not_channels mid name theirs own.channels e)
-media_of_kind own rows name Audio Sctp mid theirs e = cc
-media_of_kind own rows name Video Sctp mid theirs e = cc
-media_of_kind own rows name Application Srtp mid theirs e = cc
-media_of_kind own rows name (Unknown text) Srtp mid theirs e = cc
-media_of_kind own rows name (Unknown text) Sctp mid theirs e = cc
+rule_media_of_kind own rows name Application Sctp mid theirs e = absurd (rule_rows_not_channels mid name theirs own.channels e)
+rule_media_of_kind own rows name Audio Sctp mid theirs e = cc
+rule_media_of_kind own rows name Video Sctp mid theirs e = cc
+rule_media_of_kind own rows name Application Srtp mid theirs e = cc
+rule_media_of_kind own rows name (Unknown text) Srtp mid theirs e = cc
+rule_media_of_kind own rows name (Unknown text) Sctp mid theirs e = cc
 
-media_chosen : (own : OwnSide) (rows : List PayloadParams) (name : Option (List ℕ)) (typ : MediaType) (proto : Proto) (mid : List ℕ)
+rule_media_chosen : (own : OwnSide) (rows : List PayloadParams) (name : Option (List ℕ)) (typ : MediaType) (proto : Proto) (mid : List ℕ)
     (theirs : List PayloadParams)
-    → Media mid theirs ≡ by_name own rows name typ proto → MediaChosen own rows name typ proto mid theirs
-media_chosen own rows None typ proto mid theirs e = cc
-media_chosen own rows (Some name) typ proto mid theirs e = media_of_kind own rows name typ proto mid theirs e
+    → Media mid theirs ≡ choice_by_name own rows name typ proto → MediaChosen own rows name typ proto mid theirs
+rule_media_chosen own rows None typ proto mid theirs e = cc
+rule_media_chosen own rows (Some name) typ proto mid theirs e = rule_media_of_kind own rows name typ proto mid theirs e
 
 record ChannelsChosen (own : OwnSide) (rows : List PayloadParams) (name : Option (List ℕ)) (typ : MediaType) (proto : Proto)
     (mid : List ℕ) : Type 0 where
@@ -89,140 +91,144 @@ record ChannelsChosen (own : OwnSide) (rows : List PayloadParams) (name : Option
   no_media : is_media typ ≡ false
   answerable : HasAnswerFor own rows typ proto
 
-channels_of_kind : (own : OwnSide) (rows : List PayloadParams) (name : List ℕ) (typ : MediaType) (proto : Proto) (mid : List ℕ)
+rule_channels_of_kind : (own : OwnSide) (rows : List PayloadParams) (name : List ℕ) (typ : MediaType) (proto : Proto) (mid : List ℕ)
     (theirs : DataChannels)
     → Channels mid theirs ≡ choice_by_kind own rows name typ proto → ChannelsChosen own rows (Some name) typ proto mid
-channels_of_kind own rows name Audio Srtp mid theirs e = absurd (channels_not_rows mid name theirs rows e)
-channels_of_kind own rows name Video Srtp mid theirs e = absurd (channels_not_rows mid name theirs rows e)
-channels_of_kind own rows name Application Sctp mid theirs e = let f = from_channels mid name theirs own.channels e in
+rule_channels_of_kind own rows name Audio Srtp mid theirs e = absurd (rule_channels_not_rows mid name theirs rows e)
+rule_channels_of_kind own rows name Video Srtp mid theirs e = absurd (rule_channels_not_rows mid name theirs rows e)
+rule_channels_of_kind own rows name Application Sctp mid theirs e = let f = rule_choice_from_channels mid name theirs own.channels e in
     record { named_so = ap Some f.0; no_media = refl; answerable = f.1 }
-channels_of_kind own rows name Audio Sctp mid theirs e = cc
-channels_of_kind own rows name Video Sctp mid theirs e = cc
-channels_of_kind own rows name Application Srtp mid theirs e = cc
-channels_of_kind own rows name (Unknown text) Srtp mid theirs e = cc
-channels_of_kind own rows name (Unknown text) Sctp mid theirs e = cc
+rule_channels_of_kind own rows name Audio Sctp mid theirs e = cc
+rule_channels_of_kind own rows name Video Sctp mid theirs e = cc
+rule_channels_of_kind own rows name Application Srtp mid theirs e = cc
+rule_channels_of_kind own rows name (Unknown text) Srtp mid theirs e = cc
+rule_channels_of_kind own rows name (Unknown text) Sctp mid theirs e = cc
 
-channels_chosen : (own : OwnSide) (rows : List PayloadParams) (name : Option (List ℕ)) (typ : MediaType) (proto : Proto) (mid : List ℕ)
+rule_channels_chosen : (own : OwnSide) (rows : List PayloadParams) (name : Option (List ℕ)) (typ : MediaType) (proto : Proto) (mid : List ℕ)
     (theirs : DataChannels)
-    → Channels mid theirs ≡ by_name own rows name typ proto → ChannelsChosen own rows name typ proto mid
-channels_chosen own rows None typ proto mid theirs e = cc
-channels_chosen own rows (Some name) typ proto mid theirs e = channels_of_kind own rows name typ proto mid theirs e
+    → Channels mid theirs ≡ choice_by_name own rows name typ proto → ChannelsChosen own rows name typ proto mid
+rule_channels_chosen own rows None typ proto mid theirs e = cc
+rule_channels_chosen own rows (Some name) typ proto mid theirs e = rule_channels_of_kind own rows name typ proto mid theirs e
 
 -- what this side has something for isn't rejected
-some_rows : (name : List ℕ) (rows : List PayloadParams) → Rejected ≡ rows_or_none name rows → rows ≢ [] → ⊥
-some_rows name [] e some = some refl
-some_rows name (row ∷ rows) e some = cc
+rule_some_rows : (name : List ℕ) (rows : List PayloadParams) → Rejected ≡ rows_choice name rows → rows ≢ [] → ⊥
+rule_some_rows name [] e some = some refl
+rule_some_rows name (row ∷ rows) e some = cc
 
-some_channels : (name : List ℕ) (channels : Option DataChannels) → Rejected ≡ channels_or_none name channels → channels ≢ None → ⊥
-some_channels name None e some = some refl
-some_channels name (Some channels) e some = cc
+rule_some_channels : (name : List ℕ) (channels : Option DataChannels) → Rejected ≡ channels_choice name channels → channels ≢ None → ⊥
+rule_some_channels name None e some = some refl
+rule_some_channels name (Some channels) e some = cc
 
-not_rejected : (own : OwnSide) (rows : List PayloadParams) (name : Option (List ℕ)) (typ : MediaType) (proto : Proto)
-    → Rejected ≡ by_name own rows name typ proto → name ≢ None → HasAnswerFor own rows typ proto → ⊥
-not_rejected own rows None typ proto e named_so has = named_so refl
-not_rejected own rows (Some name) Audio Srtp e named_so has = some_rows name rows e has
-not_rejected own rows (Some name) Video Srtp e named_so has = some_rows name rows e has
-not_rejected own rows (Some name) Application Sctp e named_so has = some_channels name own.channels e has
-not_rejected own rows (Some name) Audio Sctp e named_so has = has
-not_rejected own rows (Some name) Video Sctp e named_so has = has
-not_rejected own rows (Some name) Application Srtp e named_so has = has
-not_rejected own rows (Some name) (Unknown text) Srtp e named_so has = has
-not_rejected own rows (Some name) (Unknown text) Sctp e named_so has = has
+rule_not_rejected : (own : OwnSide) (rows : List PayloadParams) (name : Option (List ℕ)) (typ : MediaType) (proto : Proto)
+    → Rejected ≡ choice_by_name own rows name typ proto → name ≢ None → HasAnswerFor own rows typ proto → ⊥
+rule_not_rejected own rows None typ proto e named_so has = named_so refl
+rule_not_rejected own rows (Some name) Audio Srtp e named_so has = rule_some_rows name rows e has
+rule_not_rejected own rows (Some name) Video Srtp e named_so has = rule_some_rows name rows e has
+rule_not_rejected own rows (Some name) Application Sctp e named_so has = rule_some_channels name own.channels e has
+rule_not_rejected own rows (Some name) Audio Sctp e named_so has = has
+rule_not_rejected own rows (Some name) Video Sctp e named_so has = has
+rule_not_rejected own rows (Some name) Application Srtp e named_so has = has
+rule_not_rejected own rows (Some name) (Unknown text) Srtp e named_so has = has
+rule_not_rejected own rows (Some name) (Unknown text) Sctp e named_so has = has
 
-some_name : (name : Option (List ℕ)) (mid : List ℕ) → name ≡ Some mid → name ≢ None
-some_name name mid e n = cc
+rule_some_name : (name : Option (List ℕ)) (mid : List ℕ) → name ≡ Some mid → name ≢ None
+rule_some_name name mid e n = cc
 
 -- ---- sections that reject
 
-mid_first : (attrs : List MediaAttribute) → first (filter_map mid_of (option_to_list (find is_mid attrs))) ≡ first (filter_map mid_of attrs)
-mid_first [] = refl
-mid_first (media.Mid mid ∷ attrs) = refl
-mid_first (attr ∷ attrs) = mid_first attrs
+rule_mid_first : (attrs : List MediaAttribute) → first (filter_map mid_of (option_to_list (find is_mid attrs)))
+    ≡ first (filter_map mid_of attrs)
+rule_mid_first [] = refl
+rule_mid_first (media.Mid mid ∷ attrs) = refl
+rule_mid_first (attr ∷ attrs) = rule_mid_first attrs
 
-no_mid_mapped : (pt : ℕ) (attrs : List MediaAttribute) → filter_map mid_of (option_to_list (find (maps_type pt) attrs)) ≡ []
-no_mid_mapped pt [] = refl
-no_mid_mapped pt (media.RtpMap n value ∷ attrs) = go (maps_type pt (media.RtpMap n value)) (no_mid_mapped pt attrs) where
+rule_no_mid_mapped : (pt : ℕ) (attrs : List MediaAttribute) → filter_map mid_of (option_to_list (find (maps_type pt) attrs)) ≡ []
+rule_no_mid_mapped pt [] = refl
+rule_no_mid_mapped pt (media.RtpMap n value ∷ attrs) = go (maps_type pt (media.RtpMap n value)) (rule_no_mid_mapped pt attrs) where
   go : (b : Bool) → filter_map mid_of (option_to_list (find (maps_type pt) attrs)) ≡ []
       → filter_map mid_of (option_to_list (cond b (Some (media.RtpMap n value)) (find (maps_type pt) attrs))) ≡ []
   go true rec = refl
   go false rec = rec
-no_mid_mapped pt (attr ∷ attrs) = no_mid_mapped pt attrs
+rule_no_mid_mapped pt (attr ∷ attrs) = rule_no_mid_mapped pt attrs
 
-no_mid_behind : (proto : Proto) (lines : List MediaAttribute) → filter_map mid_of lines ≡ []
-    → filter_map mid_of (direction_over proto ++ lines) ≡ []
-no_mid_behind Srtp lines none = none
-no_mid_behind Sctp lines none = none
+rule_no_mid_behind : (proto : Proto) (lines : List MediaAttribute) → filter_map mid_of lines ≡ []
+    → filter_map mid_of (rejected_direction proto ++ lines) ≡ []
+rule_no_mid_behind Srtp lines none = none
+rule_no_mid_behind Sctp lines none = none
 
 -- it has the name of the offered one
-pub rejected_name : (offered : MediaLine) → name_of (rejecting offered) ≡ name_of offered
-rejected_name offered =
-    let mapped : List MediaAttribute = line_that (maps_type (first_type offered.pts)) offered.attrs in
-    let behind : filter_map mid_of (direction_over offered.proto ++ mapped) ≡ [] =
-    no_mid_behind offered.proto mapped (no_mid_mapped (first_type offered.pts) offered.attrs) in
-    ap first (filter_map-append mid_of (line_that is_mid offered.attrs) (direction_over offered.proto ++ mapped)
-    ∙ ap (λ (names : List (List ℕ)). filter_map mid_of (line_that is_mid offered.attrs) ++ names) behind
-    ∙ append-nil (filter_map mid_of (line_that is_mid offered.attrs)))
-    ∙ mid_first offered.attrs
+pub rule_rejected_name : (offered : MediaLine) → name_of (rejecting_section offered) ≡ name_of offered
+rule_rejected_name offered =
+    let mapped : List MediaAttribute = first_rejected_line (maps_type (first_rejected_type offered.pts)) offered.attrs in
+    let behind : filter_map mid_of (rejected_direction offered.proto ++ mapped) ≡ [] =
+    rule_no_mid_behind offered.proto mapped (rule_no_mid_mapped (first_rejected_type offered.pts) offered.attrs) in
+    ap first (filter_map-append mid_of (first_rejected_line is_mid offered.attrs) (rejected_direction offered.proto ++ mapped)
+    ∙ ap (λ (names : List (List ℕ)). filter_map mid_of (first_rejected_line is_mid offered.attrs) ++ names) behind
+    ∙ append-nil (filter_map mid_of (first_rejected_line is_mid offered.attrs)))
+    ∙ rule_mid_first offered.attrs
 
-pub rejecting_shape : (offered : MediaLine) → HasShapeOf offered (rejecting offered)
-rejecting_shape offered = record { typ = refl; proto = refl; name = rejected_name offered }
+pub rule_rejecting_shape : (offered : MediaLine) → HasShapeOf offered (rejecting_section offered)
+rule_rejecting_shape offered = record { typ = refl; proto = refl; name = rule_rejected_name offered }
 
 -- ---- sections that accept
 
 -- the direction that stands after the first lines is the section's
-pub direction_said : (own : OwnSide) (mid : List ℕ) (role : Setup) (direction : Direction) (behind rows : List MediaAttribute)
-    → section_direction (filter (λ attr. not (is_of_type attr)) (first_lines own mid role ++ (direction_attribute direction ∷ behind))
+pub rule_direction_said : (own : OwnSide) (mid : List ℕ) (role : Setup) (direction : Direction) (behind rows : List MediaAttribute)
+    → section_direction (filter (λ attr. not (is_of_type attr))
+    (first_accepted_lines own mid role ++ (direction_attribute direction ∷ behind))
     ++ rows) ≡ direction
-direction_said own mid role way.SendRecv behind rows = refl
-direction_said own mid role way.SendOnly behind rows = refl
-direction_said own mid role way.RecvOnly behind rows = refl
-direction_said own mid role way.Inactive behind rows = refl
+rule_direction_said own mid role way.SendRecv behind rows = refl
+rule_direction_said own mid role way.SendOnly behind rows = refl
+rule_direction_said own mid role way.RecvOnly behind rows = refl
+rule_direction_said own mid role way.Inactive behind rows = refl
 
 -- ---- the rules
 
-true_false : (b : Bool) → b ≡ true → b ≡ false → ⊥
-true_false b t f = cc
+rule_true_false : (b : Bool) → b ≡ true → b ≡ false → ⊥
+rule_true_false b t f = cc
 
-rejected_keeps : (own : OwnSide) (ours : List PayloadParams) (offer : Sdp) (offered answered : MediaLine)
+rule_rejected_keeps : (own : OwnSide) (ours : List PayloadParams) (offer : Sdp) (offered answered : MediaLine)
     → IsSectionChoice own ours offer offered Rejected
-    → answered ≡ rejecting offered → KeepsRules own ours offer offered answered
-rejected_keeps own ours offer offered answered is says =
+    → answered ≡ rejecting_section offered → KeepsRules own ours offer offered answered
+rule_rejected_keeps own ours offer offered answered is says =
     let off : answered.disabled ≡ true = ap (λ (m : MediaLine). m.disabled) says in
     record {
-      shape = subst (HasShapeOf offered) (sym says) (rejecting_shape offered);
+      shape = subst (HasShapeOf offered) (sym says) (rule_rejecting_shape offered);
       exactly = (
-        λ on. absurd (true_false answered.disabled off on),
-        λ fits. absurd (not_rejected own (answered_rows ours offered) (name_of offered) offered.typ offered.proto (is.open_so fits.runs)
+        λ on. absurd (rule_true_false answered.disabled off on),
+        λ fits. absurd (rule_not_rejected own (answered_rows ours offered) (name_of offered) offered.typ offered.proto
+            (is.open_so fits.runs)
             fits.named_so fits.answerable),
       );
-      accepted = λ on. absurd (true_false answered.disabled off on);
+      accepted = λ on. absurd (rule_true_false answered.disabled off on);
     }
 
-media_keeps : (own : OwnSide) (ours : List PayloadParams) (offer : Sdp) (offered answered : MediaLine) (mid : List ℕ)
+rule_media_keeps : (own : OwnSide) (ours : List PayloadParams) (offer : Sdp) (offered answered : MediaLine) (mid : List ℕ)
     (rows : List PayloadParams)
     → IsSectionChoice own ours offer offered (Media mid rows) → AcceptsMedia own offer offered mid rows answered
     → KeepsRules own ours offer offered answered
-media_keeps own ours offer offered answered mid rows is accepts =
+rule_media_keeps own ours offer offered answered mid rows is accepts =
     let runs : IsStopped offer offered → ⊥ = λ stopped. let e : Media mid rows ≡ Rejected = is.stopped stopped in cc in
     let chosen : MediaChosen own (answered_rows ours offered) (name_of offered) offered.typ offered.proto mid rows =
-    media_chosen own (answered_rows ours offered) (name_of offered) offered.typ offered.proto mid rows (is.open_so runs) in
-    let said : MediaLine = made (framed offered (first_lines own mid accepts.role ++ media_lines own offered mid accepts.direction rows))
+    rule_media_chosen own (answered_rows ours offered) (name_of offered) offered.typ offered.proto mid rows (is.open_so runs) in
+    let said : MediaLine = made (accepted_frame offered (first_accepted_lines own mid accepts.role
+    ++ accepted_media_lines own offered mid accepts.direction rows))
     rows in
     let shape : HasShapeOf offered said = record { typ = refl; proto = refl; name = sym chosen.named_so } in
-    let reachable : IsReachable own offer offered said =
+    let reachable : IsReachableAnswer own offer offered said =
     record { creds = refl; fingerprint = refl; role = accepts.role; says_role = refl; answers_role = accepts.answers_role } in
-    let way_said : section_direction said.attrs ≡ accepts.direction = direction_said own mid accepts.role accepts.direction
-    (map candidate_line own.candidates ++ repeated_lines own.extensions offered ++ msid_lines own accepts.direction mid
-    ++ layer_lines own accepts.direction offered rows)
+    let way_said : section_direction said.attrs ≡ accepts.direction = rule_direction_said own mid accepts.role accepts.direction
+    (map accepted_candidate_line own.candidates ++ repeated_lines own.extensions offered ++ accepted_msid_lines own accepts.direction mid
+    ++ accepted_layer_lines own accepts.direction offered rows)
     (flat_map row_attrs rows) in
     record {
       shape = subst (HasShapeOf offered) (sym accepts.says) shape;
       exactly = (
-        λ on. record { runs = runs; named_so = some_name (name_of offered) mid chosen.named_so; answerable = chosen.answerable },
+        λ on. record { runs = runs; named_so = rule_some_name (name_of offered) mid chosen.named_so; answerable = chosen.answerable },
         λ fits. ap (λ (m : MediaLine). m.disabled) accepts.says,
       );
       accepted = λ on. record {
-        reachable = subst (IsReachable own offer offered) (sym accepts.says) reachable;
+        reachable = subst (IsReachableAnswer own offer offered) (sym accepts.says) reachable;
         flows = λ typ. subst (λ (d : Direction). AnswersDirection (section_direction offered.attrs) (own_direction own offered) d)
             (sym (ap (λ (m : MediaLine). section_direction m.attrs) accepts.says ∙ way_said)) accepts.answers_direction;
         types_are = λ typ. (ap (λ (m : MediaLine). m.pts) accepts.says ∙ ap types chosen.same, chosen.some);
@@ -231,64 +237,67 @@ media_keeps own ours offer offered answered mid rows is accepts =
       };
     }
 
-channels_keep : (own : OwnSide) (ours : List PayloadParams) (offer : Sdp) (offered answered : MediaLine) (mid : List ℕ)
+rule_channels_keep : (own : OwnSide) (ours : List PayloadParams) (offer : Sdp) (offered answered : MediaLine) (mid : List ℕ)
     (channels : DataChannels)
     → IsSectionChoice own ours offer offered (Channels mid channels) → AcceptsChannels own offer offered mid channels answered
     → KeepsRules own ours offer offered answered
-channels_keep own ours offer offered answered mid channels is accepts =
+rule_channels_keep own ours offer offered answered mid channels is accepts =
     let runs : IsStopped offer offered → ⊥ = λ stopped. let e : Channels mid channels ≡ Rejected = is.stopped stopped in cc in
     let chosen : ChannelsChosen own (answered_rows ours offered) (name_of offered) offered.typ offered.proto mid =
-    channels_chosen own (answered_rows ours offered) (name_of offered) offered.typ offered.proto mid channels (is.open_so runs) in
+    rule_channels_chosen own (answered_rows ours offered) (name_of offered) offered.typ offered.proto mid channels (is.open_so runs) in
     let shape : HasShapeOf offered answered =
     subst (HasShapeOf offered) (sym accepts.says) (record { typ = refl; proto = refl; name = sym chosen.named_so }) in
-    let reachable : IsReachable own offer offered answered = subst (IsReachable own offer offered) (sym accepts.says)
+    let reachable : IsReachableAnswer own offer offered answered = subst (IsReachableAnswer own offer offered) (sym accepts.says)
     (record { creds = refl; fingerprint = refl; role = accepts.role; says_role = refl; answers_role = accepts.answers_role }) in
     record {
       shape = shape;
       exactly = (
-        λ on. record { runs = runs; named_so = some_name (name_of offered) mid chosen.named_so; answerable = chosen.answerable },
+        λ on. record { runs = runs; named_so = rule_some_name (name_of offered) mid chosen.named_so; answerable = chosen.answerable },
         λ fits. ap (λ (m : MediaLine). m.disabled) accepts.says,
       );
       accepted = λ on. record {
         reachable = reachable;
-        flows = λ typ. absurd (true_false (is_media offered.typ) typ chosen.no_media);
-        types_are = λ typ. absurd (true_false (is_media offered.typ) typ chosen.no_media);
+        flows = λ typ. absurd (rule_true_false (is_media offered.typ) typ chosen.no_media);
+        types_are = λ typ. absurd (rule_true_false (is_media offered.typ) typ chosen.no_media);
         offered_so = subst (SaysOnlyOffered offered) (sym accepts.says) (accepted_channels_offered own offered mid accepts.role channels);
       };
     }
 
-choice_keeps : (own : OwnSide) (ours : List PayloadParams) (offer : Sdp) (offered answered : MediaLine) (choice : Choice)
+rule_choice_keeps : (own : OwnSide) (ours : List PayloadParams) (offer : Sdp) (offered answered : MediaLine) (choice : Choice)
     → IsSectionChoice own ours offer offered choice → SaysChoice own offer offered choice answered
     → KeepsRules own ours offer offered answered
-choice_keeps own ours offer offered answered Rejected is says = rejected_keeps own ours offer offered answered is says
-choice_keeps own ours offer offered answered (Media mid rows) is says = media_keeps own ours offer offered answered mid rows is says
-choice_keeps own ours offer offered answered (Channels mid channels) is says = channels_keep own ours offer offered answered mid channels is
+rule_choice_keeps own ours offer offered answered Rejected is says = rule_rejected_keeps own ours offer offered answered is says
+rule_choice_keeps own ours offer offered answered (Media mid rows) is says = rule_media_keeps own ours offer offered answered mid rows is
+    says
+rule_choice_keeps own ours offer offered answered (Channels mid channels) is says = rule_channels_keep own ours offer offered answered mid
+    channels is
     says
 
 pub section_keeps_rules : (own : OwnSide) (ours : List PayloadParams) (offer : Sdp) (offered answered : MediaLine)
     → AnswersSection own ours offer offered answered
     → KeepsRules own ours offer offered answered
-section_keeps_rules own ours offer offered answered answers = choice_keeps own ours offer offered answered answers.choice answers.is_choice
+section_keeps_rules own ours offer offered answered answers = rule_choice_keeps own ours offer offered answered answers.choice
+    answers.is_choice
     answers.says
 
 -- each section keeps them
-pub sections_keep : (own : OwnSide) (ours : List PayloadParams) (offer : Sdp) (answered : List MediaLine)
+pub rule_sections_keep : (own : OwnSide) (ours : List PayloadParams) (offer : Sdp) (answered : List MediaLine)
     → AllZip (AnswersSection own ours offer) offer.media_lines answered
     → AllZip (KeepsRules own ours offer) offer.media_lines answered
-sections_keep own ours offer answered answers =
-    all_zip_weaker (AnswersSection own ours offer) (KeepsRules own ours offer)
+rule_sections_keep own ours offer answered answers =
+    rule_all_zip_weaker (AnswersSection own ours offer) (KeepsRules own ours offer)
     (λ theirs said. section_keeps_rules own ours offer theirs said) offer.media_lines answered answers
 
-pub sections_shape : (own : OwnSide) (ours : List PayloadParams) (offer : Sdp) (answered : List MediaLine)
+pub rule_sections_shape : (own : OwnSide) (ours : List PayloadParams) (offer : Sdp) (answered : List MediaLine)
     → AllZip (AnswersSection own ours offer) offer.media_lines answered
     → AllZip HasShapeOf offer.media_lines answered
-sections_shape own ours offer answered answers =
-    all_zip_weaker (AnswersSection own ours offer) HasShapeOf
+rule_sections_shape own ours offer answered answers =
+    rule_all_zip_weaker (AnswersSection own ours offer) HasShapeOf
     (λ theirs said each. (section_keeps_rules own ours offer theirs said each).shape) offer.media_lines answered answers
 
-pub sections_exact : (own : OwnSide) (ours : List PayloadParams) (offer : Sdp) (answered : List MediaLine)
+pub rule_sections_exact : (own : OwnSide) (ours : List PayloadParams) (offer : Sdp) (answered : List MediaLine)
     → AllZip (AnswersSection own ours offer) offer.media_lines answered
     → AllZip (IsAcceptedExactly own ours offer) offer.media_lines answered
-sections_exact own ours offer answered answers =
-    all_zip_weaker (AnswersSection own ours offer) (IsAcceptedExactly own ours offer)
+rule_sections_exact own ours offer answered answers =
+    rule_all_zip_weaker (AnswersSection own ours offer) (IsAcceptedExactly own ours offer)
     (λ theirs said each. (section_keeps_rules own ours offer theirs said each).exactly) offer.media_lines answered answers

@@ -16,20 +16,21 @@ as_many_named (m ∷ ms) = go (is_media m.typ) (as_many_named ms) where
   go true rec = ap suc rec
   go false rec = rec
 
-as_many_brought : (rounds : List Round) → length (map brought_rows rounds) ≡ length rounds
-as_many_brought [] = refl
-as_many_brought (round ∷ rounds) = ap suc (as_many_brought rounds)
+as_many_rounds_brought : (rounds : List Round) → length (map brought_rows rounds) ≡ length rounds
+as_many_rounds_brought [] = refl
+as_many_rounds_brought (round ∷ rounds) = ap suc (as_many_rounds_brought rounds)
 
-ended : (before : List PayloadParams) (rounds : List Round) (outcomes : List Outcome) (after : List PayloadParams)
+rounds_ended : (before : List PayloadParams) (rounds : List Round) (outcomes : List Outcome) (after : List PayloadParams)
     → RunReached before rounds outcomes after
     → length rounds ≡ length outcomes
-ended before [] [] after reached = refl
-ended before (round ∷ rounds) (outcome ∷ outcomes) after reached = ap suc (ended reached.0 rounds outcomes after reached.2)
-ended before [] (outcome ∷ outcomes) after reached = absurd reached
-ended before (round ∷ rounds) [] after reached = absurd reached
+rounds_ended before [] [] after reached = refl
+rounds_ended before (round ∷ rounds) (outcome ∷ outcomes) after reached = ap suc (rounds_ended reached.0 rounds outcomes after reached.2)
+rounds_ended before [] (outcome ∷ outcomes) after reached = absurd reached
+rounds_ended before (round ∷ rounds) [] after reached = absurd reached
 
-pub one_each : (sdp : Sdp) (before after : List PayloadParams) (outcomes : List Outcome) → Negotiated sdp.media_lines before outcomes after
+pub one_name_each : (sdp : Sdp) (before after : List PayloadParams) (outcomes : List Outcome)
+    → Negotiated sdp.media_lines before outcomes after
     → length (negotiated_names sdp) ≡ length outcomes
-one_each sdp before after outcomes negotiated =
-    as_many_named sdp.media_lines ∙ sym (ap length negotiated.rounds_are) ∙ as_many_brought negotiated.rounds
-    ∙ ended before negotiated.rounds outcomes after negotiated.reached
+one_name_each sdp before after outcomes negotiated =
+    as_many_named sdp.media_lines ∙ sym (ap length negotiated.rounds_are) ∙ as_many_rounds_brought negotiated.rounds
+    ∙ rounds_ended before negotiated.rounds outcomes after negotiated.reached

@@ -12,38 +12,38 @@ use Rattle.str0m_sdp.specs.declared.attribute.bandwidth.Bandwidth.{Bandwidth}
 use Rattle.str0m_values.specs.contracts.ice_creds.IceCredsPartialEq.TheImpl as creds_eq
 use Rattle.str0m_values.specs.contracts.payload_type.PtPartialEq.TheImpl as pt_eq
 
-abbrev eq_types : EqualityTest (List ℕ)
-eq_types = hlevel equality
+abbrev read_back_eq_types : EqualityTest (List ℕ)
+read_back_eq_types = hlevel equality
 
-pub types_Decides : (a b : List ℕ) → Decides (pointwise pt_eq.eq-value.it a b) (a ≡ b)
-types_Decides a b = eq_types.decides a b
+pub read_back_types_Decides : (a b : List ℕ) → Decides (pointwise pt_eq.eq-value.it a b) (a ≡ b)
+read_back_types_Decides a b = read_back_eq_types.decides a b
 
-abbrev eq_creds : EqualityTest IceCreds
-eq_creds = hlevel equality
+abbrev read_back_eq_creds : EqualityTest IceCreds
+read_back_eq_creds = hlevel equality
 
-pub creds_Decides : (a b : IceCreds) → Decides (creds_eq.eq-value.it a b) (a ≡ b)
-creds_Decides a b = eq_creds.decides a b
+pub read_back_creds_Decides : (a b : IceCreds) → Decides (creds_eq.eq-value.it a b) (a ≡ b)
+read_back_creds_Decides a b = read_back_eq_creds.decides a b
 
-abbrev typ : EqualityTest MediaType
-typ = eq_along media_type.as_values media_type.the_make media_type.the_eta (hlevel equality)
+abbrev media_type_equality : EqualityTest MediaType
+media_type_equality = eq_along media_type.as_values media_type.the_make media_type.the_eta (hlevel equality)
 
-pub type_Decides : (a b : MediaType) → Decides (type_eq.eq-value.it a b) (a ≡ b)
-type_Decides a b = typ.decides a b
+pub read_back_type_Decides : (a b : MediaType) → Decides (type_eq.eq-value.it a b) (a ≡ b)
+read_back_type_Decides a b = media_type_equality.decides a b
 
-abbrev eq_bandwidth : EqualityTest Bandwidth
-eq_bandwidth = hlevel equality
+abbrev read_back_eq_bandwidth : EqualityTest Bandwidth
+read_back_eq_bandwidth = hlevel equality
 
-abbrev may_have_bandwidth : EqualityTest (Option Bandwidth)
-may_have_bandwidth = hlevel (eq_bandwidth, equality)
+abbrev read_back_may_have_bandwidth : EqualityTest (Option Bandwidth)
+read_back_may_have_bandwidth = hlevel (read_back_eq_bandwidth, equality)
 
-pub bandwidth_Decides : (a b : Option Bandwidth) → Decides (option_eq bandwidth_eq.eq-value.it a b) (a ≡ b)
-bandwidth_Decides a b = may_have_bandwidth.decides a b
+pub read_back_bandwidth_Decides : (a b : Option Bandwidth) → Decides (option_eq bandwidth_eq.eq-value.it a b) (a ≡ b)
+read_back_bandwidth_Decides a b = read_back_may_have_bandwidth.decides a b
 
-abbrev eq_attribute : EqualityTest SessionAttribute
-eq_attribute = record { test = attribute_eq.eq-value.it; decides = attribute_Decides }
+abbrev read_back_eq_attribute : EqualityTest SessionAttribute
+read_back_eq_attribute = record { test = attribute_eq.eq-value.it; decides = attribute_Decides }
 
-abbrev eq_whole_session : EqualityTest Session
-eq_whole_session = hlevel (eq_attribute, eq_bandwidth, equality)
+abbrev read_back_eq_whole_session : EqualityTest Session
+read_back_eq_whole_session = hlevel (read_back_eq_attribute, read_back_eq_bandwidth, equality)
 
-pub whole_session_Decides : (a b : Session) → Decides (session_eq.eq-value.it a b) (a ≡ b)
-whole_session_Decides a b = eq_whole_session.decides a b
+pub read_back_whole_session_Decides : (a b : Session) → Decides (session_eq.eq-value.it a b) (a ≡ b)
+read_back_whole_session_Decides a b = read_back_eq_whole_session.decides a b

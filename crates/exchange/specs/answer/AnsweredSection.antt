@@ -2,7 +2,7 @@
 use Rattle.exchange.specs.Prelude.{MediaLine, PayloadParams, Sdp}
 use Rattle.exchange.specs.answer.Accepted.{AcceptsChannels, AcceptsMedia}
 use Rattle.exchange.specs.answer.Choice.{IsSectionChoice}
-use Rattle.exchange.specs.answer.RejectedSection.{rejecting}
+use Rattle.exchange.specs.answer.RejectedSection.{rejecting_section}
 use Rattle.exchange.specs.declared.answer.choice.Choice.{Choice}
 use Rattle.exchange.specs.declared.answer.choice.Choice.TheVariants.{Rejected, Media, Channels}
 use Rattle.exchange.specs.declared.state.own_side.OwnSide.{OwnSide}
@@ -10,7 +10,7 @@ use Rattle.std.specs.Prelude.{◌≡◌, List}
 
 -- what it says where the offered one is answered with this
 abbrev pub SaysChoice : OwnSide → Sdp → MediaLine → Choice → MediaLine → Type 0
-SaysChoice own offer offered Rejected answered = answered ≡ rejecting offered
+SaysChoice own offer offered Rejected answered = answered ≡ rejecting_section offered
 SaysChoice own offer offered (Media mid rows) answered = AcceptsMedia own offer offered mid rows answered
 SaysChoice own offer offered (Channels mid channels) answered = AcceptsChannels own offer offered mid channels answered
 

@@ -8,11 +8,11 @@ use Rattle.str0m_formats.specs.declared.round.rounds.Round.{Round}
 use Rattle.str0m_sdp.specs.declared.attribute.proto.Proto.TheVariants.{Srtp}
 
 -- the text is this description, and nothing follows it
-abbrev pub IsOffer : List ℕ → Sdp → Type 0
-IsOffer text offer = Reading text (offer, [])
+abbrev pub IsOfferText : List ℕ → Sdp → Type 0
+IsOfferText text offer = Reading text (offer, [])
 
 -- some lines follow those of the description that the text begins with, and the first of them has this number, counted from 1
-pub record IsCutShort (text : List ℕ) (line : ℕ) : Type 0 where
+pub record IsOfferCutShort (text : List ℕ) (line : ℕ) : Type 0 where
   pub offer : Sdp
   pub read : List Line
   pub unread : List Line
@@ -22,16 +22,16 @@ pub record IsCutShort (text : List ℕ) (line : ℕ) : Type 0 where
   pub number : line ≡ length read + 1
 
 -- why a text is no offer: it describes no session, or more follows
-abbrev pub RefusesText : List ℕ → ExchangeError → Type 0
-RefusesText text (NotRead cause) = Refuses cause (Reading text)
-RefusesText text (Unread line content) = IsCutShort text line
-RefusesText text (WrongState state) = ⊥
-RefusesText text (DoesNotFit section broken) = ⊥
-RefusesText text NoRows = ⊥
-RefusesText text NoChannels = ⊥
-RefusesText text NoName = ⊥
-RefusesText text NotPrintable = ⊥
-RefusesText text Memory = Unit {0}
+abbrev pub RefusesOfferText : List ℕ → ExchangeError → Type 0
+RefusesOfferText text (NotRead cause) = Refuses cause (Reading text)
+RefusesOfferText text (Unread line content) = IsOfferCutShort text line
+RefusesOfferText text (WrongState state) = ⊥
+RefusesOfferText text (DoesNotFit section broken) = ⊥
+RefusesOfferText text NoRows = ⊥
+RefusesOfferText text NoChannels = ⊥
+RefusesOfferText text NoName = ⊥
+RefusesOfferText text NotPrintable = ⊥
+RefusesOfferText text Memory = Unit {0}
 
 -- a section of media over RTP that isn't stopped brings a round (RFC 3264, sections 6.1 and 8.2)
 pub record BringsRound (offer : Sdp) (m : MediaLine) : Type 0 where
@@ -40,15 +40,15 @@ pub record BringsRound (offer : Sdp) (m : MediaLine) : Type 0 where
   pub over : m.proto ≡ Srtp
 
 -- with the rows and the direction that the section describes
-abbrev pub IsRoundOf : MediaLine → Round → Type 0
-IsRoundOf m round = (round.remote.items ≡ rows m) × (round.direction ≡ section_direction m.attrs)
+abbrev pub IsOfferedRoundOf : MediaLine → Round → Type 0
+IsOfferedRoundOf m round = (round.remote.items ≡ rows m) × (round.direction ≡ section_direction m.attrs)
 
 -- one round for each section that brings one, in order
 abbrev pub AreOfferRounds : Sdp → List MediaLine → List Round → Type 0
 AreOfferRounds offer [] rounds = rounds ≡ []
 AreOfferRounds offer (m ∷ ms) rounds =
     ((BringsRound offer m → ⊥) × AreOfferRounds offer ms rounds)
-    ⊎ (BringsRound offer m × (round : Round) × (more : List Round) × (rounds ≡ round ∷ more) × IsRoundOf m round × AreOfferRounds offer ms more)
+    ⊎ (BringsRound offer m × (round : Round) × (more : List Round) × (rounds ≡ round ∷ more) × IsOfferedRoundOf m round × AreOfferRounds offer ms more)
 
 -- the rounds of an offer lead from the rows before them to the rows after them
 pub record NegotiatesOffer (offer : Sdp) (before after : List PayloadParams) : Type 0 where

@@ -1,6 +1,6 @@
 -- Answers to an offer of this side.
 use Rattle.exchange.specs.Prelude.{AllDistinct, IsPlain, LockedStay, PayloadParams, Reading, Sdp, types}
-use Rattle.exchange.specs.answer.Offered.{NegotiatesOffer, RefusesText}
+use Rattle.exchange.specs.answer.Offered.{NegotiatesOffer, RefusesOfferText}
 use Rattle.exchange.specs.declared.offer.added.Placed.{Placed}
 use Rattle.exchange.specs.declared.offer.pending.Pending.{Pending}
 use Rattle.exchange.specs.declared.offer.rule.Rule.{Rule}
@@ -14,8 +14,8 @@ use Rattle.std.specs.Prelude.{◌≡◌, ℕ, List, [], Option, Some, None, All}
 use Rattle.str0m_formats.specs.declared.row.codec_config.CodecConfig.{CodecConfig}
 
 -- the text is this description, and nothing follows it
-abbrev pub IsAnswer : List ℕ → Sdp → Type 0
-IsAnswer text answer = Reading text (answer, [])
+abbrev pub IsAnswerText : List ℕ → Sdp → Type 0
+IsAnswerText text answer = Reading text (answer, [])
 
 -- why an answer with these rows after its rounds doesn't fit an offer
 abbrev pub RefusesFit : List PayloadParams → Sdp → Sdp → ExchangeError → Type 0
@@ -24,29 +24,29 @@ RefusesFit ours offer answer Memory = Unit {0}
 RefusesFit ours offer answer _ = ⊥
 
 -- what an open offer places
-abbrev pub placed_by : Option Pending → List Placed
-placed_by None = []
-placed_by (Some pending) = pending.placed
+abbrev pub placed_by_offer : Option Pending → List Placed
+placed_by_offer None = []
+placed_by_offer (Some pending) = pending.placed
 
-abbrev pub placed_of : Exchange → List Placed
-placed_of exchange = placed_by exchange.pending
+abbrev pub placed_of_offer : Exchange → List Placed
+placed_of_offer exchange = placed_by_offer exchange.pending
 
 -- the answer that the text is doesn't fit the open offer, where its rounds lead to some rows
-pub record IsMisfit (old : Exchange) (text : List ℕ) (section : ℕ) (rule : Rule) : Type 0 where
+pub record IsMisfitAnswer (old : Exchange) (text : List ℕ) (section : ℕ) (rule : Rule) : Type 0 where
   pub offer : Sdp
   pub open_so : pending_sdp old ≡ Some offer
   pub answer : Sdp
-  pub is_answer : IsAnswer text answer
+  pub is_answer : IsAnswerText text answer
   pub ours : List PayloadParams
   pub negotiated : NegotiatesOffer answer old.config.params.items ours
   pub breaks : Breaks ours offer answer section rule
 
 -- why an answer isn't taken
 abbrev pub RefusesAnswer : Exchange → List ℕ → ExchangeError → Type 0
-RefusesAnswer old text (NotRead cause) = RefusesText text (NotRead cause)
-RefusesAnswer old text (Unread line content) = RefusesText text (Unread line content)
+RefusesAnswer old text (NotRead cause) = RefusesOfferText text (NotRead cause)
+RefusesAnswer old text (Unread line content) = RefusesOfferText text (Unread line content)
 RefusesAnswer old text (WrongState state) = (old.pending ≡ None) × (state ≡ Stable)
-RefusesAnswer old text (DoesNotFit section broken) = IsMisfit old text section broken
+RefusesAnswer old text (DoesNotFit section broken) = IsMisfitAnswer old text section broken
 RefusesAnswer old text NoRows = ⊥
 RefusesAnswer old text NoChannels = ⊥
 RefusesAnswer old text NoName = ⊥
@@ -57,7 +57,7 @@ RefusesAnswer old text Memory = Unit {0}
 pub record IsTakenWith (old : Exchange) (text : List ℕ) (answer : Sdp) (after : CodecConfig) : Type 0 where
   pub offer : Pending
   pub open_so : old.pending ≡ Some offer
-  pub read : IsAnswer text answer
+  pub read : IsAnswerText text answer
   pub fits : FitsOffer after.params.items offer.sdp answer
   pub negotiated : NegotiatesOffer answer old.config.params.items after.params.items
   pub stay : LockedStay old.config.params.items after.params.items

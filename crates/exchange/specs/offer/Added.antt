@@ -8,32 +8,32 @@ use Rattle.exchange.specs.declared.state.own_side.SectionDirection.{SectionDirec
 use Rattle.std.specs.Prelude.{ℕ, List, [], ◌∷◌, ◌++◌, Option, Some, None, filter_map, map}
 
 -- what was added, in order, each under its name
-abbrev pub placed_under : List (List ℕ) → List Added → List Placed
-placed_under [] added = []
-placed_under (mid ∷ mids) [] = []
-placed_under (mid ∷ mids) (first ∷ more) = record { mid = mid; added = first } ∷ placed_under mids more
+abbrev pub added_under_names : List (List ℕ) → List Added → List Placed
+added_under_names [] added = []
+added_under_names (mid ∷ mids) [] = []
+added_under_names (mid ∷ mids) (first ∷ more) = record { mid = mid; added = first } ∷ added_under_names mids more
 
-abbrev pub names_of : List Placed → List (List ℕ)
-names_of placed = map (λ it. it.mid) placed
+abbrev pub added_names_of : List Placed → List (List ℕ)
+added_names_of placed = map (λ it. it.mid) placed
 
 -- what media was added for, in the section of that name
-abbrev pub direction_under : List ℕ → Added → Option SectionDirection
-direction_under mid (Media kind direction) = Some (record { mid = mid; direction = direction })
-direction_under mid Channels = None
+abbrev pub added_direction_under : List ℕ → Added → Option SectionDirection
+added_direction_under mid (Media kind direction) = Some (record { mid = mid; direction = direction })
+added_direction_under mid Channels = None
 
-abbrev pub placed_direction : Placed → Option SectionDirection
-placed_direction placed = direction_under placed.mid placed.added
+abbrev pub added_direction : Placed → Option SectionDirection
+added_direction placed = added_direction_under placed.mid placed.added
 
 -- after what this side is ready for in other sections
-abbrev pub with_placed : List SectionDirection → List Placed → List SectionDirection
-with_placed entries placed = entries ++ filter_map placed_direction placed
+abbrev pub with_added_directions : List SectionDirection → List Placed → List SectionDirection
+with_added_directions entries placed = entries ++ filter_map added_direction placed
 
 -- ---- an exchange to which something is added
 
 -- its next offer adds media of a kind, for which this side is ready in a direction
-abbrev pub with_media : MediaKind → Direction → Exchange → Exchange
-with_media kind direction before = record before { added = before.added ++ Media kind direction ∷ [] }
+abbrev pub with_added_media : MediaKind → Direction → Exchange → Exchange
+with_added_media kind direction before = record before { added = before.added ++ Media kind direction ∷ [] }
 
 -- its next offer adds data channels
-abbrev pub with_channels : Exchange → Exchange
-with_channels before = record before { added = before.added ++ Channels ∷ [] }
+abbrev pub with_added_channels : Exchange → Exchange
+with_added_channels before = record before { added = before.added ++ Channels ∷ [] }

@@ -1,7 +1,7 @@
 -- The rules that an answer to an offer of this side keeps.
 use Rattle.exchange.specs.Prelude.{Direction, MediaLine, PayloadParams, Sdp, is_listed, is_media, receives, section_direction, sends}
 use Rattle.exchange.specs.answer.Accepted.{setup_in_force}
-use Rattle.exchange.specs.answer.InBundle.{bundle_names, is_so_for}
+use Rattle.exchange.specs.answer.InBundle.{bundle_names, is_so_in_bundle}
 use Rattle.exchange.specs.answer.Rows.{answered_rows}
 use Rattle.exchange.specs.answer.TurnedLayers.{TurnsLayers}
 use Rattle.exchange.specs.declared.offer.rule.Rule.{Rule}
@@ -15,13 +15,13 @@ use Rattle.str0m_sdp.specs.declared.attribute.setup.Setup.TheVariants.{ActPass}
 -- ---- a section beside the one that is offered in its place
 
 -- it sends only where the offer receives, and receives only where the offer sends (RFC 3264, section 6.1)
-pub record FlowsWithin (offered answered : Direction) : Type 0 where
+pub record FitsFlow (offered answered : Direction) : Type 0 where
   pub sending : sends answered ≡ true → receives offered ≡ true
   pub receiving : receives answered ≡ true → sends offered ≡ true
 
 -- where a section is accepted, by its port (RFC 3264, section 6)
-abbrev pub IfAccepted : MediaLine → Type 0 → Type 0
-IfAccepted answered Holds = answered.disabled ≡ false → Holds
+abbrev pub FitsIfAccepted : MediaLine → Type 0 → Type 0
+FitsIfAccepted answered Holds = answered.disabled ≡ false → Holds
 
 -- what each rule asks of a section, where `ours` are this side's rows after the rounds of the answer
 abbrev pub Keeps : List PayloadParams → Sdp → MediaLine → MediaLine → Rule → Type 0
@@ -30,14 +30,14 @@ Keeps ours answer offered answered rule.Protocol = answered.proto ≡ offered.pr
 Keeps ours answer offered answered rule.Name = name_of answered ≡ name_of offered
 Keeps ours answer offered answered rule.Stopped = offered.disabled ≡ true → answered.disabled ≡ true
 Keeps ours answer offered answered rule.Direction =
-    IfAccepted answered (is_media answered.typ ≡ true → FlowsWithin (section_direction offered.attrs) (section_direction answered.attrs))
+    FitsIfAccepted answered (is_media answered.typ ≡ true → FitsFlow (section_direction offered.attrs) (section_direction answered.attrs))
 -- none said means active (RFC 4145, section 4.1)
-Keeps ours answer offered answered rule.Role = IfAccepted answered (setup_in_force answer answered ≢ Some ActPass)
-Keeps ours answer offered answered rule.Formats = IfAccepted answered (is_media answered.typ ≡ true → answered_rows ours answered ≢ [])
-Keeps ours answer offered answered rule.Lines = IfAccepted answered (SaysOnlyOffered offered answered)
-Keeps ours answer offered answered rule.Layers = IfAccepted answered (TurnsLayers offered answered)
-Keeps ours answer offered answered rule.Credentials = IfAccepted answered (is_so_for (has_creds answer.session) answer answered ≡ true)
-Keeps ours answer offered answered rule.Fingerprint = IfAccepted answered (is_so_for (has_fingerprint answer.session) answer answered ≡ true)
+Keeps ours answer offered answered rule.Role = FitsIfAccepted answered (setup_in_force answer answered ≢ Some ActPass)
+Keeps ours answer offered answered rule.Formats = FitsIfAccepted answered (is_media answered.typ ≡ true → answered_rows ours answered ≢ [])
+Keeps ours answer offered answered rule.Lines = FitsIfAccepted answered (SaysOnlyOffered offered answered)
+Keeps ours answer offered answered rule.Layers = FitsIfAccepted answered (TurnsLayers offered answered)
+Keeps ours answer offered answered rule.Credentials = FitsIfAccepted answered (is_so_in_bundle (has_creds answer.session) answer answered ≡ true)
+Keeps ours answer offered answered rule.Fingerprint = FitsIfAccepted answered (is_so_in_bundle (has_fingerprint answer.session) answer answered ≡ true)
 -- those of the whole answer and of later offers ask nothing of a section by itself
 Keeps ours answer offered answered rule.Sections = Unit {0}
 Keeps ours answer offered answered rule.Bundle = Unit {0}
@@ -45,49 +45,49 @@ Keeps ours answer offered answered rule.OwnName = Unit {0}
 Keeps ours answer offered answered rule.Place = Unit {0}
 
 -- a section keeps every rule
-abbrev pub KeepsEveryRule : List PayloadParams → Sdp → MediaLine → MediaLine → Type 0
-KeepsEveryRule ours answer offered answered = (rule : Rule) → Keeps ours answer offered answered rule
+abbrev pub FitsEveryRule : List PayloadParams → Sdp → MediaLine → MediaLine → Type 0
+FitsEveryRule ours answer offered answered = (rule : Rule) → Keeps ours answer offered answered rule
 
 -- so does the one at a place, where both sides have one there
 abbrev pub FitsAt : List PayloadParams → Sdp → Sdp → ℕ → Type 0
 FitsAt ours offer answer at = (offered answered : MediaLine)
-    → slice_get offer.media_lines at ≡ Some offered → slice_get answer.media_lines at ≡ Some answered → KeepsEveryRule ours answer offered answered
+    → slice_get offer.media_lines at ≡ Some offered → slice_get answer.media_lines at ≡ Some answered → FitsEveryRule ours answer offered answered
 
 -- ---- an answer as a whole
 
 -- the name of a section that is accepted
-abbrev pub accepted_name : MediaLine → Option (List ℕ)
-accepted_name m = cond m.disabled None (name_of m)
+abbrev pub fit_section_name : MediaLine → Option (List ℕ)
+fit_section_name m = cond m.disabled None (name_of m)
 
-abbrev pub unrejected_names : Sdp → List (List ℕ)
-unrejected_names sdp = filter_map accepted_name sdp.media_lines
+abbrev pub fit_section_names : Sdp → List (List ℕ)
+fit_section_names sdp = filter_map fit_section_name sdp.media_lines
 
 -- its group lists accepted sections alone, and of those that the offer's group lists (RFC 9143, section 7.3)
-pub record IsBundledSo (offer answer : Sdp) (mid : List ℕ) : Type 0 where
-  pub accepted : is_listed (unrejected_names answer) (Some mid) ≡ true
+pub record FitsBundledName (offer answer : Sdp) (mid : List ℕ) : Type 0 where
+  pub accepted : is_listed (fit_section_names answer) (Some mid) ≡ true
   pub offered : is_listed (bundle_names offer) (Some mid) ≡ true
 
-abbrev pub BundlesSo : Sdp → Sdp → Type 0
-BundlesSo offer answer = All (IsBundledSo offer answer) (bundle_names answer)
+abbrev pub FitsBundle : Sdp → Sdp → Type 0
+FitsBundle offer answer = All (FitsBundledName offer answer) (bundle_names answer)
 
 -- the answer fits the offer: as many sections (RFC 3264, section 6), each keeps every rule, and the group lists what it may
 pub record FitsOffer (ours : List PayloadParams) (offer answer : Sdp) : Type 0 where
   pub as_many : length answer.media_lines ≡ length offer.media_lines
   pub each : (at : ℕ) → FitsAt ours offer answer at
-  pub bundle : BundlesSo offer answer
+  pub bundle : FitsBundle offer answer
 
 -- ---- what doesn't fit
 
 -- the rules of a section, in the order in which they are asked
-abbrev pub rules_asked : List Rule
-rules_asked =
+abbrev pub fit_rules_asked : List Rule
+fit_rules_asked =
     rule.MediaType ∷ (rule.Protocol ∷ (rule.Name ∷ (rule.Stopped ∷ (rule.Direction ∷ (rule.Role ∷ (rule.Formats ∷ (rule.Lines ∷ (rule.Layers ∷ (rule.Credentials ∷ (rule.Fingerprint ∷ []))))))))))
 
 -- a section breaks a rule, and keeps all that are asked before it
 pub record BreaksFirst (ours : List PayloadParams) (answer : Sdp) (offered answered : MediaLine) (rule : Rule) : Type 0 where
   pub place : ℕ
-  pub stands : slice_get rules_asked place ≡ Some rule
-  pub earlier : All (Keeps ours answer offered answered) (take place rules_asked)
+  pub stands : slice_get fit_rules_asked place ≡ Some rule
+  pub earlier : All (Keeps ours answer offered answered) (take place fit_rules_asked)
   pub broken : Keeps ours answer offered answered rule → ⊥
 
 -- so does the section at a place
@@ -106,7 +106,7 @@ BreaksFirstAt ours offer answer at rule = ((before : ℕ) → before < at → Fi
 abbrev pub BreaksWhole : List PayloadParams → Sdp → Sdp → Rule → Type 0
 BreaksWhole ours offer answer rule.Sections = length answer.media_lines ≢ length offer.media_lines
 BreaksWhole ours offer answer rule.Bundle =
-    (length answer.media_lines ≡ length offer.media_lines) × ((at : ℕ) → FitsAt ours offer answer at) × (BundlesSo offer answer → ⊥)
+    (length answer.media_lines ≡ length offer.media_lines) × ((at : ℕ) → FitsAt ours offer answer at) × (FitsBundle offer answer → ⊥)
 BreaksWhole ours offer answer _ = ⊥
 
 -- the first that is broken: the number of sections is asked first, then section by section each rule, then the group

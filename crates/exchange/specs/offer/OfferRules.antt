@@ -7,7 +7,7 @@ use Rattle.exchange.specs.declared.state.signaling_state.SignalingState.TheVaria
 use Rattle.exchange.specs.offer.FreshNames.{AreFresh}
 use Rattle.exchange.specs.offer.MadeOffer.{MakesOffer, ready_with}
 use Rattle.exchange.specs.offer.Rules.{HasShapeOf}
-use Rattle.exchange.specs.section.Places.{FollowsPlaces, IsOver}
+use Rattle.exchange.specs.section.Places.{IsPlaceOver}
 use Rattle.exchange.specs.section.Stopped.{name_of}
 use Rattle.exchange.specs.state.OwnSide.{direction_among}
 use Rattle.exchange.specs.state.ReadBack.{IsReadBack}
@@ -23,13 +23,13 @@ use Rattle.str0m_values.specs.declared.media_kind.MediaKind.TheVariants as kind
 abbrev pub IsNewName : Exchange → List ℕ → Type 0
 IsNewName old name = is_listed (taken_names old) (Some name) ≡ false
 
-abbrev pub HasNewName : Exchange → MediaLine → Type 0
-HasNewName old m = MatchOption (name_of m) ⊥ (IsNewName old)
+abbrev pub HasNewPlaceName : Exchange → MediaLine → Type 0
+HasNewPlaceName old m = MatchOption (name_of m) ⊥ (IsNewName old)
 
 -- an earlier section has its place, with its type, protocol and name; or the place is over, and has a new one (RFC 3264, section 8;
 -- RFC 8829, section 5.2.2)
 abbrev pub KeepsPlace : Exchange → ℕ → MediaLine → MediaLine → Type 0
-KeepsPlace old at mine said = HasShapeOf mine said ⊎ (IsOver old.remote at mine × HasNewName old said)
+KeepsPlace old at mine said = HasShapeOf mine said ⊎ (IsPlaceOver old.remote at mine × HasNewPlaceName old said)
 
 -- each place from one on, and there may be more after them
 abbrev pub KeepsPlaces : Exchange → ℕ → List MediaLine → List MediaLine → Type 0
@@ -46,7 +46,7 @@ ListsRows ours Audio pts = pts ≡ types (kind_rows kind.Audio true ours)
 ListsRows ours Video pts = pts ≡ types (kind_rows kind.Video true ours)
 ListsRows ours _ pts = Unit {0}
 
-pub record KeepsOffered (old : Exchange) (ready : List SectionDirection) (m : MediaLine) : Type 0 where
+pub record KeepsOfferedRules (old : Exchange) (ready : List SectionDirection) (m : MediaLine) : Type 0 where
   -- this side's credentials (RFC 8839, section 5.4), its fingerprint (RFC 8122, section 5), and both roles (RFC 8842, section 5.2)
   pub creds : media_creds m.attrs ≡ Some old.own.creds
   pub fingerprint : first (filter_map media_fingerprint m.attrs) ≡ Some old.own.fingerprint
@@ -55,21 +55,5 @@ pub record KeepsOffered (old : Exchange) (ready : List SectionDirection) (m : Me
   pub flows : is_media m.typ ≡ true → section_direction m.attrs ≡ direction_among old.own ready (name_of m) m.typ
   pub rows : ListsRows old.config.params.items m.typ m.pts
 
-abbrev pub IsOffered : Exchange → List SectionDirection → MediaLine → Type 0
-IsOffered old ready m = m.disabled ≡ false → KeepsOffered old ready m
-
--- ---- the whole
-
--- this side makes the offer, which keeps the rules beside the last exchange, and is read back whole
-pub record IsOfferedWith (old : Exchange) (offer : Offer) : Type 0 where
-  pub stable : state_of old ≡ Stable
-  pub names : (to : ℕ) × AreFresh (taken_names old) 0 offer.added to
-  pub as_many : length offer.added ≡ length old.added
-  pub new : All (IsNewName old) offer.added
-  pub says : MakesOffer old offer.added offer.sdp
-  pub places : KeepsPlaces old 0 (sections_of old.local) offer.sdp.media_lines
-  pub follows : FollowsPlaces old.names (sections_of old.local) offer.sdp.media_lines
-  pub rules : All (IsOffered old (ready_with old offer.added)) offer.sdp.media_lines
-  pub different : AreDistinct (section_mids (sections_of old.local)) → AreDistinct (section_mids offer.sdp.media_lines)
-  pub read_back : IsReadBack offer.sdp (versioned_text offer.version offer.sdp)
-  pub version : offer.version ≡ old.version
+abbrev pub KeepsOfferRules : Exchange → List SectionDirection → MediaLine → Type 0
+KeepsOfferRules old ready m = m.disabled ≡ false → KeepsOfferedRules old ready m

@@ -35,7 +35,7 @@ IsAcceptedExactly own ours offer offered answered = (answered.disabled ≡ false
 
 -- it says what its transport needs: this side's credentials (RFC 8839, section 5.4), its fingerprint (RFC 8122, section 5), and a
 -- role that answers the one in force (RFC 8842, section 5.3)
-pub record IsReachable (own : OwnSide) (offer : Sdp) (offered answered : MediaLine) : Type 0 where
+pub record IsReachableAnswer (own : OwnSide) (offer : Sdp) (offered answered : MediaLine) : Type 0 where
   pub creds : media_creds answered.attrs ≡ Some own.creds
   pub fingerprint : first (filter_map media_fingerprint answered.attrs) ≡ Some own.fingerprint
   pub role : Setup
@@ -60,7 +60,7 @@ SaysOnlyOffered offered answered = All (λ line. needs_offer line ≡ true → C
 
 -- the rules of an accepted section
 pub record KeepsAccepted (own : OwnSide) (ours : List PayloadParams) (offer : Sdp) (offered answered : MediaLine) : Type 0 where
-  pub reachable : IsReachable own offer offered answered
+  pub reachable : IsReachableAnswer own offer offered answered
   pub flows : is_media offered.typ ≡ true → FlowsSo own offered answered
   -- the rows that answer it stand in its m-line, in order, and there is one (RFC 3264, section 6.1)
   pub types_are : is_media offered.typ ≡ true → (answered.pts ≡ types (answered_rows ours offered)) × (answered_rows ours offered ≢ [])

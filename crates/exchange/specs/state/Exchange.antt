@@ -2,7 +2,7 @@
 use Rattle.exchange.specs.Prelude.{AreDistinct, MediaKind, MediaLine, PayloadParams, Sdp, kind_rows, section_mids, versioned_text}
 use Rattle.exchange.specs.answer.AnsweredSection.{AnswersSection}
 use Rattle.exchange.specs.answer.AnsweredSession.{answered_session}
-use Rattle.exchange.specs.answer.Offered.{IsOffer, NegotiatesOffer, RefusesText}
+use Rattle.exchange.specs.answer.Offered.{IsOfferText, NegotiatesOffer, RefusesOfferText}
 use Rattle.exchange.specs.declared.offer.rule.Rule.{Rule}
 use Rattle.exchange.specs.declared.offer.rule.Rule.TheVariants.{OwnName, Place}
 use Rattle.exchange.specs.declared.state.exchange.Exchange.{Exchange}
@@ -13,7 +13,7 @@ use Rattle.exchange.specs.declared.state.signaling_state.SignalingState.TheVaria
 use Rattle.exchange.specs.offer.FreshNames.{AreFresh, AreTooFew}
 use Rattle.exchange.specs.offer.MadeOffer.{MakesOffer}
 use Rattle.exchange.specs.offer.OwnNames.{IsNamedAgain}
-use Rattle.exchange.specs.section.Places.{MovesAt}
+use Rattle.exchange.specs.section.Places.{MovesPlaceAt}
 use Rattle.exchange.specs.state.ReadBack.{IsReadBack}
 use Rattle.exchange.specs.state.State.{sections_of, state_of, taken_names}
 use Rattle.std.specs.List.{AllZip}
@@ -25,8 +25,8 @@ pub record AnswersOffer (own : OwnSide) (ours : List PayloadParams) (offer answe
   pub session : answer.session ≡ answered_session own offer answer.media_lines
 
 -- as many sections as the offer that was read last, each beside the one in its place as R says (RFC 3264, section 6)
-abbrev pub EachSection : (Sdp → MediaLine → MediaLine → Type 0) → Option Sdp → Sdp → Type 0
-EachSection R remote answer = IsSomeAnd remote (λ offer. AllZip (R offer) offer.media_lines answer.media_lines)
+abbrev pub EachOfferedSection : (Sdp → MediaLine → MediaLine → Type 0) → Option Sdp → Sdp → Type 0
+EachOfferedSection R remote answer = IsSomeAnd remote (λ offer. AllZip (R offer) offer.media_lines answer.media_lines)
 
 -- some answer to an offer isn't read back
 pub record LosesAnswer (exchange : Exchange) (ours : List PayloadParams) (offer : Sdp) : Type 0 where
@@ -43,7 +43,7 @@ RefusesToAnswer exchange ours offer _ = ⊥
 -- some answer to the text isn't read back
 pub record IsUnprintable (old : Exchange) (text : List ℕ) : Type 0 where
   pub offer : Sdp
-  pub is_offer : IsOffer text offer
+  pub is_offer : IsOfferText text offer
   pub ours : List PayloadParams
   pub negotiated : NegotiatesOffer offer old.config.params.items ours
   pub loses : LosesAnswer old ours offer
@@ -53,7 +53,7 @@ pub record IsUnprintable (old : Exchange) (text : List ℕ) : Type 0 where
 abbrev pub OfferBreaksAt : List (List ℕ) → List MediaLine → Option Sdp → Sdp → ℕ → Rule → Type 0
 OfferBreaksAt names local remote offer section OwnName = IsNamedAgain offer.media_lines section
 OfferBreaksAt names local remote offer section Place = AreDistinct (section_mids offer.media_lines)
-    × MovesAt names local remote offer section
+    × MovesPlaceAt names local remote offer section
 OfferBreaksAt names local remote offer section _ = ⊥
 
 -- why the sections of an offer aren't taken
@@ -65,13 +65,13 @@ RefusesSections names local remote offer _ = ⊥
 -- the offer that the text is has a section that isn't taken
 pub record IsRefusedAt (old : Exchange) (text : List ℕ) (section : ℕ) (broken : Rule) : Type 0 where
   pub offer : Sdp
-  pub is_offer : IsOffer text offer
+  pub is_offer : IsOfferText text offer
   pub breaks : OfferBreaksAt old.names (sections_of old.local) old.remote offer section broken
 
 -- why an offer isn't answered
 abbrev pub RefusesOffer : Exchange → List ℕ → ExchangeError → Type 0
-RefusesOffer old text (NotRead cause) = RefusesText text (NotRead cause)
-RefusesOffer old text (Unread line content) = RefusesText text (Unread line content)
+RefusesOffer old text (NotRead cause) = RefusesOfferText text (NotRead cause)
+RefusesOffer old text (Unread line content) = RefusesOfferText text (Unread line content)
 RefusesOffer old text (WrongState state) = (state ≡ state_of old) × (state ≢ Stable)
 RefusesOffer old text (DoesNotFit section broken) = IsRefusedAt old text section broken
 RefusesOffer old text NoRows = ⊥

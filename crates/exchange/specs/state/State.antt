@@ -23,9 +23,9 @@ abbrev pub sections_of : Option Sdp → List MediaLine
 sections_of None = []
 sections_of (Some sdp) = sdp.media_lines
 
-abbrev pub session_of : Option Sdp → List SessionAttribute
-session_of None = []
-session_of (Some sdp) = sdp.session.attrs
+abbrev pub description_session : Option Sdp → List SessionAttribute
+description_session None = []
+description_session (Some sdp) = sdp.session.attrs
 
 -- the names that sections of the session have, or have had
 abbrev pub taken_names : Exchange → List (List ℕ)

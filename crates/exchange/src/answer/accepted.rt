@@ -1,6 +1,6 @@
 //! Sections that accept.
 ghost use Rattle.exchange.specs.Prelude.{is_of_type, made, row_attrs, types, types_of};
-ghost use Rattle.exchange.specs.answer.Accepted.{AcceptsChannels, AcceptsMedia, are_layers_told, candidate_line, channel_lines, first_lines, framed, layer_lines, media_lines, msid_lines, setup_in_force, tells_layer, track_id};
+ghost use Rattle.exchange.specs.answer.Accepted.{AcceptsChannels, AcceptsMedia, accepted_layers_told, accepted_candidate_line, accepted_channel_lines, first_accepted_lines, accepted_frame, accepted_layer_lines, accepted_media_lines, accepted_msid_lines, setup_in_force, accepted_tells_layer, accepted_track_id};
 ghost use Rattle.std.specs.Prelude.{◌≡◌, ◌++◌, IfOk, OnOk, filter, map, not, flat_map};
 
 use crate::answer::layers::answered_layers;
@@ -27,13 +27,13 @@ pub(crate) fn setup_in_force(offer: &Sdp, section: &MediaLine) -> Option<Setup>
 
 /// The lines that each accepted section begins with: its name, and how its transport is reached. Each has all of
 /// them, since Firefox 153 ends where a section of a bundle has no fingerprint.
-pub(crate) fn first_lines(
+pub(crate) fn first_accepted_lines(
     alloc: Global,
     own: &OwnSide,
     mid: Mid,
     role: Setup,
 ) -> Result<Vec<MediaAttribute>, AllocError>
-    ensures { IfOk result (λ lines. lines.items ≡ first_lines own.now mid role) }
+    ensures { IfOk result (λ lines. lines.items ≡ first_accepted_lines own.now mid role) }
 {
     let creds = own.creds.clone()?;
     let fingerprint = own.fingerprint.clone()?;
@@ -50,11 +50,11 @@ pub(crate) fn first_lines(
 }
 
 /// Where this side is reached.
-pub(crate) fn candidate_lines(
+pub(crate) fn accepted_candidate_lines(
     alloc: Global,
     own: &OwnSide,
 ) -> Result<Vec<MediaAttribute>, AllocError>
-    ensures { IfOk result (λ lines. lines.items ≡ map candidate_line own.now.candidates) }
+    ensures { IfOk result (λ lines. lines.items ≡ map accepted_candidate_line own.now.candidates) }
 {
     let mut lines = Vec::new(alloc);
     for candidate in own.candidates.as_slice() {
@@ -67,8 +67,8 @@ pub(crate) fn candidate_lines(
 const TRACK_ID: usize = 22;
 
 /// The id of the track that is sent in a section: no two sections may name the same.
-fn track_id(alloc: Global, mid: Mid) -> Result<Text, AllocError>
-    ensures { IfOk result (λ id. id ≡ track_id mid) }
+fn accepted_track_id(alloc: Global, mid: Mid) -> Result<Text, AllocError>
+    ensures { IfOk result (λ id. id ≡ accepted_track_id mid) }
 {
     let mut id = String::with_capacity(alloc, TRACK_ID)?;
     id.push_str("track-")?;
@@ -77,19 +77,19 @@ fn track_id(alloc: Global, mid: Mid) -> Result<Text, AllocError>
 }
 
 /// Puts the stream and the track behind other lines, where this side sends.
-pub(crate) fn push_msid(
+pub(crate) fn push_accepted_msid(
     lines: &mut Vec<MediaAttribute>,
     own: &OwnSide,
     direction: Direction,
     mid: Mid,
 ) -> Result<(), AllocError>
-    ensures { OnOk result (lines.new.items ≡ lines.old.items ++ msid_lines own.now direction mid) }
+    ensures { OnOk result (lines.new.items ≡ lines.old.items ++ accepted_msid_lines own.now direction mid) }
 {
     if !direction.sends() {
         return Ok(());
     }
     let stream_id = own.stream_id.clone()?;
-    let track_id = track_id(*lines.allocator(), mid)?;
+    let track_id = accepted_track_id(*lines.allocator(), mid)?;
     lines.push(MediaAttribute::Msid(Msid {
         stream_id,
         track_id,
@@ -97,8 +97,8 @@ pub(crate) fn push_msid(
     Ok(())
 }
 
-fn tells_layer(line: &MediaAttribute) -> bool
-    ensures { result ≡ tells_layer line.now }
+fn accepted_tells_layer(line: &MediaAttribute) -> bool
+    ensures { result ≡ accepted_tells_layer line.now }
 {
     match line {
         MediaAttribute::ExtMap { ext, .. } => ext.as_uri() == RTP_STREAM_ID,
@@ -107,37 +107,35 @@ fn tells_layer(line: &MediaAttribute) -> bool
 }
 
 /// Whether packets tell their layers: without that Chromium 156 refuses an answer that has layers.
-fn are_layers_told(own: &OwnSide, offered: &MediaLine) -> bool
-    ensures { result ≡ are_layers_told own.now.extensions offered.now }
+fn accepted_layers_told(own: &OwnSide, offered: &MediaLine) -> bool
+    ensures { result ≡ accepted_layers_told own.now.extensions offered.now }
 {
     let known = own.extensions.as_slice();
     let lines = offered.attrs.as_slice();
-    lines
-        .iter()
-        .any(|line| tells_layer(line) && is_repeated(known, line))
+    lines.iter().any(|line| accepted_tells_layer(line) && is_repeated(known, line))
 }
 
 /// The layers that this side receives; none where it takes none, or can't tell them apart.
-fn layer_lines(
+fn accepted_layer_lines(
     alloc: Global,
     own: &OwnSide,
     direction: Direction,
     offered: &MediaLine,
     rows: &[PayloadParams],
 ) -> Result<Vec<MediaAttribute>, AllocError>
-    ensures { IfOk result (λ lines. lines.items ≡ layer_lines own.now direction offered.now rows.now) }
+    ensures { IfOk result (λ lines. lines.items ≡ accepted_layer_lines own.now direction offered.now rows.now) }
 {
-    if own.receives_simulcast && direction.receives() && are_layers_told(own, offered) {
+    if own.receives_simulcast && direction.receives() && accepted_layers_told(own, offered) {
         return answered_layers(alloc, offered, rows);
     }
     Ok(Vec::new(alloc))
 }
 
-pub(crate) fn channel_lines(
+pub(crate) fn accepted_channel_lines(
     alloc: Global,
     channels: DataChannels,
 ) -> Result<Vec<MediaAttribute>, AllocError>
-    ensures { IfOk result (λ lines. lines.items ≡ channel_lines channels) }
+    ensures { IfOk result (λ lines. lines.items ≡ accepted_channel_lines channels) }
 {
     let lines = vec![in alloc;
         MediaAttribute::SctpPort(channels.port),
@@ -147,12 +145,12 @@ pub(crate) fn channel_lines(
 }
 
 /// A section of the type and the protocol of another, with these lines.
-fn framed(
+fn accepted_frame(
     alloc: Global,
     offered: &MediaLine,
     lines: Vec<MediaAttribute>,
 ) -> Result<MediaLine, AllocError>
-    ensures { IfOk result (λ frame. frame ≡ framed offered.now lines.items) }
+    ensures { IfOk result (λ frame. frame ≡ accepted_frame offered.now lines.items) }
 {
     let mut frame = MediaLine::new(alloc);
     frame.typ = offered.typ.clone()?;
@@ -162,7 +160,7 @@ fn framed(
 }
 
 /// Puts what media says in this direction, but for its rows, behind other lines.
-fn push_media(
+fn push_accepted_media(
     lines: &mut Vec<MediaAttribute>,
     own: &OwnSide,
     offered: &MediaLine,
@@ -170,20 +168,20 @@ fn push_media(
     direction: Direction,
     rows: &[PayloadParams],
 ) -> Result<(), AllocError>
-    ensures { OnOk result (lines.new.items ≡ lines.old.items ++ media_lines own.now offered.now mid direction rows.now) }
+    ensures { OnOk result (lines.new.items ≡ lines.old.items ++ accepted_media_lines own.now offered.now mid direction rows.now) }
 {
     let alloc = *lines.allocator();
     lines.push(MediaAttribute::from(direction))?;
-    lines.append(&mut candidate_lines(alloc, own)?)?;
+    lines.append(&mut accepted_candidate_lines(alloc, own)?)?;
     lines.append(&mut repeated(alloc, own.extensions.as_slice(), offered)?)?;
-    push_msid(lines, own, direction, mid)?;
-    lines.append(&mut layer_lines(alloc, own, direction, offered, rows)?)?;
+    push_accepted_msid(lines, own, direction, mid)?;
+    lines.append(&mut accepted_layer_lines(alloc, own, direction, offered, rows)?)?;
     Ok(())
 }
 
 /// How many lines a section may have, as a guess that most don't pass: no answer depends on it. A stranger's long section doesn't
 /// ask for room that its answer won't take.
-fn likely_lines(own: &OwnSide, offered: &MediaLine) -> usize {
+fn likely_accepted_lines(own: &OwnSide, offered: &MediaLine) -> usize {
     let extra = own.candidates.as_slice().len().saturating_add(8);
     offered
         .attrs
@@ -194,18 +192,18 @@ fn likely_lines(own: &OwnSide, offered: &MediaLine) -> usize {
 }
 
 /// The payload types of rows, of each row its own, then that of RTX, then that of RED.
-fn types_of_rows(alloc: Global, rows: &[PayloadParams]) -> Result<Vec<Pt>, AllocError>
+fn accepted_types(alloc: Global, rows: &[PayloadParams]) -> Result<Vec<Pt>, AllocError>
     ensures { IfOk result (λ pts. pts.items ≡ types rows.now) }
 {
     let likely = rows.len().saturating_mul(2);
     let mut pts = Vec::with_capacity(alloc, likely)?;
     for row in rows {
-        push_types(&mut pts, row)?;
+        push_accepted_types(&mut pts, row)?;
     }
     Ok(pts)
 }
 
-fn push_types(pts: &mut Vec<Pt>, row: &PayloadParams) -> Result<(), AllocError>
+fn push_accepted_types(pts: &mut Vec<Pt>, row: &PayloadParams) -> Result<(), AllocError>
     ensures { OnOk result (pts.new.items ≡ pts.old.items ++ types_of row.now) }
 {
     pts.push(row.pt())?;
@@ -219,14 +217,17 @@ fn push_types(pts: &mut Vec<Pt>, row: &PayloadParams) -> Result<(), AllocError>
 }
 
 /// Leaves those lines that describe no payload type: the rows have lines of their own.
-fn keep_frame(lines: &mut Vec<MediaAttribute>)
+fn keep_accepted_frame(lines: &mut Vec<MediaAttribute>)
     ensures { lines.new.items ≡ filter (λ attr. not (is_of_type attr)) lines.old.items }
 {
     lines.retain(|attr| !attr.is_of_type());
 }
 
 /// Puts the lines of rows after others.
-fn push_rows(lines: &mut Vec<MediaAttribute>, rows: &[PayloadParams]) -> Result<(), AllocError>
+fn push_accepted_rows(
+    lines: &mut Vec<MediaAttribute>,
+    rows: &[PayloadParams],
+) -> Result<(), AllocError>
     ensures { OnOk result (lines.new.items ≡ lines.old.items ++ flat_map row_attrs rows.now) }
 {
     for row in rows {
@@ -236,18 +237,18 @@ fn push_rows(lines: &mut Vec<MediaAttribute>, rows: &[PayloadParams]) -> Result<
 }
 
 /// The section that these rows make of a frame with these lines: `section_of` would copy them.
-fn made(
+fn accepted_section_of(
     alloc: Global,
     offered: &MediaLine,
     mut lines: Vec<MediaAttribute>,
     rows: &[PayloadParams],
 ) -> Result<MediaLine, AllocError>
-    ensures { IfOk result (λ section. section ≡ made (framed offered.now lines.items) rows.now) }
+    ensures { IfOk result (λ section. section ≡ made (accepted_frame offered.now lines.items) rows.now) }
 {
-    keep_frame(&mut lines);
-    push_rows(&mut lines, rows)?;
-    let mut section = framed(alloc, offered, lines)?;
-    section.pts = Items::from(types_of_rows(alloc, rows)?);
+    keep_accepted_frame(&mut lines);
+    push_accepted_rows(&mut lines, rows)?;
+    let mut section = accepted_frame(alloc, offered, lines)?;
+    section.pts = Items::from(accepted_types(alloc, rows)?);
     Ok(section)
 }
 
@@ -264,10 +265,10 @@ pub(crate) fn accepted_media(
 {
     let role = Setup::answer(setup_in_force(offer, offered));
     let direction = offered.direction().answer(own.direction_for(offered));
-    let mut lines = Vec::with_capacity(alloc, likely_lines(own, offered))?;
-    lines.append(&mut first_lines(alloc, own, mid, role)?)?;
-    push_media(&mut lines, own, offered, mid, direction, rows)?;
-    made(alloc, offered, lines, rows)
+    let mut lines = Vec::with_capacity(alloc, likely_accepted_lines(own, offered))?;
+    lines.append(&mut first_accepted_lines(alloc, own, mid, role)?)?;
+    push_accepted_media(&mut lines, own, offered, mid, direction, rows)?;
+    accepted_section_of(alloc, offered, lines, rows)
 }
 
 /// The section that accepts one of data channels.
@@ -282,8 +283,8 @@ pub(crate) fn accepted_channels(
     ensures { IfOk result (AcceptsChannels own.now offer.now offered.now mid channels) }
 {
     let role = Setup::answer(setup_in_force(offer, offered));
-    let mut lines = first_lines(alloc, own, mid, role)?;
-    lines.append(&mut channel_lines(alloc, channels)?)?;
-    lines.append(&mut candidate_lines(alloc, own)?)?;
-    framed(alloc, offered, lines)
+    let mut lines = first_accepted_lines(alloc, own, mid, role)?;
+    lines.append(&mut accepted_channel_lines(alloc, channels)?)?;
+    lines.append(&mut accepted_candidate_lines(alloc, own)?)?;
+    accepted_frame(alloc, offered, lines)
 }

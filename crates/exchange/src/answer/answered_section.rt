@@ -10,7 +10,7 @@ ghost use Rattle.std.specs.Prelude.{◌≡◌, IfOk};
 use crate::answer::accepted::{accepted_channels, accepted_media};
 use crate::answer::choice::{Choice, choice_of};
 use crate::answer::in_bundle::ordered_bundle;
-use crate::answer::offered::rows_of_next;
+use crate::answer::offered::offered_rows_of_next;
 use crate::answer::rejected_section::rejected;
 use crate::state::own_side::OwnSide;
 use std::alloc::{AllocError, Global};
@@ -59,7 +59,7 @@ fn answered_section(
 
 /// The sections that answer those of an offer with these rounds, in its order.
 #[tactic(auto, using(std::proofs::lemmas::List::Elements::all_zip_more))]
-fn each_answered(
+fn each_section_answered(
     alloc: Global,
     own: &OwnSide,
     config: &CodecConfig,
@@ -74,7 +74,7 @@ fn each_answered(
     let mut sections = Vec::with_capacity(alloc, offered.len())?;
     let mut left = rounds;
     for section in offered {
-        let (theirs, later) = rows_of_next(&group, offer, section, left);
+        let (theirs, later) = offered_rows_of_next(&group, offer, section, left);
         sections.push(answered_section(alloc, own, config, offer, &group, section, theirs)?)?;
         left = later;
     }
@@ -82,7 +82,7 @@ fn each_answered(
 }
 
 /// The sections that answer those of an offer, which keep the rules.
-#[tactic(auto, using(crate::proofs::offer::RuleLaws::sections_keep, crate::proofs::offer::RuleLaws::sections_shape, crate::proofs::offer::RuleLaws::sections_exact))]
+#[tactic(auto, using(crate::proofs::offer::RuleLaws::rule_sections_keep, crate::proofs::offer::RuleLaws::rule_sections_shape, crate::proofs::offer::RuleLaws::rule_sections_exact))]
 pub(crate) fn answered_sections(
     alloc: Global,
     own: &OwnSide,
@@ -96,5 +96,5 @@ pub(crate) fn answered_sections(
     ensures exactly { IfOk result (AllZip (IsAcceptedExactly own.now config.now.params.items offer.now) offer.now.media_lines) }
     ensures rules { IfOk result (AllZip (KeepsRules own.now config.now.params.items offer.now) offer.now.media_lines) }
 {
-    each_answered(alloc, own, config, offer, rounds)
+    each_section_answered(alloc, own, config, offer, rounds)
 }

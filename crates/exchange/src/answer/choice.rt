@@ -1,6 +1,6 @@
 //! What a section is answered with.
 ghost use Rattle.exchange.specs.Prelude.{HoldsMids, is_media, rows};
-ghost use Rattle.exchange.specs.answer.Choice.{IsSectionChoice, channels_or_none, open_choice, rows_or_none};
+ghost use Rattle.exchange.specs.answer.Choice.{IsSectionChoice, channels_choice, open_choice, rows_choice};
 ghost use Rattle.exchange.specs.answer.InBundle.{bundle_names};
 ghost use Rattle.exchange.specs.answer.Offered.{BringsRound};
 ghost use Rattle.exchange.specs.answer.Rows.{answered_rows};
@@ -25,8 +25,8 @@ pub(crate) enum Choice {
     Channels(Mid, DataChannels),
 }
 
-fn channels_or_none(mid: Mid, channels: Option<DataChannels>) -> Choice
-    ensures { result ≡ channels_or_none mid channels }
+fn channels_choice(mid: Mid, channels: Option<DataChannels>) -> Choice
+    ensures { result ≡ channels_choice mid channels }
 {
     match channels {
         Some(channels) => Choice::Channels(mid, channels),
@@ -34,14 +34,14 @@ fn channels_or_none(mid: Mid, channels: Option<DataChannels>) -> Choice
     }
 }
 
-fn rows_or_none(
+fn rows_choice(
     config: &CodecConfig,
     section: &MediaLine,
     mid: Mid,
     theirs: &[PayloadParams],
 ) -> Result<Choice, AllocError>
     requires { theirs.now ≡ rows section.now }
-    ensures { IfOk result (λ choice. choice ≡ rows_or_none mid (answered_rows config.now.params.items section.now)) }
+    ensures { IfOk result (λ choice. choice ≡ rows_choice mid (answered_rows config.now.params.items section.now)) }
 {
     let rows = answered_rows(config.params(), section, theirs)?;
     if rows.is_empty() {
@@ -65,9 +65,9 @@ fn open_choice(
     };
     match (&section.typ, section.proto) {
         (MediaType::Audio | MediaType::Video, Proto::Srtp) => {
-            rows_or_none(config, section, mid, theirs)
+            rows_choice(config, section, mid, theirs)
         }
-        (MediaType::Application, Proto::Sctp) => Ok(channels_or_none(mid, own.channels)),
+        (MediaType::Application, Proto::Sctp) => Ok(channels_choice(mid, own.channels)),
         _ => Ok(Choice::Rejected),
     }
 }

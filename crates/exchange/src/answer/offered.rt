@@ -1,7 +1,7 @@
 //! Offers that are read whole, and their rounds.
 ghost use Rattle.exchange.specs.Prelude.{AllDistinct, HasBoundedRows, HoldsMids, IsFromLine, IsPlain, LockedStay, MediaLine, rows, types};
 ghost use Rattle.exchange.specs.answer.InBundle.{bundle_names};
-ghost use Rattle.exchange.specs.answer.Offered.{AreOfferRounds, BringsRound, IsOffer, IsRoundOf, NegotiatesOffer, RefusesText};
+ghost use Rattle.exchange.specs.answer.Offered.{AreOfferRounds, BringsRound, IsOfferText, IsOfferedRoundOf, NegotiatesOffer, RefusesOfferText};
 ghost use Rattle.std.specs.Prelude.{◌≡◌, ◌≢◌, ◌==◌, ◌+◌, ◌∷◌, ◌↔◌, [], IfErr, IfOk, IsTrue, List, OnOk, All, count_by, length};
 
 use crate::answer::in_bundle::ordered_bundle;
@@ -13,30 +13,30 @@ use str0m_signal::{
     CodecConfig, MediaLine, NegotiationError, PayloadParams, Proto, Round, Sdp, Text, sdp_parser,
 };
 
-fn line_feeds(bytes: &[u8]) -> usize
+fn offered_line_feeds(bytes: &[u8]) -> usize
     ensures { result ≡ count_by (λ byte. byte == 10) bytes.now }
 {
     bytes.iter().filter(|byte| **byte == b'\n').count()
 }
 
 /// The number, counted from 1, of the line at which the rest of a text begins.
-fn line_of(text: &str, rest: &str) -> usize
+fn rest_line_number(text: &str, rest: &str) -> usize
     ensures { (from : IsFromLine text.now rest.now) → rest.now ≢ [] → result ≡ length from.before + 1 }
 {
     let read = text.len().saturating_sub(rest.len());
     let (before, _rest) = text.as_bytes().split_at(read);
-    line_feeds(before).saturating_add(1)
+    offered_line_feeds(before).saturating_add(1)
 }
 
 /// Its first line, without the end.
-fn first_line(alloc: Global, rest: &str) -> Result<Text, AllocError> {
+fn first_rest_line(alloc: Global, rest: &str) -> Result<Text, AllocError> {
     Text::from_str(alloc, rest.lines().next().unwrap_or(""))
 }
 
 /// The description that the whole text is.
-pub(crate) fn whole_description(alloc: Global, text: &str) -> Result<Sdp, ExchangeError>
-    ensures read { IfOk result (IsOffer text.now) }
-    ensures refused { IfErr result (RefusesText text.now) }
+pub(crate) fn whole_offer(alloc: Global, text: &str) -> Result<Sdp, ExchangeError>
+    ensures read { IfOk result (IsOfferText text.now) }
+    ensures refused { IfErr result (RefusesOfferText text.now) }
     ensures bounded { IfOk result (λ offer. All HasBoundedRows offer.media_lines) }
 {
     let (offer, rest) = sdp_parser(alloc, text)?;
@@ -44,13 +44,13 @@ pub(crate) fn whole_description(alloc: Global, text: &str) -> Result<Sdp, Exchan
         return Ok(offer);
     }
     Err(ExchangeError::Unread {
-        line: line_of(text, rest),
-        text: first_line(alloc, rest)?,
+        line: rest_line_number(text, rest),
+        text: first_rest_line(alloc, rest)?,
     })
 }
 
 /// Whether a section brings a round, where `group` has the names of the offer's group in order.
-fn is_negotiated(group: &BTreeSet<&str>, offer: &Sdp, section: &MediaLine) -> bool
+fn offered_brings_round(group: &BTreeSet<&str>, offer: &Sdp, section: &MediaLine) -> bool
     requires { HoldsMids group.now (bundle_names offer.now) }
     ensures { IsTrue result ↔ BringsRound offer.now section.now }
 {
@@ -59,8 +59,8 @@ fn is_negotiated(group: &BTreeSet<&str>, offer: &Sdp, section: &MediaLine) -> bo
         && matches!(section.proto, Proto::Srtp)
 }
 
-fn round_of(section: &MediaLine) -> Result<Round, AllocError>
-    ensures { IfOk result (IsRoundOf section.now) }
+fn offered_round(section: &MediaLine) -> Result<Round, AllocError>
+    ensures { IfOk result (IsOfferedRoundOf section.now) }
 {
     let remote = section.rtp_params()?;
     let direction = section.direction();
@@ -69,21 +69,21 @@ fn round_of(section: &MediaLine) -> Result<Round, AllocError>
 
 /// The rounds of the sections of media that aren't stopped, in order.
 #[tactic(auto, using(crate::proofs::answer::OfferedRoundLaws::no_round_more, crate::proofs::answer::OfferedRoundLaws::one_round_more))]
-pub(crate) fn rounds_of(alloc: Global, offer: &Sdp) -> Result<Vec<Round>, AllocError>
+pub(crate) fn offered_rounds(alloc: Global, offer: &Sdp) -> Result<Vec<Round>, AllocError>
     ensures { IfOk result (λ rounds. AreOfferRounds offer.now offer.now.media_lines rounds.items) }
 {
     let group = ordered_bundle(alloc, offer)?;
     let sections = offer.media_lines.as_slice();
     let mut rounds = Vec::new(alloc);
     for section in sections {
-        if is_negotiated(&group, offer, section) {
-            rounds.push(round_of(section)?)?;
+        if offered_brings_round(&group, offer, section) {
+            rounds.push(offered_round(section)?)?;
         }
     }
     Ok(rounds)
 }
 
-fn lacked_memory(outcomes: &[Result<(), NegotiationError>]) -> bool {
+fn round_lacked_memory(outcomes: &[Result<(), NegotiationError>]) -> bool {
     outcomes
         .iter()
         .any(|outcome| matches!(outcome, Err(NegotiationError::Memory)))
@@ -91,7 +91,7 @@ fn lacked_memory(outcomes: &[Result<(), NegotiationError>]) -> bool {
 
 /// The rows of a section that stands next, where it brings the round that does, and the rounds after it. `group` has the names of
 /// the offer's group in order.
-pub(crate) fn rows_of_next<'a>(
+pub(crate) fn offered_rows_of_next<'a>(
     group: &BTreeSet<&str>,
     offer: &Sdp,
     section: &MediaLine,
@@ -102,7 +102,7 @@ pub(crate) fn rows_of_next<'a>(
         → result.0.now ≡ rows section.now }
     ensures later { (later : List MediaLine) → AreOfferRounds offer.now (section.now ∷ later) rounds.now → AreOfferRounds offer.now later result.1.now }
 {
-    if !is_negotiated(group, offer, section) {
+    if !offered_brings_round(group, offer, section) {
         return (&[], rounds);
     }
     match rounds.split_first() {
@@ -112,7 +112,7 @@ pub(crate) fn rows_of_next<'a>(
 }
 
 /// Runs the rounds of an offer.
-pub(crate) fn negotiate(
+pub(crate) fn negotiate_offer(
     config: &mut CodecConfig,
     offer: &Sdp,
     rounds: &[Round],
@@ -125,7 +125,7 @@ pub(crate) fn negotiate(
     ensures else_same { config.new ≡ record config.old { params = config.new.params } }
 {
     let outcomes = config.update_all(rounds)?;
-    if lacked_memory(outcomes.as_slice()) {
+    if round_lacked_memory(outcomes.as_slice()) {
         return Err(AllocError);
     }
     Ok(())

@@ -1,5 +1,5 @@
 //! The feedback that a section offers for each payload type, by one pass over its lines.
-ghost use Rattle.exchange.specs.answer.OfferedFeedback.{IsGathered, TellsOf, either_offered, named_offered, none_offered, offered_feedback, with_offered, value_for_all};
+ghost use Rattle.exchange.specs.answer.OfferedFeedback.{IsFeedbackGathered, TellsFeedbackOf, either_offered, named_offered, none_offered, offered_feedback, with_offered, feedback_for_all};
 ghost use Rattle.std.specs.Prelude.{◌≡◌, ◌<◌, get_or, set, option_copied};
 
 use str0m_sdp::label::{FIR, NACK, PLI, REMB, TRANSPORT_CC};
@@ -29,8 +29,8 @@ pub(crate) struct SectionFeedback {
 }
 
 /// The value of a line that offers feedback for all types.
-fn value_for_all(attr: &MediaAttribute) -> Option<&str>
-    ensures { option_copied result ≡ value_for_all attr.now }
+fn feedback_for_all(attr: &MediaAttribute) -> Option<&str>
+    ensures { option_copied result ≡ feedback_for_all attr.now }
 {
     match attr {
         MediaAttribute::Unused(text) => strip(text.as_str(), "rtcp-fb:* "),
@@ -78,9 +78,9 @@ impl OfferedFeedback {
 
     /// With what a line offers for all types.
     fn with_line(self, attr: &MediaAttribute) -> OfferedFeedback
-        ensures { result ≡ with_offered self (value_for_all attr.now) }
+        ensures { result ≡ with_offered self (feedback_for_all attr.now) }
     {
-        match value_for_all(attr) {
+        match feedback_for_all(attr) {
             Some(words) => self.or(OfferedFeedback::named(words)),
             None => self,
         }
@@ -88,7 +88,7 @@ impl OfferedFeedback {
 }
 
 /// The place of a payload type in a table of all.
-fn place(pt: Pt) -> usize
+fn feedback_place(pt: Pt) -> usize
     ensures is { result ≡ pt }
     ensures within { result < 256 }
 {
@@ -96,24 +96,28 @@ fn place(pt: Pt) -> usize
 }
 
 /// Adds what the value of a line names to the feedback of its payload type.
-fn add_value(table: &mut [OfferedFeedback; TYPES], pt: Pt, words: &str)
+fn add_feedback_value(table: &mut [OfferedFeedback; TYPES], pt: Pt, words: &str)
     ensures added { table.new ≡ set table.old pt (either_offered (get_or table.old pt none_offered) (named_offered words.now)) }
     ensures within { pt < 256 }
 {
-    let place = place(pt);
+    let place = feedback_place(pt);
     table[place] = table[place].or(OfferedFeedback::named(words));
 }
 
 /// What these lines offer.
-fn gathered(attrs: &[MediaAttribute]) -> SectionFeedback
-    ensures { IsGathered attrs.now result.of_types result.of_all }
+fn gathered_feedback(attrs: &[MediaAttribute]) -> SectionFeedback
+    ensures { IsFeedbackGathered attrs.now result.of_types result.of_all }
 {
     let nothing = OfferedFeedback::none();
     let mut of_types = [nothing; TYPES];
     let mut of_all = nothing;
     for attr in attrs {
         match attr {
-            MediaAttribute::RtcpFb { pt, value } => add_value(&mut of_types, *pt, value.as_str()),
+            MediaAttribute::RtcpFb { pt, value } => add_feedback_value(
+                &mut of_types,
+                *pt,
+                value.as_str(),
+            ),
             _ => of_all = of_all.with_line(attr),
         }
     }
@@ -122,19 +126,19 @@ fn gathered(attrs: &[MediaAttribute]) -> SectionFeedback
 
 /// What a section offers.
 pub(crate) fn section_feedback(section: &MediaLine) -> SectionFeedback
-    ensures { TellsOf section.now result }
+    ensures { TellsFeedbackOf section.now result }
 {
-    gathered(section.attrs.as_slice())
+    gathered_feedback(section.attrs.as_slice())
 }
 
 impl SectionFeedback {
     /// What the section offers for a payload type, by lines of its own or of all types.
     #[tactic(auto, using(crate::proofs::answer::OfferedFeedbackLaws::feedback_told))]
     pub(crate) fn for_type(&self, section: &MediaLine, pt: Pt) -> OfferedFeedback
-        requires { TellsOf section.now self.now }
+        requires { TellsFeedbackOf section.now self.now }
         ensures { result ≡ offered_feedback section.now.attrs pt }
     {
-        let own = self.of_types[place(pt)];
+        let own = self.of_types[feedback_place(pt)];
         own.or(self.of_all)
     }
 }

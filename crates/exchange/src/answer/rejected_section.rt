@@ -1,18 +1,18 @@
 //! The section that rejects an offered one.
 ghost use Rattle.exchange.specs.Prelude.{Consistent, is_mid, maps_type};
-ghost use Rattle.exchange.specs.answer.RejectedSection.{direction_over, first_type, line_that, listed_alone, rejecting};
+ghost use Rattle.exchange.specs.answer.RejectedSection.{rejected_direction, first_rejected_type, first_rejected_line, rejected_type_alone, rejecting_section};
 ghost use Rattle.std.specs.Prelude.{◌≡◌, ◌++◌, IfOk, OnOk, find, option_to_list, option_copied};
 
 use std::alloc::{AllocError, Global};
 use str0m_signal::{Items, MediaAttribute, MediaLine, MediaType, Proto, Pt};
 
-fn is_mid(line: &MediaAttribute) -> bool
+fn is_rejected_mid(line: &MediaAttribute) -> bool
     ensures { result ≡ is_mid line.now }
 {
     matches!(line, MediaAttribute::Mid(_))
 }
 
-fn maps(line: &MediaAttribute, pt: Pt) -> bool
+fn is_rejected_mapping(line: &MediaAttribute, pt: Pt) -> bool
     ensures { result ≡ maps_type pt line.now }
 {
     match line {
@@ -22,21 +22,21 @@ fn maps(line: &MediaAttribute, pt: Pt) -> bool
 }
 
 /// The line that names the section.
-fn mid_line(lines: &[MediaAttribute]) -> Option<&MediaAttribute>
+fn rejected_mid_line(lines: &[MediaAttribute]) -> Option<&MediaAttribute>
     ensures { option_copied result ≡ find is_mid lines.now }
 {
-    lines.iter().find(|line| is_mid(line))
+    lines.iter().find(|line| is_rejected_mid(line))
 }
 
 /// The line that maps a payload type.
-fn mapping(lines: &[MediaAttribute], pt: Pt) -> Option<&MediaAttribute>
+fn rejected_mapping_line(lines: &[MediaAttribute], pt: Pt) -> Option<&MediaAttribute>
     ensures { option_copied result ≡ find (maps_type pt) lines.now }
 {
-    lines.iter().find(|line| maps(line, pt))
+    lines.iter().find(|line| is_rejected_mapping(line, pt))
 }
 
-fn first_type(listed: &[Pt]) -> Pt
-    ensures { result ≡ first_type listed.now }
+fn first_rejected_type(listed: &[Pt]) -> Pt
+    ensures { result ≡ first_rejected_type listed.now }
 {
     match listed {
         [pt, ..] => *pt,
@@ -45,19 +45,19 @@ fn first_type(listed: &[Pt]) -> Pt
 }
 
 /// The payload types that the m-line lists.
-fn listed_alone(alloc: Global, typ: &MediaType, listed: &[Pt]) -> Result<Vec<Pt>, AllocError>
-    ensures { IfOk result (λ alone. alone.items ≡ listed_alone typ.now listed.now) }
+fn rejected_type_alone(alloc: Global, typ: &MediaType, listed: &[Pt]) -> Result<Vec<Pt>, AllocError>
+    ensures { IfOk result (λ alone. alone.items ≡ rejected_type_alone typ.now listed.now) }
 {
     let mut alone = Vec::new(alloc);
     match typ {
         MediaType::Application => {}
-        _ => alone.push(first_type(listed))?,
+        _ => alone.push(first_rejected_type(listed))?,
     }
     Ok(alone)
 }
 
 /// A copy of a line, where there is one, after the others.
-fn push_copy(
+fn push_rejected_copy(
     lines: &mut Vec<MediaAttribute>,
     line: Option<&MediaAttribute>,
 ) -> Result<(), AllocError>
@@ -69,8 +69,8 @@ fn push_copy(
     Ok(())
 }
 
-fn push_direction(lines: &mut Vec<MediaAttribute>, proto: Proto) -> Result<(), AllocError>
-    ensures { OnOk result (lines.new.items ≡ lines.old.items ++ direction_over proto) }
+fn push_rejected_direction(lines: &mut Vec<MediaAttribute>, proto: Proto) -> Result<(), AllocError>
+    ensures { OnOk result (lines.new.items ≡ lines.old.items ++ rejected_direction proto) }
 {
     match proto {
         Proto::Srtp => lines.push(MediaAttribute::Inactive)?,
@@ -87,26 +87,26 @@ fn rejecting_lines(
     lines: &[MediaAttribute],
     pt: Pt,
 ) -> Result<Vec<MediaAttribute>, AllocError>
-    ensures { IfOk result (λ attrs. attrs.items ≡ line_that is_mid lines.now ++ (direction_over proto ++ line_that (maps_type pt) lines.now)) }
+    ensures { IfOk result (λ attrs. attrs.items ≡ first_rejected_line is_mid lines.now ++ (rejected_direction proto ++ first_rejected_line (maps_type pt) lines.now)) }
 {
     let mut attrs = Vec::new(alloc);
-    push_copy(&mut attrs, mid_line(lines))?;
-    push_direction(&mut attrs, proto)?;
-    push_copy(&mut attrs, mapping(lines, pt))?;
+    push_rejected_copy(&mut attrs, rejected_mid_line(lines))?;
+    push_rejected_direction(&mut attrs, proto)?;
+    push_rejected_copy(&mut attrs, rejected_mapping_line(lines, pt))?;
     Ok(attrs)
 }
 
-fn rejecting(alloc: Global, offered: &MediaLine) -> Result<MediaLine, AllocError>
-    ensures { IfOk result (λ section. section ≡ rejecting offered.now) }
+fn rejecting_section(alloc: Global, offered: &MediaLine) -> Result<MediaLine, AllocError>
+    ensures { IfOk result (λ section. section ≡ rejecting_section offered.now) }
 {
     let listed = offered.pts.as_slice();
-    let pt = first_type(listed);
+    let pt = first_rejected_type(listed);
     let attrs = rejecting_lines(alloc, offered.proto, offered.attrs.as_slice(), pt)?;
     Ok(MediaLine {
         typ: offered.typ.clone()?,
         disabled: true,
         proto: offered.proto,
-        pts: Items(listed_alone(alloc, &offered.typ, listed)?),
+        pts: Items(rejected_type_alone(alloc, &offered.typ, listed)?),
         bw: None,
         attrs: Items(attrs),
     })
@@ -121,9 +121,9 @@ fn rejecting(alloc: Global, offered: &MediaLine) -> Result<MediaLine, AllocError
 ///
 /// The only error is that memory was refused. The offered section stays as it is.
 pub fn rejected(alloc: Global, offered: &MediaLine) -> Result<MediaLine, AllocError>
-    ensures exact { IfOk result (λ section. section ≡ rejecting offered.now) }
+    ensures exact { IfOk result (λ section. section ≡ rejecting_section offered.now) }
     ensures consistent { Consistent offered.now → IfOk result Consistent }
 {
-    let section = rejecting(alloc, offered)?;
+    let section = rejecting_section(alloc, offered)?;
     Ok(section)
 }

@@ -1,7 +1,7 @@
 //! The rows that answer a section.
 ghost use Rattle.exchange.specs.Prelude.{AllDistinct, IsPlain, PayloadParams, distinct, has, locked_types, rows, types};
-ghost use Rattle.exchange.specs.answer.OfferedFeedback.{TellsOf};
-ghost use Rattle.exchange.specs.answer.Rows.{IsAgreed, Belongs, KeepsPlain, SaysWhatIsOffered, agreed_type, as_answered, is_answered, is_carried_in, matches, answer_to, answer_under, answered_rows, own_types};
+ghost use Rattle.exchange.specs.answer.OfferedFeedback.{TellsFeedbackOf};
+ghost use Rattle.exchange.specs.answer.Rows.{IsAgreedRow, BelongsInAnswer, KeepsRowPlain, RowSaysOffered, row_agreed_type, row_as_answered, is_type_answered, is_row_carried_in, row_matches, answer_to_row, answer_under_type, answered_rows, answered_own_types};
 ghost use Rattle.std.specs.Prelude.{◌≡◌, ◌==◌, ◌++◌, ◌∷◌, [], All, Contains, IfOk, OnOk, filter, filter_map, find, if◌then◌else◌, option_to_list, option_copied};
 
 use crate::answer::offered_feedback::{SectionFeedback, section_feedback};
@@ -15,8 +15,8 @@ fn is_type_listed(listed: &[Pt], pt: Pt) -> bool
 }
 
 /// The type that both sides have in a role, where the m-line lists it.
-fn agreed_type(listed: &[Pt], ours: Option<Pt>, theirs: Option<Pt>) -> Option<Pt>
-    ensures { result ≡ agreed_type listed.now ours theirs }
+fn row_agreed_type(listed: &[Pt], ours: Option<Pt>, theirs: Option<Pt>) -> Option<Pt>
+    ensures { result ≡ row_agreed_type listed.now ours theirs }
 {
     match (ours, theirs) {
         (Some(ours), Some(theirs)) => {
@@ -31,20 +31,20 @@ fn agreed_type(listed: &[Pt], ours: Option<Pt>, theirs: Option<Pt>) -> Option<Pt
 }
 
 /// What an answer says of our row beside the one that is offered.
-#[tactic(auto, unfolding(crate::specs::answer::Rows::as_answered))]
-fn as_answered(
+#[tactic(auto, unfolding(crate::specs::answer::Rows::row_as_answered))]
+fn row_as_answered(
     section: &MediaLine,
     feedback: &SectionFeedback,
     theirs: &PayloadParams,
     ours: &PayloadParams,
 ) -> PayloadParams
-    requires { TellsOf section.now feedback.now }
-    ensures { result ≡ as_answered section.now theirs.now ours.now }
+    requires { TellsFeedbackOf section.now feedback.now }
+    ensures { result ≡ row_as_answered section.now theirs.now ours.now }
 {
     let (pt, listed) = (ours.pt(), section.pts.as_slice());
     let offered = feedback.for_type(section, pt);
-    let resend = agreed_type(listed, ours.resend(), theirs.resend());
-    let red = agreed_type(listed, ours.red(), theirs.red());
+    let resend = row_agreed_type(listed, ours.resend(), theirs.resend());
+    let red = row_agreed_type(listed, ours.red(), theirs.red());
     let mut row = PayloadParams::new(pt, resend, ours.spec()).with_red(red);
     row.set_fb_transport_cc(ours.fb_transport_cc() && offered.transport_cc);
     row.set_fb_fir(ours.fb_fir() && offered.fir);
@@ -55,8 +55,8 @@ fn as_answered(
 }
 
 /// Whether sections of this type carry what the row is of.
-fn is_carried(typ: &MediaType, row: &PayloadParams) -> bool
-    ensures { result ≡ is_carried_in typ.now row.now }
+fn is_row_carried(typ: &MediaType, row: &PayloadParams) -> bool
+    ensures { result ≡ is_row_carried_in typ.now row.now }
 {
     let codec = row.spec().codec;
     match typ {
@@ -67,69 +67,69 @@ fn is_carried(typ: &MediaType, row: &PayloadParams) -> bool
 }
 
 /// Whether our row answers an offered one.
-fn matches(typ: &MediaType, theirs: &PayloadParams, ours: &PayloadParams) -> bool
-    ensures { result ≡ matches typ.now theirs.now ours.now }
+fn row_matches(typ: &MediaType, theirs: &PayloadParams, ours: &PayloadParams) -> bool
+    ensures { result ≡ row_matches typ.now theirs.now ours.now }
 {
     ours.locked()
         && ours.pt() == theirs.pt()
-        && is_carried(typ, ours)
+        && is_row_carried(typ, ours)
         && ours.match_score(theirs).is_some()
 }
 
 /// The offered row of a payload type.
-fn offered_under(offered: &[PayloadParams], pt: Pt) -> Option<&PayloadParams>
+fn offered_row_under(offered: &[PayloadParams], pt: Pt) -> Option<&PayloadParams>
     ensures { option_copied result ≡ find (λ row. row.pt == pt) offered.now }
 {
     offered.iter().find(|row| row.pt() == pt)
 }
 
 /// Our row that answers an offered one.
-fn our_match<'a>(
+fn our_matching_row<'a>(
     own: &'a [PayloadParams],
     typ: &MediaType,
     theirs: &PayloadParams,
 ) -> Option<&'a PayloadParams>
-    ensures { option_copied result ≡ find (matches typ.now theirs.now) own.now }
+    ensures { option_copied result ≡ find (row_matches typ.now theirs.now) own.now }
 {
-    own.iter().find(|ours| matches(typ, theirs, ours))
+    own.iter().find(|ours| row_matches(typ, theirs, ours))
 }
 
 /// What the answer says of an offered row.
-fn answer_to(
+fn answer_to_row(
     own: &[PayloadParams],
     section: &MediaLine,
     feedback: &SectionFeedback,
     theirs: &PayloadParams,
 ) -> Option<PayloadParams>
-    requires { TellsOf section.now feedback.now }
-    ensures { result ≡ answer_to own.now section.now theirs.now }
+    requires { TellsFeedbackOf section.now feedback.now }
+    ensures { result ≡ answer_to_row own.now section.now theirs.now }
 {
-    match our_match(own, &section.typ, theirs) {
-        Some(ours) => Some(as_answered(section, feedback, theirs, ours)),
+    match our_matching_row(own, &section.typ, theirs) {
+        Some(ours) => Some(row_as_answered(section, feedback, theirs, ours)),
         None => None,
     }
 }
 
 /// What the answer says of a payload type.
-#[tactic(auto, unfolding(crate::specs::answer::Rows::answer_under))]
-fn answer_under(
+#[tactic(auto, unfolding(crate::specs::answer::Rows::answer_under_type))]
+fn answer_under_type(
     own: &[PayloadParams],
     section: &MediaLine,
     feedback: &SectionFeedback,
     offered: &[PayloadParams],
     pt: Pt,
 ) -> Option<PayloadParams>
-    requires { TellsOf section.now feedback.now }
-    ensures { result ≡ answer_under own.now section.now offered.now pt }
+    requires { TellsFeedbackOf section.now feedback.now }
+    ensures { result ≡ answer_under_type own.now section.now offered.now pt }
 {
-    match offered_under(offered, pt) {
-        Some(theirs) => answer_to(own, section, feedback, theirs),
+    match offered_row_under(offered, pt) {
+        Some(theirs) => answer_to_row(own, section, feedback, theirs),
         None => None,
     }
 }
 
 /// A payload type after the others, unless it stands among them.
-fn push_new(once: &mut Vec<Pt>, pt: Pt) -> Result<(), AllocError>
+fn push_new_type(once: &mut Vec<Pt>, pt: Pt) -> Result<(), AllocError>
     ensures { OnOk result (once.new.items ≡ once.old.items ++ (if has once.old.items pt then [] else pt ∷ [])) }
 {
     if !is_type_listed(once.as_slice(), pt) {
@@ -139,12 +139,12 @@ fn push_new(once: &mut Vec<Pt>, pt: Pt) -> Result<(), AllocError>
 }
 
 /// The payload types of an m-line, each where it stands first.
-fn each_once(alloc: Global, listed: &[Pt]) -> Result<Vec<Pt>, AllocError>
+fn each_type_once(alloc: Global, listed: &[Pt]) -> Result<Vec<Pt>, AllocError>
     ensures { IfOk result (λ once. once.items ≡ distinct ◌==◌ listed.now) }
 {
     let mut once = Vec::with_capacity(alloc, listed.len())?;
     for pt in listed {
-        push_new(&mut once, *pt)?;
+        push_new_type(&mut once, *pt)?;
     }
     Ok(once)
 }
@@ -162,19 +162,19 @@ fn push_answer(
 }
 
 /// What the answer says of each of these types.
-fn answers_under(
+fn answers_under_types(
     own: &[PayloadParams],
     section: &MediaLine,
     feedback: &SectionFeedback,
     offered: &[PayloadParams],
     listed: &[Pt],
 ) -> Result<Vec<PayloadParams>, AllocError>
-    requires { TellsOf section.now feedback.now }
-    ensures { IfOk result (λ rows. rows.items ≡ filter_map (answer_under own.now section.now offered.now) listed.now) }
+    requires { TellsFeedbackOf section.now feedback.now }
+    ensures { IfOk result (λ rows. rows.items ≡ filter_map (answer_under_type own.now section.now offered.now) listed.now) }
 {
     let mut rows = Vec::with_capacity(*section.attrs.allocator(), offered.len())?;
     for pt in listed {
-        let answer = answer_under(own, section, feedback, offered, *pt);
+        let answer = answer_under_type(own, section, feedback, offered, *pt);
         push_answer(&mut rows, answer)?;
     }
     Ok(rows)
@@ -190,9 +190,9 @@ pub(crate) fn answered_rows(
     requires { offered.now ≡ rows section.now }
     ensures { IfOk result (λ answer. answer.items ≡ answered_rows own.now section.now) }
 {
-    let listed = each_once(*section.attrs.allocator(), section.pts.as_slice())?;
+    let listed = each_type_once(*section.attrs.allocator(), section.pts.as_slice())?;
     let feedback = section_feedback(section);
-    let answer = answers_under(own, section, &feedback, offered, listed.as_slice())?;
+    let answer = answers_under_types(own, section, &feedback, offered, listed.as_slice())?;
     Ok(answer)
 }
 
@@ -207,18 +207,18 @@ pub(crate) fn answered_rows(
 /// `rtp_params` answers, no row is locked.
 ///
 /// The only error is that memory was refused. Configuration and section stay as they are.
-#[tactic(auto, using(crate::proofs::answer::RowLaws::all_agreed, crate::proofs::answer::RowLaws::in_order))]
+#[tactic(auto, using(crate::proofs::answer::RowLaws::answered_rows_agreed, crate::proofs::answer::RowLaws::answered_rows_in_order))]
 pub fn rows_for(config: &CodecConfig, section: &MediaLine) -> Result<Vec<PayloadParams>, AllocError>
     ensures exact { IfOk result (λ rows. rows.items ≡ answered_rows config.now.params.items section.now) }
-    ensures agreed { IfOk result (λ rows. All (IsAgreed config.now.params.items section.now) rows.items) }
-    ensures offered { IfOk result (λ rows. All (SaysWhatIsOffered section.now) rows.items) }
-    ensures ordered { IfOk result (λ rows. own_types rows.items ≡ filter (is_answered config.now.params.items section.now) (distinct ◌==◌ section.now.pts)) }
-    ensures distinct { IfOk result (λ rows. AllDistinct (own_types rows.items)) }
+    ensures agreed { IfOk result (λ rows. All (IsAgreedRow config.now.params.items section.now) rows.items) }
+    ensures offered { IfOk result (λ rows. All (RowSaysOffered section.now) rows.items) }
+    ensures ordered { IfOk result (λ rows. answered_own_types rows.items ≡ filter (is_type_answered config.now.params.items section.now) (distinct ◌==◌ section.now.pts)) }
+    ensures distinct { IfOk result (λ rows. AllDistinct (answered_own_types rows.items)) }
     // So no type of any role stands twice, where rounds have locked the rows.
     ensures apart { AllDistinct (locked_types config.now.params.items) → IfOk result (λ rows. AllDistinct (types rows.items)) }
     // Rows of video need all their feedback for that, and not each section offers it.
-    ensures plain { All IsPlain config.now.params.items → IfOk result (λ rows. All KeepsPlain rows.items) }
-    ensures complete { IfOk result (λ rows. (ours : PayloadParams) → Belongs config.now.params.items section.now ours → Contains (own_types rows.items) ours.pt) }
+    ensures plain { All IsPlain config.now.params.items → IfOk result (λ rows. All KeepsRowPlain rows.items) }
+    ensures complete { IfOk result (λ rows. (ours : PayloadParams) → BelongsInAnswer config.now.params.items section.now ours → Contains (answered_own_types rows.items) ours.pt) }
 {
     let offered = section.rtp_params()?;
     let rows = answered_rows(config.params(), section, offered.as_slice())?;

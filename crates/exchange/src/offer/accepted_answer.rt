@@ -2,18 +2,18 @@
 ghost use Rattle.exchange.specs.Prelude.{AllDistinct, IsPlain, LockedStay, types};
 ghost use Rattle.exchange.specs.answer.Offered.{NegotiatesOffer};
 ghost use Rattle.exchange.specs.declared.state.signaling_state.SignalingState.TheVariants.{HaveLocalOffer, Stable};
-ghost use Rattle.exchange.specs.offer.AcceptedAnswer.{IsAnswer, IsTakenWith, RefusesAnswer, RefusesFit, placed_of};
-ghost use Rattle.exchange.specs.offer.Added.{with_placed};
+ghost use Rattle.exchange.specs.offer.AcceptedAnswer.{IsAnswerText, IsTakenWith, RefusesAnswer, RefusesFit, placed_of_offer};
+ghost use Rattle.exchange.specs.offer.Added.{with_added_directions};
 ghost use Rattle.exchange.specs.offer.Fits.{FitsOffer};
-ghost use Rattle.exchange.specs.offer.Names.{grown};
-ghost use Rattle.exchange.specs.state.ExchangeFollows.{Follows, IsSound};
+ghost use Rattle.exchange.specs.offer.Names.{grown_names};
+ghost use Rattle.exchange.specs.state.ExchangeFollows.{Follows, IsSoundExchange};
 ghost use Rattle.exchange.specs.state.State.{pending_sdp, sections_of, state_of};
 ghost use Rattle.std.specs.Prelude.{All, ◌≡◌, IfErr, IfOk, IsSomeAnd, None, OnErr, OnOk, drop, length, option_map};
 
-use crate::answer::offered::whole_description;
-use crate::offer::added::{Added, with_placed};
+use crate::answer::offered::whole_offer;
+use crate::offer::added::{Added, with_added_directions};
 use crate::offer::fits::first_misfit;
-use crate::offer::names::grown;
+use crate::offer::names::grown_names;
 use crate::offer::pending::Pending;
 use crate::state::exchange::{Exchange, negotiated};
 use crate::state::exchange_error::ExchangeError;
@@ -23,7 +23,7 @@ use std::alloc::{AllocError, Global};
 use str0m_signal::{CodecConfig, Items, Mid, Sdp};
 
 /// An error where an answer doesn't fit an offer of this side, which has this configuration after the rounds of the answer.
-fn check_fit(
+fn check_answer_fit(
     alloc: Global,
     ours: &CodecConfig,
     offer: &Sdp,
@@ -53,7 +53,7 @@ fn added_behind(alloc: Global, added: &[Added], placed: usize) -> Result<Items<A
 }
 
 /// The offer that waits for its answer, which waits no longer.
-fn taken(pending: &mut Option<Pending>) -> Option<Sdp>
+fn take_pending(pending: &mut Option<Pending>) -> Option<Sdp>
     ensures was { result ≡ option_map (λ offer. offer.sdp) pending.old }
     ensures none { pending.new ≡ None }
 {
@@ -80,21 +80,21 @@ impl Exchange {
     /// The answer that a text is, where it fits the open offer.
     fn fitting(&self, answer: &str) -> Result<Fitting, ExchangeError>
         ensures taken { IfOk result (λ it. IsTakenWith self.now answer.now it.remote it.config) }
-        ensures names { IfOk result (λ it. it.names ≡ grown self.now.names (sections_of (pending_sdp self.now))) }
-        ensures directions { IfOk result (λ it. it.directions ≡ with_placed self.now.own.directions (placed_of self.now)) }
-        ensures added { IfOk result (λ it. it.added ≡ drop (length (placed_of self.now)) self.now.added) }
+        ensures names { IfOk result (λ it. it.names ≡ grown_names self.now.names (sections_of (pending_sdp self.now))) }
+        ensures directions { IfOk result (λ it. it.directions ≡ with_added_directions self.now.own.directions (placed_of_offer self.now)) }
+        ensures added { IfOk result (λ it. it.added ≡ drop (length (placed_of_offer self.now)) self.now.added) }
         ensures refused { IfErr result (RefusesAnswer self.now answer.now) }
     {
         let Some(pending) = &self.pending else {
             return Err(ExchangeError::WrongState(SignalingState::Stable));
         };
         let alloc = *self.config.allocator();
-        let remote = whole_description(alloc, answer)?;
+        let remote = whole_offer(alloc, answer)?;
         let config = negotiated(&self.config, &remote)?;
-        check_fit(alloc, &config, &pending.sdp, &remote)?;
-        let names = grown(alloc, &self.names, pending.sdp.media_lines.as_slice())?;
+        check_answer_fit(alloc, &config, &pending.sdp, &remote)?;
+        let names = grown_names(alloc, &self.names, pending.sdp.media_lines.as_slice())?;
         let placed = pending.placed.as_slice();
-        let directions = with_placed(alloc, self.own.directions.as_slice(), placed)?;
+        let directions = with_added_directions(alloc, self.own.directions.as_slice(), placed)?;
         let added = added_behind(alloc, self.added.as_slice(), placed.len())?;
         Ok(Fitting {
             remote,
@@ -122,7 +122,7 @@ impl Exchange {
     #[tactic(auto, using(crate::proofs::state::ExchangeFollowLaws::follows_self))]
     pub fn accept_answer(&mut self, answer: &str) -> Result<(), ExchangeError>
         ensures waiting { OnOk result (state_of self.old ≡ HaveLocalOffer) }
-        ensures read { OnOk result (IsSomeAnd self.new.remote (IsAnswer answer.now)) }
+        ensures read { OnOk result (IsSomeAnd self.new.remote (IsAnswerText answer.now)) }
         ensures fits { OnOk result (IsSomeAnd self.new.local (λ offer. IsSomeAnd self.new.remote (FitsOffer self.new.config.params.items offer))) }
         ensures negotiated { OnOk result (IsSomeAnd self.new.remote (λ remote.
             NegotiatesOffer remote self.old.config.params.items self.new.config.params.items)) }
@@ -132,17 +132,17 @@ impl Exchange {
         ensures distances { self.new.config.red_distances ≡ self.old.config.red_distances }
         ensures local { OnOk result (self.new.local ≡ pending_sdp self.old) }
         ensures stable { OnOk result (state_of self.new ≡ Stable) }
-        ensures names { OnOk result (self.new.names ≡ grown self.old.names (sections_of self.new.local)) }
-        ensures own { OnOk result (self.new.own ≡ record self.old.own { directions = with_placed self.old.own.directions (placed_of self.old) }) }
-        ensures added { OnOk result (self.new.added ≡ drop (length (placed_of self.old)) self.old.added) }
+        ensures names { OnOk result (self.new.names ≡ grown_names self.old.names (sections_of self.new.local)) }
+        ensures own { OnOk result (self.new.own ≡ record self.old.own { directions = with_added_directions self.old.own.directions (placed_of_offer self.old) }) }
+        ensures added { OnOk result (self.new.added ≡ drop (length (placed_of_offer self.old)) self.old.added) }
         ensures version_same { self.new.version ≡ self.old.version }
-        ensures sound { IsSound self.old → IsSound self.new }
-        ensures follows { IsSound self.old → Follows self.old self.new }
+        ensures sound { IsSoundExchange self.old → IsSoundExchange self.new }
+        ensures follows { IsSoundExchange self.old → Follows self.old self.new }
         ensures refused { IfErr result (RefusesAnswer self.old answer.now) }
         ensures unchanged { OnErr result (self.new ≡ self.old) }
     {
         let found = self.fitting(answer)?;
-        let local = taken(&mut self.pending);
+        let local = take_pending(&mut self.pending);
         self.settle(local, found.remote, found.config, found.names);
         self.own.directions = found.directions;
         self.added = found.added;

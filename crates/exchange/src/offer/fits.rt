@@ -2,13 +2,13 @@
 ghost use Rattle.exchange.specs.Prelude.{HoldsMids};
 ghost use Rattle.exchange.specs.answer.Bundled.{IsBundledBy};
 ghost use Rattle.exchange.specs.answer.InBundle.{bundle_names};
-ghost use Rattle.exchange.specs.offer.Fits.{Breaks, BreaksAt, BreaksFirstAt, BundlesSo, FitsAt, FitsOffer, IsBundledSo, accepted_name, unrejected_names};
+ghost use Rattle.exchange.specs.offer.Fits.{Breaks, BreaksAt, BreaksFirstAt, FitsBundle, FitsAt, FitsOffer, FitsBundledName, fit_section_name, fit_section_names};
 ghost use Rattle.std.specs.Prelude.{◌≡◌, ◌↔◌, ℕ, IfOk, IsTrue, MatchOption, filter_map, Some};
 
-use crate::answer::bundled::{Bundled, shared_by};
+use crate::answer::bundled::{Bundled, shared_by_bundle};
 use crate::answer::in_bundle::bundle_names;
 use crate::offer::fits_section::broken_rule;
-use crate::offer::names::{is_held, ordered, push_name};
+use crate::offer::names::{is_name_held, ordered_names, push_name};
 use crate::offer::rule::{Misfit, Rule};
 use crate::section::stopped::name_of;
 use std::alloc::{AllocError, Global};
@@ -16,7 +16,7 @@ use std::collections::BTreeSet;
 use str0m_signal::{CodecConfig, MediaLine, Mid, Sdp};
 
 /// The first rule that the section at a place breaks.
-fn broken_at(
+fn misfit_at(
     ours: &CodecConfig,
     offer: &Sdp,
     answer: &Sdp,
@@ -33,7 +33,7 @@ fn broken_at(
 }
 
 /// The first section that breaks a rule.
-fn broken_section(
+fn misfit_section(
     alloc: Global,
     ours: &CodecConfig,
     offer: &Sdp,
@@ -42,17 +42,17 @@ fn broken_section(
     ensures { IfOk result (λ found. MatchOption found ((at : ℕ) → FitsAt ours.now.params.items offer.now answer.now at)
         (λ misfit. BreaksFirstAt ours.now.params.items offer.now answer.now misfit.section misfit.rule)) }
 {
-    let bundled = shared_by(alloc, answer)?;
+    let bundled = shared_by_bundle(alloc, answer)?;
     for section in 0..offer.media_lines.len() {
-        if let Some(rule) = broken_at(ours, offer, answer, &bundled, section)? {
+        if let Some(rule) = misfit_at(ours, offer, answer, &bundled, section)? {
             return Ok(Some(Misfit { section, rule }));
         }
     }
     Ok(None)
 }
 
-fn accepted_name(section: &MediaLine) -> Option<Mid>
-    ensures { result ≡ accepted_name section.now }
+fn fit_section_name(section: &MediaLine) -> Option<Mid>
+    ensures { result ≡ fit_section_name section.now }
 {
     if section.disabled {
         None
@@ -62,40 +62,40 @@ fn accepted_name(section: &MediaLine) -> Option<Mid>
 }
 
 /// The names of the sections that are accepted.
-fn unrejected_names(alloc: Global, sections: &[MediaLine]) -> Result<Vec<Mid>, AllocError>
-    ensures { IfOk result (λ names. names.items ≡ filter_map accepted_name sections.now) }
+fn fit_section_names(alloc: Global, sections: &[MediaLine]) -> Result<Vec<Mid>, AllocError>
+    ensures { IfOk result (λ names. names.items ≡ filter_map fit_section_name sections.now) }
 {
     let mut names = Vec::new(alloc);
     for section in sections {
-        push_name(&mut names, accepted_name(section))?;
+        push_name(&mut names, fit_section_name(section))?;
     }
     Ok(names)
 }
 
-fn is_bundled_so(
+fn fits_bundled_name(
     offer: &Sdp,
     answer: &Sdp,
     accepted: &BTreeSet<&str>,
     offered: &BTreeSet<&str>,
     mid: Mid,
 ) -> bool
-    requires accepted { HoldsMids accepted.now (unrejected_names answer.now) }
+    requires accepted { HoldsMids accepted.now (fit_section_names answer.now) }
     requires offered { HoldsMids offered.now (bundle_names offer.now) }
-    ensures { IsTrue result ↔ IsBundledSo offer.now answer.now mid }
+    ensures { IsTrue result ↔ FitsBundledName offer.now answer.now mid }
 {
-    is_held(accepted, Some(mid)) && is_held(offered, Some(mid))
+    is_name_held(accepted, Some(mid)) && is_name_held(offered, Some(mid))
 }
 
 /// Whether the group of an answer lists accepted sections alone, and of those that the offer's group lists.
-fn bundles_so(alloc: Global, offer: &Sdp, answer: &Sdp) -> Result<bool, AllocError>
-    ensures { IfOk result (λ bundles. IsTrue bundles ↔ BundlesSo offer.now answer.now) }
+fn fits_bundle(alloc: Global, offer: &Sdp, answer: &Sdp) -> Result<bool, AllocError>
+    ensures { IfOk result (λ bundles. IsTrue bundles ↔ FitsBundle offer.now answer.now) }
 {
-    let names = unrejected_names(alloc, answer.media_lines.as_slice())?;
-    let accepted = ordered(alloc, names.as_slice())?;
-    let offered = ordered(alloc, bundle_names(offer))?;
+    let names = fit_section_names(alloc, answer.media_lines.as_slice())?;
+    let accepted = ordered_names(alloc, names.as_slice())?;
+    let offered = ordered_names(alloc, bundle_names(offer))?;
     let listed = bundle_names(answer);
     for mid in listed {
-        if !is_bundled_so(offer, answer, &accepted, &offered, *mid) {
+        if !fits_bundled_name(offer, answer, &accepted, &offered, *mid) {
             return Ok(false);
         }
     }
@@ -121,10 +121,10 @@ pub(crate) fn first_misfit(
             rule: Rule::Sections,
         }));
     }
-    if let Some(misfit) = broken_section(alloc, ours, offer, answer)? {
+    if let Some(misfit) = misfit_section(alloc, ours, offer, answer)? {
         return Ok(Some(misfit));
     }
-    if !bundles_so(alloc, offer, answer)? {
+    if !fits_bundle(alloc, offer, answer)? {
         return Ok(Some(Misfit {
             section: answered,
             rule: Rule::Bundle,

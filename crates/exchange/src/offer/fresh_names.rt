@@ -4,7 +4,7 @@ ghost use Rattle.exchange.specs.declared.state.exchange_error.ExchangeError.TheV
 ghost use Rattle.exchange.specs.offer.FreshNames.{AreAllTaken, AreFresh, AreTooFew, IsNextFree};
 ghost use Rattle.std.specs.Prelude.{◌≡◌, ◌<◌, ◌⊎◌, ◌^◌, false, All, IfErr, IfOk, MatchOption, ℕ, Some, decimal, length};
 
-use crate::offer::names::ordered;
+use crate::offer::names::ordered_names;
 use crate::state::exchange_error::ExchangeError;
 use std::alloc::{AllocError, Global};
 use std::collections::BTreeSet;
@@ -13,7 +13,7 @@ use str0m_signal::{Items, Mid};
 /// Sections are named by numbers below this one.
 const NUMBERS: u64 = 0x1_0000_0000;
 
-fn is_taken(alloc: Global, held: &BTreeSet<&str>, number: u64) -> Result<bool, AllocError>
+fn is_number_taken(alloc: Global, held: &BTreeSet<&str>, number: u64) -> Result<bool, AllocError>
     ensures { IfOk result (λ answer. answer ≡ is_mid_held held.now (Some (decimal number))) }
 {
     let name = format!(in alloc; "{number}")?;
@@ -21,7 +21,7 @@ fn is_taken(alloc: Global, held: &BTreeSet<&str>, number: u64) -> Result<bool, A
 }
 
 /// The least number from one on that names no section.
-fn next_free(
+fn next_free_number(
     alloc: Global,
     taken: &[Mid],
     held: &BTreeSet<&str>,
@@ -31,7 +31,7 @@ fn next_free(
     ensures { IfOk result (λ found. MatchOption found (AreAllTaken taken.now from) (IsNextFree taken.now from)) }
 {
     for number in from..NUMBERS {
-        if !is_taken(alloc, held, number)? {
+        if !is_number_taken(alloc, held, number)? {
             return Ok(Some(number));
         }
     }
@@ -60,11 +60,11 @@ pub(crate) fn fresh_names(
     ensures different { IfOk result AreDistinct }
     ensures refused { IfErr result (λ error. (error ≡ Memory) ⊎ ((error ≡ NoName) × AreTooFew taken.now count)) }
 {
-    let held = ordered(alloc, taken)?;
+    let held = ordered_names(alloc, taken)?;
     let mut names = Items::empty(alloc);
     let mut from = 0;
     while names.len() < count {
-        let Some(number) = next_free(alloc, taken, &held, from)? else {
+        let Some(number) = next_free_number(alloc, taken, &held, from)? else {
             return Err(ExchangeError::NoName);
         };
         names.push(number_name(alloc, number)?)?;

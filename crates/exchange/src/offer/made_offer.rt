@@ -1,16 +1,18 @@
 //! The offer that this side makes.
 ghost use Rattle.exchange.specs.Prelude.{AreDistinct, section_mids};
-ghost use Rattle.exchange.specs.offer.MadeOffer.{MakesOffer, bundled_names, offer_session, placed_as, ready_with};
+ghost use Rattle.exchange.specs.offer.MadeOffer.{MakesOffer, offer_bundle_names, offer_session, placed_as, ready_with_added};
 ghost use Rattle.exchange.specs.offer.OfferExtensions.{extension_lines};
-ghost use Rattle.exchange.specs.offer.OfferRules.{IsNewName, IsOffered, KeepsPlaces};
+ghost use Rattle.exchange.specs.offer.OfferRules.{IsNewName, KeepsOfferRules, KeepsPlaces};
 ghost use Rattle.exchange.specs.offer.OfferSection.{new_section};
 ghost use Rattle.exchange.specs.section.Places.{FollowsPlaces};
-ghost use Rattle.exchange.specs.state.State.{sections_of, session_of, taken_names};
+ghost use Rattle.exchange.specs.state.State.{sections_of, description_session, taken_names};
 ghost use Rattle.std.specs.Prelude.{◌≡◌, All, IfOk, map};
 
-use crate::answer::answered_session::{are_accepted, group_lines, mixed_lines};
-use crate::answer::bundle::accepted_names;
-use crate::offer::added::{Placed, placed_under, with_placed};
+use crate::answer::answered_session::{
+    session_group_lines, session_mixed_lines, session_sections_accepted,
+};
+use crate::answer::bundle::answered_bundle_names;
+use crate::offer::added::{Placed, added_under_names, with_added_directions};
 use crate::offer::offer_extensions::extension_lines;
 use crate::offer::offer_places::{filled_places, new_sections};
 use crate::section::places::sections_of;
@@ -21,8 +23,8 @@ use std::alloc::{AllocError, Global};
 use str0m_signal::{Items, MediaLine, Mid, Sdp, Session, SessionAttribute};
 
 /// The lines of this side's session there.
-fn session_of(local: &Option<Sdp>) -> &[SessionAttribute]
-    ensures { result.now ≡ session_of local.now }
+fn own_session_of(local: &Option<Sdp>) -> &[SessionAttribute]
+    ensures { result.now ≡ description_session local.now }
 {
     match local {
         Some(sdp) => sdp.session.attrs.as_slice(),
@@ -31,7 +33,7 @@ fn session_of(local: &Option<Sdp>) -> &[SessionAttribute]
 }
 
 /// The names of sections, in order.
-fn section_names(alloc: Global, sections: &[MediaLine]) -> Result<Vec<Mid>, AllocError>
+fn offered_section_names(alloc: Global, sections: &[MediaLine]) -> Result<Vec<Mid>, AllocError>
     ensures { IfOk result (λ names. names.items ≡ section_mids sections.now) }
 {
     let mut names = Vec::new(alloc);
@@ -48,17 +50,17 @@ pub(crate) fn taken_names(exchange: &Exchange) -> Result<Vec<Mid>, AllocError>
     ensures { IfOk result (λ names. names.items ≡ taken_names exchange.now) }
 {
     let alloc = *exchange.config.allocator();
-    let mut names = section_names(alloc, sections_of(&exchange.local))?;
+    let mut names = offered_section_names(alloc, sections_of(&exchange.local))?;
     names.extend_from_slice(exchange.names.as_slice())?;
     Ok(names)
 }
 
 /// The names of the sections with a port, in order.
-fn bundled_names(alloc: Global, sections: &[MediaLine]) -> Result<Items<Mid>, AllocError>
-    ensures { IfOk result (λ names. names ≡ bundled_names sections.now) }
+fn offer_bundle_names(alloc: Global, sections: &[MediaLine]) -> Result<Items<Mid>, AllocError>
+    ensures { IfOk result (λ names. names ≡ offer_bundle_names sections.now) }
 {
-    let accepted = are_accepted(alloc, sections)?;
-    let names = accepted_names(alloc, sections, accepted.as_slice())?;
+    let accepted = session_sections_accepted(alloc, sections)?;
+    let names = answered_bundle_names(alloc, sections, accepted.as_slice())?;
     Ok(Items::from(names))
 }
 
@@ -67,9 +69,9 @@ fn offer_session(exchange: &Exchange, sections: &[MediaLine]) -> Result<Session,
     ensures { IfOk result (λ session. session ≡ offer_session exchange.now sections.now) }
 {
     let alloc = *exchange.config.allocator();
-    let names = bundled_names(alloc, sections)?;
-    let mut attrs = group_lines(alloc, names)?;
-    attrs.append(&mut mixed_lines(alloc, session_of(&exchange.local))?)?;
+    let names = offer_bundle_names(alloc, sections)?;
+    let mut attrs = session_group_lines(alloc, names)?;
+    attrs.append(&mut session_mixed_lines(alloc, own_session_of(&exchange.local))?)?;
     Ok(Session {
         id: exchange.own.session_id,
         bw: None,
@@ -82,7 +84,7 @@ pub(crate) fn placed_as(exchange: &Exchange, names: &[Mid]) -> Result<Items<Plac
     ensures { IfOk result (λ placed. placed ≡ placed_as exchange.now names.now) }
 {
     let alloc = *exchange.config.allocator();
-    let placed = placed_under(alloc, names, exchange.added.as_slice())?;
+    let placed = added_under_names(alloc, names, exchange.added.as_slice())?;
     Ok(Items::from(placed))
 }
 
@@ -107,7 +109,11 @@ fn offer_under(exchange: &Exchange, names: &[Mid]) -> Result<Sdp, AllocError>
 {
     let alloc = *exchange.config.allocator();
     let placed = placed_as(exchange, names)?;
-    let ready = with_placed(alloc, exchange.own.directions.as_slice(), placed.as_slice())?;
+    let ready = with_added_directions(
+        alloc,
+        exchange.own.directions.as_slice(),
+        placed.as_slice(),
+    )?;
     let added = sections_added(exchange, ready.as_slice(), placed.as_slice())?;
     let places = sections_of(&exchange.local);
     let sections = filled_places(exchange, ready.as_slice(), places, added.as_slice())?;
@@ -126,7 +132,7 @@ pub(crate) fn made_offer(exchange: &Exchange, names: &[Mid]) -> Result<Sdp, Allo
     ensures makes { IfOk result (MakesOffer exchange.now names.now) }
     ensures places { IfOk result (λ offer. KeepsPlaces exchange.now 0 (sections_of exchange.now.local) offer.media_lines) }
     ensures follows { IfOk result (λ offer. FollowsPlaces exchange.now.names (sections_of exchange.now.local) offer.media_lines) }
-    ensures rules { IfOk result (λ offer. All (IsOffered exchange.now (ready_with exchange.now names.now)) offer.media_lines) }
+    ensures rules { IfOk result (λ offer. All (KeepsOfferRules exchange.now (ready_with_added exchange.now names.now)) offer.media_lines) }
     ensures different { AreDistinct (section_mids (sections_of exchange.now.local)) → IfOk result (λ offer. AreDistinct (section_mids offer.media_lines)) }
 {
     let offer = offer_under(exchange, names)?;

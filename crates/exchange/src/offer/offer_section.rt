@@ -1,10 +1,12 @@
 //! The sections of an offer.
 ghost use Rattle.exchange.specs.Prelude.{kind_rows};
-ghost use Rattle.exchange.specs.offer.OfferSection.{asked_lines, flow_lines, is_extension, is_mux, is_own, is_rsize, is_said, is_same, kept_lines, new_section, next_section, offered_channels, offered_media, section_with, type_of};
+ghost use Rattle.exchange.specs.offer.OfferSection.{asked_section_lines, flow_section_lines, is_extension_line, is_mux_line, is_own_line, is_rsize_line, is_said_by_theirs, is_same_shared_line, kept_section_lines, new_section, next_section, offered_channels, offered_media, offered_section_with, type_of_kind};
 ghost use Rattle.std.specs.List.{list_any};
 ghost use Rattle.std.specs.Prelude.{◌≡◌, ◌≢◌, [], IfOk, false, true, option_copied};
 
-use crate::answer::accepted::{candidate_lines, channel_lines, first_lines, push_msid};
+use crate::answer::accepted::{
+    accepted_candidate_lines, accepted_channel_lines, first_accepted_lines, push_accepted_msid,
+};
 use crate::answer::rejected_section::rejected;
 use crate::offer::added::{Added, Placed};
 use crate::section::stopped::name_of;
@@ -17,13 +19,13 @@ use str0m_signal::{
     PayloadParams, Proto, Setup, section_of,
 };
 
-fn section_with(
+fn offered_section_with(
     alloc: Global,
     typ: MediaType,
     proto: Proto,
     lines: Vec<MediaAttribute>,
 ) -> MediaLine
-    ensures { result ≡ section_with typ proto lines.items }
+    ensures { result ≡ offered_section_with typ proto lines.items }
 {
     let mut section = MediaLine::new(alloc);
     section.typ = typ;
@@ -32,8 +34,8 @@ fn section_with(
     section
 }
 
-fn type_of(kind: MediaKind) -> MediaType
-    ensures { result ≡ type_of kind }
+fn type_of_kind(kind: MediaKind) -> MediaType
+    ensures { result ≡ type_of_kind kind }
 {
     match kind {
         MediaKind::Audio => MediaType::Audio,
@@ -42,7 +44,7 @@ fn type_of(kind: MediaKind) -> MediaType
 }
 
 /// The rows of a kind for an offer.
-fn rows_of(config: &CodecConfig, kind: MediaKind) -> Result<Vec<PayloadParams>, AllocError>
+fn rows_of_kind(config: &CodecConfig, kind: MediaKind) -> Result<Vec<PayloadParams>, AllocError>
     ensures { IfOk result (λ rows. rows.items ≡ kind_rows kind true config.now.params.items) }
 {
     let mut rows = Vec::new(*config.allocator());
@@ -54,7 +56,7 @@ fn rows_of(config: &CodecConfig, kind: MediaKind) -> Result<Vec<PayloadParams>, 
 }
 
 /// Whether there is a row of the kind.
-pub(crate) fn has_rows(config: &CodecConfig, kind: MediaKind) -> bool
+pub(crate) fn has_offer_rows(config: &CodecConfig, kind: MediaKind) -> bool
     ensures some { result ≡ true → kind_rows kind true config.now.params.items ≢ [] }
     ensures none { result ≡ false → kind_rows kind true config.now.params.items ≡ [] }
 {
@@ -62,19 +64,19 @@ pub(crate) fn has_rows(config: &CodecConfig, kind: MediaKind) -> bool
 }
 
 /// What media says but for its rows, after its name and its transport.
-fn flow_lines(
+fn flow_section_lines(
     alloc: Global,
     own: &OwnSide,
     mid: Mid,
     direction: Direction,
     mut asked: Vec<MediaAttribute>,
 ) -> Result<Vec<MediaAttribute>, AllocError>
-    ensures { IfOk result (λ lines. lines.items ≡ flow_lines own.now mid direction asked.items) }
+    ensures { IfOk result (λ lines. lines.items ≡ flow_section_lines own.now mid direction asked.items) }
 {
     let mut lines = vec![in alloc; MediaAttribute::from(direction)]?;
-    lines.append(&mut candidate_lines(alloc, own)?)?;
+    lines.append(&mut accepted_candidate_lines(alloc, own)?)?;
     lines.append(&mut asked)?;
-    push_msid(&mut lines, own, direction, mid)?;
+    push_accepted_msid(&mut lines, own, direction, mid)?;
     Ok(lines)
 }
 
@@ -90,12 +92,12 @@ fn offered_media(
 {
     let (own, config) = (&exchange.own, &exchange.config);
     let alloc = *config.allocator();
-    let typ = type_of(kind);
+    let typ = type_of_kind(kind);
     let direction = own.direction_among(ready, Some(mid), &typ);
-    let mut lines = first_lines(alloc, own, mid, Setup::ActPass)?;
-    lines.append(&mut flow_lines(alloc, own, mid, direction, asked)?)?;
-    let frame = section_with(alloc, typ, Proto::Srtp, lines);
-    let rows = rows_of(config, kind)?;
+    let mut lines = first_accepted_lines(alloc, own, mid, Setup::ActPass)?;
+    lines.append(&mut flow_section_lines(alloc, own, mid, direction, asked)?)?;
+    let frame = offered_section_with(alloc, typ, Proto::Srtp, lines);
+    let rows = rows_of_kind(config, kind)?;
     section_of(&frame, rows.as_slice())
 }
 
@@ -111,18 +113,18 @@ fn offered_channels(
     let Some(channels) = own.channels else {
         return rejected(alloc, instead);
     };
-    let mut lines = first_lines(alloc, own, mid, Setup::ActPass)?;
-    lines.append(&mut channel_lines(alloc, channels)?)?;
-    lines.append(&mut candidate_lines(alloc, own)?)?;
-    Ok(section_with(alloc, MediaType::Application, Proto::Sctp, lines))
+    let mut lines = first_accepted_lines(alloc, own, mid, Setup::ActPass)?;
+    lines.append(&mut accepted_channel_lines(alloc, channels)?)?;
+    lines.append(&mut accepted_candidate_lines(alloc, own)?)?;
+    Ok(offered_section_with(alloc, MediaType::Application, Proto::Sctp, lines))
 }
 
 /// The lines that a new section of media asks for.
-fn asked_lines(
+fn asked_section_lines(
     alloc: Global,
     extensions: &[MediaAttribute],
 ) -> Result<Vec<MediaAttribute>, AllocError>
-    ensures { IfOk result (λ lines. lines.items ≡ asked_lines extensions.now) }
+    ensures { IfOk result (λ lines. lines.items ≡ asked_section_lines extensions.now) }
 {
     let mut lines = vec![in alloc; MediaAttribute::RtcpMux, MediaAttribute::RtcpRsize]?;
     for line in extensions {
@@ -144,31 +146,31 @@ pub(crate) fn new_section(
     let mid = placed.mid;
     match placed.added {
         Added::Media(kind, _) => {
-            let asked = asked_lines(alloc, extensions)?;
+            let asked = asked_section_lines(alloc, extensions)?;
             offered_media(exchange, ready, kind, mid, asked)
         }
         Added::Channels => {
             let name = vec![in alloc; MediaAttribute::Mid(mid)]?;
-            let instead = section_with(alloc, MediaType::Application, Proto::Sctp, name);
+            let instead = offered_section_with(alloc, MediaType::Application, Proto::Sctp, name);
             offered_channels(alloc, &exchange.own, &instead, mid)
         }
     }
 }
 
-fn is_mux(line: &MediaAttribute) -> bool
-    ensures { result ≡ is_mux line.now }
+fn is_mux_line(line: &MediaAttribute) -> bool
+    ensures { result ≡ is_mux_line line.now }
 {
     matches!(line, MediaAttribute::RtcpMux)
 }
 
-fn is_rsize(line: &MediaAttribute) -> bool
-    ensures { result ≡ is_rsize line.now }
+fn is_rsize_line(line: &MediaAttribute) -> bool
+    ensures { result ≡ is_rsize_line line.now }
 {
     matches!(line, MediaAttribute::RtcpRsize)
 }
 
-fn is_extension(number: u8, ext: &Extension, line: &MediaAttribute) -> bool
-    ensures { result ≡ is_extension number ext.now.uri line.now }
+fn is_extension_line(number: u8, ext: &Extension, line: &MediaAttribute) -> bool
+    ensures { result ≡ is_extension_line number ext.now.uri line.now }
 {
     match line {
         MediaAttribute::ExtMap { id, ext: other } => {
@@ -179,36 +181,36 @@ fn is_extension(number: u8, ext: &Extension, line: &MediaAttribute) -> bool
 }
 
 /// Whether both are one line of those that both sides have to say.
-fn is_same(line: &MediaAttribute, other: &MediaAttribute) -> bool
-    ensures { result ≡ is_same line.now other.now }
+fn is_same_shared_line(line: &MediaAttribute, other: &MediaAttribute) -> bool
+    ensures { result ≡ is_same_shared_line line.now other.now }
 {
     match line {
-        MediaAttribute::RtcpMux => is_mux(other),
-        MediaAttribute::RtcpRsize => is_rsize(other),
-        MediaAttribute::ExtMap { id, ext } => is_extension(*id, ext, other),
+        MediaAttribute::RtcpMux => is_mux_line(other),
+        MediaAttribute::RtcpRsize => is_rsize_line(other),
+        MediaAttribute::ExtMap { id, ext } => is_extension_line(*id, ext, other),
         _ => false,
     }
 }
 
-fn says(section: &MediaLine, line: &MediaAttribute) -> bool
-    ensures { result ≡ list_any (is_same line.now) section.now.attrs }
+fn says_line(section: &MediaLine, line: &MediaAttribute) -> bool
+    ensures { result ≡ list_any (is_same_shared_line line.now) section.now.attrs }
 {
     let attrs = section.attrs.as_slice();
-    attrs.iter().any(|other| is_same(line, other))
+    attrs.iter().any(|other| is_same_shared_line(line, other))
 }
 
-fn is_said(theirs: Option<&MediaLine>, line: &MediaAttribute) -> bool
-    ensures { result ≡ is_said (option_copied theirs.entry) line.now }
+fn is_said_by_theirs(theirs: Option<&MediaLine>, line: &MediaAttribute) -> bool
+    ensures { result ≡ is_said_by_theirs (option_copied theirs.entry) line.now }
 {
     match theirs {
-        Some(theirs) => says(theirs, line),
+        Some(theirs) => says_line(theirs, line),
         None => false,
     }
 }
 
 /// Whether this side says the line alone: of its layers, or that extensions of both lengths may be mixed.
-fn is_own(line: &MediaAttribute) -> bool
-    ensures { result ≡ is_own line.now }
+fn is_own_line(line: &MediaAttribute) -> bool
+    ensures { result ≡ is_own_line line.now }
 {
     match line {
         MediaAttribute::Rid { .. } | MediaAttribute::Simulcast(_) => true,
@@ -218,16 +220,16 @@ fn is_own(line: &MediaAttribute) -> bool
 }
 
 /// The lines of this side's section that it goes on saying.
-fn kept_lines(
+fn kept_section_lines(
     alloc: Global,
     theirs: Option<&MediaLine>,
     mine: &MediaLine,
 ) -> Result<Vec<MediaAttribute>, AllocError>
-    ensures { IfOk result (λ lines. lines.items ≡ kept_lines (option_copied theirs.entry) mine.now) }
+    ensures { IfOk result (λ lines. lines.items ≡ kept_section_lines (option_copied theirs.entry) mine.now) }
 {
     let mut lines = Vec::new(alloc);
     for line in mine.attrs.as_slice() {
-        if is_said(theirs, line) || is_own(line) {
+        if is_said_by_theirs(theirs, line) || is_own_line(line) {
             lines.push(line.clone()?)?;
         }
     }
@@ -255,6 +257,6 @@ pub(crate) fn next_section(
         }
         _ => return rejected(alloc, mine),
     };
-    let kept = kept_lines(alloc, theirs, mine)?;
+    let kept = kept_section_lines(alloc, theirs, mine)?;
     offered_media(exchange, ready, kind, mid, kept)
 }

@@ -7,7 +7,7 @@ use crate::answer::in_force::creds_at;
 use std::alloc::AllocError;
 use str0m_signal::{IceCreds, Sdp};
 
-#[tactic(auto, using(crate::proofs::state::ReadBackEqual::creds_Decides))]
+#[tactic(auto, using(crate::proofs::state::ReadBackEqual::read_back_creds_Decides))]
 fn are_same_creds(creds: &IceCreds, other: &IceCreds) -> bool
     ensures { IsTrue result ↔ (creds.now ≡ other.now) }
 {

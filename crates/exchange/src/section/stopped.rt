@@ -6,7 +6,7 @@ ghost use Rattle.exchange.specs.section.Stopped.{IsBundled, IsBundleOnly, IsStop
 ghost use Rattle.std.specs.Prelude.{◌≡◌, ◌↔◌, IsTrue, Some, codes, Contains};
 ghost use Rattle.str0m_sdp.specs.declared.attribute.MediaAttribute.TheVariants.{Unused};
 
-use crate::offer::names::is_held;
+use crate::offer::names::is_name_held;
 use std::collections::BTreeSet;
 use str0m_signal::{MediaAttribute, MediaLine, Mid, Sdp};
 
@@ -31,7 +31,7 @@ pub fn is_bundle_only(section: &MediaLine) -> bool
     attrs.iter().any(|attr| says_bundle_only(attr))
 }
 
-fn mid_of(attr: &MediaAttribute) -> Option<Mid>
+fn mid_of_attribute(attr: &MediaAttribute) -> Option<Mid>
     ensures { result ≡ mid_of attr.now }
 {
     match attr {
@@ -45,7 +45,7 @@ pub fn name_of(section: &MediaLine) -> Option<Mid>
     ensures { result ≡ name_of section.now }
 {
     let attrs = section.attrs.as_slice();
-    attrs.iter().find_map(|attr| mid_of(attr))
+    attrs.iter().find_map(|attr| mid_of_attribute(attr))
 }
 
 fn is_one_mid(mid: Mid, other: Mid) -> bool
@@ -54,7 +54,7 @@ fn is_one_mid(mid: Mid, other: Mid) -> bool
     mid == other
 }
 
-fn lists(group: &[Mid], mid: Mid) -> bool
+fn group_lists(group: &[Mid], mid: Mid) -> bool
     ensures { IsTrue result ↔ Contains group.now mid }
 {
     group.iter().any(|other| is_one_mid(*other, mid))
@@ -65,7 +65,7 @@ fn is_bundled(sdp: &Sdp, section: &MediaLine) -> bool
     ensures { IsTrue result ↔ IsBundled sdp.now section.now }
 {
     match (sdp.bundle_mids(), name_of(section)) {
-        (Some(group), Some(mid)) => lists(group, mid),
+        (Some(group), Some(mid)) => group_lists(group, mid),
         _ => false,
     }
 }
@@ -81,7 +81,7 @@ fn is_bundled_in(group: &BTreeSet<&str>, sdp: &Sdp, section: &MediaLine) -> bool
     requires { HoldsMids group.now (bundle_names sdp.now) }
     ensures { IsTrue result ↔ IsBundled sdp.now section.now }
 {
-    is_held(group, name_of(section))
+    is_name_held(group, name_of(section))
 }
 
 /// Whether a section is stopped, where `group` has the names of the group in order: of many sections none looks through it.

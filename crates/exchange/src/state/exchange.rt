@@ -3,28 +3,28 @@ ghost use Rattle.exchange.specs.Prelude.{AllDistinct, AreDistinct, HasBoundedRow
 ghost use Rattle.exchange.specs.answer.Offered.{AreOfferRounds, NegotiatesOffer};
 ghost use Rattle.exchange.specs.declared.state.exchange_error.ExchangeError.TheVariants.{Memory, WrongState};
 ghost use Rattle.exchange.specs.declared.state.signaling_state.SignalingState.TheVariants.{Stable};
-ghost use Rattle.exchange.specs.offer.Added.{with_channels, with_media};
+ghost use Rattle.exchange.specs.offer.Added.{with_added_channels, with_added_media};
 ghost use Rattle.exchange.specs.offer.FreshNames.{AreFresh};
-ghost use Rattle.exchange.specs.offer.MadeOffer.{MakesOffer, placed_as, ready_with};
-ghost use Rattle.exchange.specs.offer.OfferRules.{IsNewName, IsOffered, IsOfferedWith, KeepsPlaces};
+ghost use Rattle.exchange.specs.offer.MadeOffer.{MakesOffer, placed_as, ready_with_added};
+ghost use Rattle.exchange.specs.offer.OfferRules.{IsNewName, KeepsOfferRules, KeepsPlaces};
 ghost use Rattle.exchange.specs.state.Exchange.{RefusesChannels, RefusesMedia, RefusesToOffer};
-ghost use Rattle.exchange.specs.state.ExchangeFollows.{Follows, IsSound};
-ghost use Rattle.exchange.specs.state.OwnSide.{with_entry};
+ghost use Rattle.exchange.specs.state.ExchangeFollows.{Follows, IsSoundExchange};
+ghost use Rattle.exchange.specs.state.OwnSide.{with_direction_entry};
 ghost use Rattle.exchange.specs.state.ReadBack.{IsReadBack};
 ghost use Rattle.exchange.specs.state.State.{pending_sdp, sections_of, state_of, taken_names};
 ghost use Rattle.std.specs.Prelude.{All, ◌≡◌, ◌≢◌, ◌+◌, ◌-◌, ◌^◌, [], ℕ, true, IfErr, IfOk, MatchOption, OnErr, OnOk, None, Some, length, min, option_copied};
 
-use crate::answer::offered::{negotiate, rounds_of};
+use crate::answer::offered::{negotiate_offer, offered_rounds};
 use crate::offer::Offer;
 use crate::offer::added::Added;
 use crate::offer::fresh_names::fresh_names;
 use crate::offer::made_offer::{made_offer, placed_as, taken_names};
-use crate::offer::offer_section::has_rows;
+use crate::offer::offer_section::has_offer_rows;
 use crate::offer::pending::Pending;
 use crate::section::places::sections_of;
 use crate::state::copied_over::copy_over;
 use crate::state::exchange_error::ExchangeError;
-use crate::state::own_side::{OwnSide, with_entry};
+use crate::state::own_side::{OwnSide, with_direction_entry};
 use crate::state::read_back::read_back;
 use crate::state::signaling_state::SignalingState;
 use std::alloc::{AllocError, Global};
@@ -92,7 +92,7 @@ pub(crate) fn negotiated_by(
     ensures distances { IfOk result (λ after. after.red_distances ≡ config.now.red_distances) }
 {
     let mut config = config.clone()?;
-    negotiate(&mut config, offer, rounds)?;
+    negotiate_offer(&mut config, offer, rounds)?;
     Ok(config)
 }
 
@@ -104,7 +104,7 @@ pub(crate) fn negotiated(config: &CodecConfig, offer: &Sdp) -> Result<CodecConfi
     ensures plain { All HasBoundedRows offer.now.media_lines → All IsPlain config.now.params.items → IfOk result (λ after. All IsPlain after.params.items) }
     ensures distances { IfOk result (λ after. after.red_distances ≡ config.now.red_distances) }
 {
-    let rounds = rounds_of(*config.allocator(), offer)?;
+    let rounds = offered_rounds(*config.allocator(), offer)?;
     negotiated_by(config, offer, rounds.as_slice())
 }
 
@@ -117,10 +117,10 @@ pub(crate) fn next_version(version: u64) -> u64
 
 impl Exchange {
     /// An exchange in which nothing was said yet.
-    #[tactic(auto, using(crate::proofs::state::ExchangeFollowLaws::sound_new))]
+    #[tactic(auto, using(crate::proofs::state::ExchangeFollowLaws::follows_sound_new))]
     pub fn new(own: OwnSide, config: CodecConfig) -> Exchange
         ensures is { result ≡ record { own = own; config = config; local = None; remote = None; pending = None; version = 1; added = []; names = [] } }
-        ensures sound { IsSound result }
+        ensures sound { IsSoundExchange result }
     {
         let alloc = *config.allocator();
         Exchange {
@@ -186,7 +186,7 @@ impl Exchange {
     #[tactic(auto, using(crate::proofs::state::ExchangeFollowLaws::follows_same))]
     pub fn restart_ice(&mut self, creds: IceCreds)
         ensures is { self.new ≡ record self.old { own = record self.old.own { creds = creds } } }
-        ensures sound { IsSound self.old → IsSound self.new }
+        ensures sound { IsSoundExchange self.old → IsSoundExchange self.new }
         ensures follows { Follows self.old self.new }
     {
         self.own.creds = creds;
@@ -199,17 +199,17 @@ impl Exchange {
     pub fn set_direction(&mut self, mid: Mid, direction: Direction) -> Result<(), ExchangeError>
         ensures ok { OnOk result (self.new ≡ record self.old {
           own = record self.old.own {
-            directions = with_entry mid direction self.old.own.directions;
+            directions = with_direction_entry mid direction self.old.own.directions;
           };
         }) }
-        ensures sound { IsSound self.old → IsSound self.new }
+        ensures sound { IsSoundExchange self.old → IsSoundExchange self.new }
         ensures follows { Follows self.old self.new }
         ensures refused { IfErr result (λ error. error ≡ Memory) }
         ensures unchanged { OnErr result (self.new ≡ self.old) }
     {
         let alloc = *self.config.allocator();
         let entries = self.own.directions.as_slice();
-        let directions = with_entry(alloc, entries, mid, direction)?;
+        let directions = with_direction_entry(alloc, entries, mid, direction)?;
         self.own.directions = directions;
         Ok(())
     }
@@ -223,14 +223,14 @@ impl Exchange {
     /// memory was refused.
     #[tactic(auto, using(crate::proofs::state::ExchangeFollowLaws::follows_same, crate::proofs::state::ExchangeFollowLaws::follows_self))]
     pub fn add_media(&mut self, kind: MediaKind, direction: Direction) -> Result<(), ExchangeError>
-        ensures ok { OnOk result (self.new ≡ with_media kind direction self.old) }
+        ensures ok { OnOk result (self.new ≡ with_added_media kind direction self.old) }
         ensures has_rows { OnOk result (kind_rows kind true self.old.config.params.items ≢ []) }
-        ensures sound { IsSound self.old → IsSound self.new }
+        ensures sound { IsSoundExchange self.old → IsSoundExchange self.new }
         ensures follows { Follows self.old self.new }
         ensures refused { IfErr result (RefusesMedia self.old kind) }
         ensures unchanged { OnErr result (self.new ≡ self.old) }
     {
-        if !has_rows(&self.config, kind) {
+        if !has_offer_rows(&self.config, kind) {
             return Err(ExchangeError::NoRows);
         }
         self.added.push(Added::Media(kind, direction))?;
@@ -244,9 +244,9 @@ impl Exchange {
     /// Nothing is changed by an error. `NoChannels` where this side takes none (`OwnSide`); `Memory` where memory was refused.
     #[tactic(auto, using(crate::proofs::state::ExchangeFollowLaws::follows_same, crate::proofs::state::ExchangeFollowLaws::follows_self))]
     pub fn add_channels(&mut self) -> Result<(), ExchangeError>
-        ensures ok { OnOk result (self.new ≡ with_channels self.old) }
+        ensures ok { OnOk result (self.new ≡ with_added_channels self.old) }
         ensures has_channels { OnOk result (self.old.own.channels ≢ None) }
-        ensures sound { IsSound self.old → IsSound self.new }
+        ensures sound { IsSoundExchange self.old → IsSoundExchange self.new }
         ensures follows { Follows self.old self.new }
         ensures refused { IfErr result (RefusesChannels self.old) }
         ensures unchanged { OnErr result (self.new ≡ self.old) }
@@ -263,7 +263,7 @@ impl Exchange {
     #[tactic(auto, using(crate::proofs::state::ExchangeFollowLaws::follows_same, crate::proofs::state::ExchangeFollowLaws::follows_self))]
     pub fn rollback(&mut self)
         ensures is { self.new ≡ record self.old { pending = None } }
-        ensures sound { IsSound self.old → IsSound self.new }
+        ensures sound { IsSoundExchange self.old → IsSoundExchange self.new }
         ensures follows { Follows self.old self.new }
     {
         self.pending = None;
@@ -294,7 +294,7 @@ impl Exchange {
         // Section by section, and as a whole with its bundle.
         ensures says { IfOk result (λ offer. MakesOffer self.old offer.added offer.sdp) }
         ensures places { IfOk result (λ offer. KeepsPlaces self.old 0 (sections_of self.old.local) offer.sdp.media_lines) }
-        ensures rules { IfOk result (λ offer. All (IsOffered self.old (ready_with self.old offer.added)) offer.sdp.media_lines) }
+        ensures rules { IfOk result (λ offer. All (KeepsOfferRules self.old (ready_with_added self.old offer.added)) offer.sdp.media_lines) }
         ensures different { AreDistinct (section_mids (sections_of self.old.local)) → IfOk result (λ offer. AreDistinct (section_mids offer.sdp.media_lines)) }
         ensures read_back { IfOk result (λ offer. IsReadBack offer.sdp (versioned_text offer.version offer.sdp)) }
         ensures version { IfOk result (λ offer. offer.version ≡ self.old.version) }
@@ -302,7 +302,7 @@ impl Exchange {
           pending = Some (record { sdp = offer.sdp; placed = placed_as self.old offer.added });
           version = min (self.old.version + 1) (2 ^ 64 - 1);
         }) }
-        ensures sound { IsSound self.old → IsSound self.new }
+        ensures sound { IsSoundExchange self.old → IsSoundExchange self.new }
         ensures follows { Follows self.old self.new }
         ensures refused { IfErr result (RefusesToOffer self.old) }
         ensures unchanged { OnErr result (self.new ≡ self.old) }

@@ -12,7 +12,7 @@ use str0m_signal::{
 };
 
 /// Whether the attributes are alike one by one.
-fn are_alike(said: &[MediaAttribute], read: &[MediaAttribute]) -> bool
+fn are_attributes_alike(said: &[MediaAttribute], read: &[MediaAttribute]) -> bool
     ensures { IsTrue result ↔ AllZip Alike said.now read.now }
 {
     let mut left = said;
@@ -27,21 +27,21 @@ fn are_alike(said: &[MediaAttribute], read: &[MediaAttribute]) -> bool
     reads.is_empty()
 }
 
-#[tactic(auto, using(crate::proofs::state::ReadBackEqual::type_Decides))]
+#[tactic(auto, using(crate::proofs::state::ReadBackEqual::read_back_type_Decides))]
 pub(crate) fn is_same_type(typ: &MediaType, other: &MediaType) -> bool
     ensures { IsTrue result ↔ (typ.now ≡ other.now) }
 {
     typ == other
 }
 
-#[tactic(auto, using(crate::proofs::state::ReadBackEqual::bandwidth_Decides))]
+#[tactic(auto, using(crate::proofs::state::ReadBackEqual::read_back_bandwidth_Decides))]
 fn is_same_bandwidth(bw: &Option<Bandwidth>, other: &Option<Bandwidth>) -> bool
     ensures { IsTrue result ↔ (bw.now ≡ other.now) }
 {
     bw == other
 }
 
-#[tactic(auto, using(crate::proofs::state::ReadBackEqual::whole_session_Decides))]
+#[tactic(auto, using(crate::proofs::state::ReadBackEqual::read_back_whole_session_Decides))]
 fn is_same_session(session: &Session, other: &Session) -> bool
     ensures { IsTrue result ↔ (session.now ≡ other.now) }
 {
@@ -75,7 +75,7 @@ fn is_section_read_as(said: &MediaLine, read: &MediaLine) -> bool
 {
     is_same_head(said, read)
         && is_same_bandwidth(&read.bw, &said.bw)
-        && are_alike(said.attrs.as_slice(), read.attrs.as_slice())
+        && are_attributes_alike(said.attrs.as_slice(), read.attrs.as_slice())
 }
 
 /// Whether there are as many sections, each read as the one in its place.
@@ -102,19 +102,19 @@ fn is_read_as(said: &Sdp, read: &Sdp) -> bool
 }
 
 /// Whether what was read is this description, with nothing left.
-fn is_whole(said: &Sdp, read: &Sdp, rest: &str) -> bool
+fn is_read_back_whole(said: &Sdp, read: &Sdp, rest: &str) -> bool
     ensures { IsTrue result ↔ ((rest.now ≡ []) × IsWholeReadAs said.now read.now) }
 {
     rest.is_empty() && is_read_as(said, read)
 }
 
 /// What was read, where it is this description with nothing left.
-fn whole(said: &Sdp, read: Sdp, rest: &str) -> Option<Sdp>
+fn whole_read_back(said: &Sdp, read: Sdp, rest: &str) -> Option<Sdp>
     ensures { MatchOption result
         ((rest.now ≡ []) × IsWholeReadAs said.now read → ⊥)
         (λ found. (found ≡ read) × (rest.now ≡ []) × IsWholeReadAs said.now read) }
 {
-    if is_whole(said, &read, rest) {
+    if is_read_back_whole(said, &read, rest) {
         Some(read)
     } else {
         None
@@ -122,7 +122,7 @@ fn whole(said: &Sdp, read: Sdp, rest: &str) -> Option<Sdp>
 }
 
 /// The answer where no description was read.
-fn refused(error: SdpError) -> Result<Option<Sdp>, AllocError>
+fn refused_read_back(error: SdpError) -> Result<Option<Sdp>, AllocError>
     ensures { IfOk result (λ found. (found ≡ None) × (error ≢ Memory)) }
 {
     match error {
@@ -137,8 +137,8 @@ pub(crate) fn read_back(alloc: Global, said: &Sdp, text: &str) -> Result<Option<
     ensures alike { IfOk result (λ found. IfSome found (IsWholeReadAs said.now)) }
 {
     match sdp_parser(alloc, text) {
-        Ok((read, rest)) => Ok(whole(said, read, rest)),
-        Err(error) => refused(error),
+        Ok((read, rest)) => Ok(whole_read_back(said, read, rest)),
+        Err(error) => refused_read_back(error),
     }
 }
 

@@ -1,0 +1,9 @@
+use Rattle.exchange.proofs.Common.{arith, ◌≢◌, [], common_steps}
+use Rattle.exchange.proofs.answer.OfferedUnreadLaws.{cut_short}
+use Rattle.exchange.proofs.answer.offered.whole_offer.Goals as goal
+
+pub returns-clause-refused : goal.returns-clause-refused
+returns-clause-refused c =
+    let left : c.in_ok-offer.rest.now ≢ [] = grind (arith, common_steps) in
+    cut_short c.args.text.now c.in_ok-offer.rest.now c.in_ok-offer.offer c.rest_line_number.result c.in_ok-offer.ensures.read left
+    c.rest_line_number.ensures
