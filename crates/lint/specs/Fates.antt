@@ -23,12 +23,12 @@ abbrev pub has_type : PayloadParams → ℕ → Bool
 has_type row pt = row.pt == pt || (is_companion_type pt row.resend || is_companion_type pt row.red)
 
 -- a locked row that doesn't fit has the type
-unfoldable pub blocks : PayloadParams → PayloadParams → Bool
-blocks theirs row = row.locked && (has_type row theirs.pt && not (is_some (spec_score row.spec theirs.spec)))
+unfoldable pub blocks_type : PayloadParams → PayloadParams → Bool
+blocks_type theirs row = row.locked && (has_type row theirs.pt && not (is_some (spec_score row.spec theirs.spec)))
 
 -- the remote receives, and such a row has the type
 abbrev pub is_type_taken : Bool → List PayloadParams → PayloadParams → Bool
-is_type_taken receives after theirs = receives && list_any (blocks theirs) after
+is_type_taken receives after theirs = receives && list_any (blocks_type theirs) after
 
 -- the type of the remote row with which a row goes: none where it stays open; where it was open and the remote receives, its own
 -- type now, since it has that of its choice then; else that of its choice
@@ -73,9 +73,9 @@ fate before receives after outcome partners theirs =
     else if has_codec before theirs.spec.codec then Some OtherFormat
     else Some NoCodec
 
-abbrev pub some_of : Option Fate → List Fate
-some_of None = []
-some_of (Some it) = it ∷ []
+abbrev pub some_fate : Option Fate → List Fate
+some_fate None = []
+some_fate (Some it) = it ∷ []
 
 abbrev pub refusal_fate : Outcome → List Fate
 refusal_fate (Ok done) = []
@@ -94,27 +94,27 @@ pub record RoundSays (m : MediaLine) (before : List PayloadParams) (fates : List
   pub said : AreFatesOf before (rows m) (receives (section_direction m.attrs)) outcome after fates
 
 -- one of two, by a truth
-abbrev pub Where : Bool → Type 0 → Type 0 → Type 0
-Where true A B = A
-Where false A B = B
+abbrev pub WhereTrue : Bool → Type 0 → Type 0 → Type 0
+WhereTrue true A B = A
+WhereTrue false A B = B
 
 -- what is said of the rounds of the audio and video sections, in order, which lead from the rows before them to the rows after them
 abbrev pub RoundsSay : List MediaLine → List PayloadParams → List Fate → List PayloadParams → Type 0
 RoundsSay [] before fates after = (fates ≡ []) × (after ≡ before)
-RoundsSay (m ∷ sections) before fates after = Where (is_media m.typ)
+RoundsSay (m ∷ sections) before fates after = WhereTrue (is_media m.typ)
     ((own rest : List Fate) × (mid : List PayloadParams) × (fates ≡ own ++ rest) × RoundSays m before own mid × RoundsSay sections mid rest after)
     (RoundsSay sections before fates after)
 
-abbrev pub codes : List Finding → List Code
-codes findings = map (λ finding. finding.code) findings
+abbrev pub codes_of_findings : List Finding → List Code
+codes_of_findings findings = map (λ finding. finding.code) findings
 
 -- findings are added, of these fates, in order
 abbrev pub AddsFates : List Fate → Notes → Notes → Type 0
-AddsFates fates old new = codes new.findings ≡ codes old.findings ++ map Round fates
+AddsFates fates old new = codes_of_findings new.findings ≡ codes_of_findings old.findings ++ map Round fates
 
 -- the findings are those of the rounds with a text, against these rows: none of a text that is refused; of one that is read, those of its
 -- sections' rounds, in order
 pub record SaysRounds (text : List ℕ) (ours : List PayloadParams) (findings : List Finding) : Type 0 where
   pub refused : ((v : Sdp × List ℕ) → Reading text v → ⊥) → findings ≡ []
   pub said : (sdp : Sdp) (rest : List ℕ) → Reading text (sdp, rest)
-      → (fates : List Fate) × (codes findings ≡ map Round fates) × (after : List PayloadParams) × RoundsSay sdp.media_lines ours fates after
+      → (fates : List Fate) × (codes_of_findings findings ≡ map Round fates) × (after : List PayloadParams) × RoundsSay sdp.media_lines ours fates after

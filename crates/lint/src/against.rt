@@ -1,14 +1,14 @@
 //! What would come of a text in rounds of negotiation, line by line.
-ghost use Rattle.lint.specs.Fates.{AddsFates, RoundsSay, SaysRounds, codes};
-ghost use Rattle.lint.specs.Findings.{ReadsAs};
-ghost use Rattle.lint.specs.Lines.{IsWithinLines, last_line};
+ghost use Rattle.lint.specs.Fates.{AddsFates, RoundsSay, SaysRounds, codes_of_findings};
+ghost use Rattle.lint.specs.Findings.{ReadsAs, IsWithinLines};
+ghost use Rattle.lint.specs.Lines.{last_line};
 ghost use Rattle.lint.specs.Prelude.{AtMostOne, PayloadParams, Reading, Sdp};
 ghost use Rattle.lint.specs.declared.code.Code.TheVariants.{Round};
 ghost use Rattle.lint.specs.declared.code.Fate.{Fate};
 ghost use Rattle.std.specs.Prelude.{◌≡◌, ℕ, List, [], All, IfOk, OnOk, map};
 
 use crate::finding::Report;
-use crate::found::read;
+use crate::found::found_description;
 use crate::lines::line_count;
 use crate::notes::Notes;
 use crate::round_notes::note_rounds;
@@ -17,7 +17,7 @@ use str0m_formats::CodecConfig;
 use str0m_sdp::Sdp;
 
 /// Says what comes of the rounds with a description that is read of a text.
-fn note_outcomes(
+fn note_against_outcomes(
     notes: &mut Notes,
     text: &str,
     sdp: &Sdp,
@@ -32,7 +32,7 @@ fn note_outcomes(
 }
 
 /// Says what comes of the rounds with a text by what was read of it.
-fn note_reading(
+fn note_against_reading(
     notes: &mut Notes,
     text: &str,
     found: Option<(Sdp, &str)>,
@@ -43,7 +43,7 @@ fn note_reading(
     ensures last { notes.new.last ≡ notes.old.last }
 {
     match found {
-        Some((sdp, _)) => note_outcomes(notes, text, &sdp, ours),
+        Some((sdp, _)) => note_against_outcomes(notes, text, &sdp, ours),
         None => Ok(()),
     }
 }
@@ -60,12 +60,12 @@ pub fn rounds(alloc: Global, text: &str, ours: &CodecConfig) -> Result<Report, A
     ensures numbered { IfOk result (λ report. All (IsWithinLines (last_line text.now)) report.findings) }
     ensures refused { IfOk result (λ report. ((v : Sdp × List ℕ) → Reading text.now v → ⊥) → report.findings ≡ []) }
     ensures said { IfOk result (λ report. (sdp : Sdp) (rest : List ℕ) → Reading text.now (sdp, rest)
-        → (fates : List Fate) × (codes report.findings ≡ map Round fates)
+        → (fates : List Fate) × (codes_of_findings report.findings ≡ map Round fates)
         × (after : List PayloadParams) × RoundsSay sdp.media_lines ours.now.params.items fates after) }
 {
     let mut notes = Notes::new(alloc, line_count(text));
-    let found = read(alloc, text)?;
-    note_reading(&mut notes, text, found, ours)?;
+    let found = found_description(alloc, text)?;
+    note_against_reading(&mut notes, text, found, ours)?;
     let findings = notes.into_findings();
     Ok(Report { findings })
 }

@@ -1,15 +1,15 @@
 //! Lines that are printed otherwise than they stand.
-ghost use Rattle.lint.specs.Findings.{OnlyChanges, is_changed};
+ghost use Rattle.lint.specs.Findings.{AddsChangesOnly, is_changed};
 ghost use Rattle.lint.specs.Told.{told_of};
 ghost use Rattle.std.specs.Prelude.{◌≡◌, ◌↔◌, OnOk, false, true};
 
 use crate::code::{Change, Code};
 use crate::fork::{fork, is_respelled};
-use crate::lines::{behind_space, column_of, next_line};
+use crate::lines::{column_of, line_behind_space, next_line};
 use crate::mark::Mark;
 use crate::notes::Notes;
 use crate::part::{Part, Place};
-use crate::told::{Told, first_change};
+use crate::told::{Told, first_told_change};
 use std::alloc::{AllocError, Global};
 use str0m_values::cuts::strip;
 
@@ -21,7 +21,7 @@ struct Left<'a> {
 }
 
 /// The next printed line that begins so, and the text after it.
-fn next_printed<'a>(text: &'a str, letter: &str) -> Option<(&'a str, &'a str)> {
+fn next_printed_line<'a>(text: &'a str, letter: &str) -> Option<(&'a str, &'a str)> {
     let mut rest = text;
     while let Some((line, after)) = next_line(rest) {
         if strip(line, letter).is_some() {
@@ -33,7 +33,7 @@ fn next_printed<'a>(text: &'a str, letter: &str) -> Option<(&'a str, &'a str)> {
 }
 
 /// What a text becomes where it is printed.
-fn becomes(alloc: Global, text: &str, printed: &str) -> Result<String, AllocError> {
+fn becomes_printed(alloc: Global, text: &str, printed: &str) -> Result<String, AllocError> {
     let shown = Part::to_end(text).quoted(alloc)?;
     if printed.is_empty() {
         return format!(in alloc; "{shown} is left out");
@@ -50,11 +50,11 @@ fn note_change(
     ends: (&str, &str),
     change: Change,
 ) -> Result<(), AllocError>
-    ensures only { OnOk result (OnlyChanges notes.old notes.new) }
+    ensures only { OnOk result (AddsChangesOnly notes.old notes.new) }
     ensures last { notes.new.last ≡ notes.old.last }
 {
     let (behind, printed) = ends;
-    let detail = becomes(notes.alloc(), behind, printed)?;
+    let detail = becomes_printed(notes.alloc(), behind, printed)?;
     let place = Place {
         line: number,
         column: column_of(line, behind),
@@ -69,7 +69,7 @@ fn note_lost_attribute<'a>(
     line: &str,
     left: Left<'a>,
 ) -> Result<Left<'a>, AllocError>
-    ensures only { OnOk result (OnlyChanges notes.old notes.new) }
+    ensures only { OnOk result (AddsChangesOnly notes.old notes.new) }
     ensures last { notes.new.last ≡ notes.old.last }
 {
     let Some((mark, marks)) = left.marks.split_first() else {
@@ -77,10 +77,16 @@ fn note_lost_attribute<'a>(
     };
     let printed = left.printed;
     if let Mark::Unprinted = mark {
-        note_change(notes, number, line, (behind_space(line), ""), mark.change())?;
+        note_change(
+            notes,
+            number,
+            line,
+            (line_behind_space(line), ""),
+            mark.change(),
+        )?;
         return Ok(Left { marks, printed });
     }
-    let Some((written, printed)) = next_printed(printed, "a=") else {
+    let Some((written, printed)) = next_printed_line(printed, "a=") else {
         return Ok(left);
     };
     if line != written {
@@ -96,7 +102,7 @@ fn note_lost_attribute<'a>(
 
 /// What is lost of an m-line, by what stands after its port and what is printed there.
 fn media_change(rest: &str, written: &str) -> Change {
-    if behind_space(rest) == behind_space(written) {
+    if line_behind_space(rest) == line_behind_space(written) {
         Change::Protocol
     } else {
         Change::Formats
@@ -104,16 +110,16 @@ fn media_change(rest: &str, written: &str) -> Change {
 }
 
 /// Says what is lost of an m-line. Returns what is left then.
-fn note_media<'a>(
+fn note_media_change<'a>(
     notes: &mut Notes,
     number: usize,
     line: &str,
     left: Left<'a>,
 ) -> Result<Left<'a>, AllocError>
-    ensures only { OnOk result (OnlyChanges notes.old notes.new) }
+    ensures only { OnOk result (AddsChangesOnly notes.old notes.new) }
     ensures last { notes.new.last ≡ notes.old.last }
 {
-    let Some((written, printed)) = next_printed(left.printed, "m=") else {
+    let Some((written, printed)) = next_printed_line(left.printed, "m=") else {
         return Ok(left);
     };
     let (told, other) = (Told::of(line), Told::of(written));
@@ -126,18 +132,18 @@ fn note_media<'a>(
 }
 
 /// Says what is lost of a line. Returns what is left then.
-fn note_lost<'a>(
+fn note_lost_line<'a>(
     notes: &mut Notes,
     number: usize,
     line: &str,
     left: Left<'a>,
 ) -> Result<Left<'a>, AllocError>
-    ensures only { OnOk result (OnlyChanges notes.old notes.new) }
+    ensures only { OnOk result (AddsChangesOnly notes.old notes.new) }
     ensures last { notes.new.last ≡ notes.old.last }
 {
     match line.get(..2) {
         Some("a=") => note_lost_attribute(notes, number, line, left),
-        Some("m=") => note_media(notes, number, line, left),
+        Some("m=") => note_media_change(notes, number, line, left),
         Some("i=" | "u=" | "e=" | "p=" | "z=" | "k=") => {
             note_change(notes, number, line, (line, ""), Change::HeaderLine)?;
             Ok(left)
@@ -147,14 +153,14 @@ fn note_lost<'a>(
 }
 
 /// Says what is lost of each line of a text after so many lines, by what is printed of all, and the marks of its attributes.
-pub(crate) fn note_printed(
+pub(crate) fn note_printed_changes(
     notes: &mut Notes,
     before: usize,
     text: &str,
     printed: &str,
     marks: &[Mark],
 ) -> Result<(), AllocError>
-    ensures only { OnOk result (OnlyChanges notes.old notes.new) }
+    ensures only { OnOk result (AddsChangesOnly notes.old notes.new) }
     ensures last { notes.new.last ≡ notes.old.last }
 {
     let mut left = Left { marks, printed };
@@ -162,15 +168,15 @@ pub(crate) fn note_printed(
     let mut passed = before;
     while let Some((line, after)) = next_line(rest) {
         passed = passed.saturating_add(1);
-        left = note_lost(notes, passed, line, left)?;
+        left = note_lost_line(notes, passed, line, left)?;
         rest = after;
     }
     Ok(())
 }
 
 /// Says that a line is printed otherwise, where this isn't said yet.
-fn note_first(notes: &mut Notes, number: usize) -> Result<(), AllocError>
-    ensures only { OnOk result (OnlyChanges notes.old notes.new) }
+fn note_first_change(notes: &mut Notes, number: usize) -> Result<(), AllocError>
+    ensures only { OnOk result (AddsChangesOnly notes.old notes.new) }
     ensures said { OnOk result (is_changed notes.new.findings ≡ true) }
     ensures last { notes.new.last ≡ notes.old.last }
 {
@@ -191,14 +197,14 @@ pub(crate) fn note_changes(
     printed: &str,
     marks: &[Mark],
 ) -> Result<(), AllocError>
-    ensures only { OnOk result (OnlyChanges notes.old notes.new) }
+    ensures only { OnOk result (AddsChangesOnly notes.old notes.new) }
     ensures changed { is_changed notes.old.findings ≡ false
         → OnOk result ((is_changed notes.new.findings ≡ false) ↔ (told_of text.now ≡ told_of printed.now)) }
     ensures last { notes.new.last ≡ notes.old.last }
 {
-    let Some(first) = first_change(text, printed) else {
+    let Some(first) = first_told_change(text, printed) else {
         return Ok(());
     };
-    note_printed(notes, 0, text, printed, marks)?;
-    note_first(notes, first)
+    note_printed_changes(notes, 0, text, printed, marks)?;
+    note_first_change(notes, first)
 }

@@ -8,7 +8,7 @@ use crate::lines::next_line;
 use crate::notes::Notes;
 use crate::part::{Part, Place};
 use crate::types::Types;
-use crate::written::{gains_types, head_fault, takes_rows};
+use crate::written::{gains_types, takes_written_rows, written_head_fault};
 use std::alloc::{AllocError, Global};
 use std::collections::BTreeSet;
 use str0m_sdp::{MediaAttribute, MediaLine, Sdp};
@@ -16,7 +16,7 @@ use str0m_values::cuts::strip;
 use str0m_values::{Mid, Pt};
 
 /// The numbers of the lines of attributes and of m-lines, in order: of the session, and of each section its m-line first.
-fn lines_of(alloc: Global, text: &str) -> Result<Vec<usize>, AllocError> {
+fn conflict_lines(alloc: Global, text: &str) -> Result<Vec<usize>, AllocError> {
     let mut lines = Vec::new(alloc);
     let mut rest = text;
     let mut passed = 0usize;
@@ -31,12 +31,12 @@ fn lines_of(alloc: Global, text: &str) -> Result<Vec<usize>, AllocError> {
 }
 
 /// The number of the line that stands there; a number after all lines where there is none.
-pub(crate) fn number_at(lines: &[usize], at: usize) -> usize {
+pub(crate) fn conflict_line_at(lines: &[usize], at: usize) -> usize {
     lines.get(at).copied().unwrap_or(usize::MAX)
 }
 
 /// The lines after so many.
-fn behind(lines: &[usize], count: usize) -> &[usize] {
+fn lines_behind(lines: &[usize], count: usize) -> &[usize] {
     lines.get(count..).unwrap_or(&[])
 }
 
@@ -58,7 +58,7 @@ pub(crate) fn note_conflict(
 }
 
 /// Says that a line contradicts others by the name of a section.
-pub(crate) fn note_mid(
+pub(crate) fn note_mid_conflict(
     notes: &mut Notes,
     number: usize,
     conflict: Conflict,
@@ -72,7 +72,12 @@ pub(crate) fn note_mid(
 }
 
 /// Says that a line contradicts others by what it says of a payload type.
-fn note_type(notes: &mut Notes, number: usize, conflict: Conflict, pt: Pt) -> Result<(), AllocError>
+fn note_type_conflict(
+    notes: &mut Notes,
+    number: usize,
+    conflict: Conflict,
+    pt: Pt,
+) -> Result<(), AllocError>
     ensures others { OnOk result (SaysElse notes.old notes.new) }
     ensures last { notes.new.last ≡ notes.old.last }
 {
@@ -91,7 +96,7 @@ struct SectionLines<'a> {
 }
 
 /// Says what an m-line says against the lines of its section.
-fn note_head(
+fn note_head_conflict(
     notes: &mut Notes,
     section: SectionLines<'_>,
     types: &Types<'_>,
@@ -99,11 +104,11 @@ fn note_head(
     ensures others { OnOk result (SaysElse notes.old notes.new) }
     ensures last { notes.new.last ≡ notes.old.last }
 {
-    let number = number_at(section.numbers, 0);
+    let number = conflict_line_at(section.numbers, 0);
     if let Some(pt) = types.static_of_other_kind() {
-        note_type(notes, number, Conflict::OtherKind, pt)?;
+        note_type_conflict(notes, number, Conflict::OtherKind, pt)?;
     }
-    match head_fault(section.line) {
+    match written_head_fault(section.line) {
         Some(fault) if section.others_take_rows => note_conflict(
             notes,
             number,
@@ -125,13 +130,13 @@ fn note_line_conflict(
     ensures last { notes.new.last ≡ notes.old.last }
 {
     match types.conflict(attribute) {
-        Some((conflict, pt)) => note_type(notes, number, conflict, pt),
+        Some((conflict, pt)) => note_type_conflict(notes, number, conflict, pt),
         None => Ok(()),
     }
 }
 
 /// Says that the line of a stream is printed with payload types, where it is.
-fn note_stream(
+fn note_stream_conflict(
     notes: &mut Notes,
     number: usize,
     attribute: &MediaAttribute,
@@ -151,25 +156,25 @@ fn note_stream(
 }
 
 /// Says what the lines of a section say against each other.
-fn note_section(notes: &mut Notes, section: SectionLines<'_>) -> Result<(), AllocError>
+fn note_section_conflicts(notes: &mut Notes, section: SectionLines<'_>) -> Result<(), AllocError>
     ensures others { OnOk result (SaysElse notes.old notes.new) }
     ensures last { notes.new.last ≡ notes.old.last }
 {
     let types = Types::of(section.line);
-    note_head(notes, section, &types)?;
-    let numbers = behind(section.numbers, 1);
+    note_head_conflict(notes, section, &types)?;
+    let numbers = lines_behind(section.numbers, 1);
     for (i, attribute) in section.line.attrs.as_slice().iter().enumerate() {
-        let number = number_at(numbers, i);
+        let number = conflict_line_at(numbers, i);
         note_line_conflict(notes, number, &types, attribute)?;
         if section.some_take_rows {
-            note_stream(notes, number, attribute)?;
+            note_stream_conflict(notes, number, attribute)?;
         }
     }
     Ok(())
 }
 
 /// The mid of a section, and how many attributes stand before it.
-fn mid_of(section: &MediaLine) -> Option<(usize, &Mid)> {
+fn mid_with_place(section: &MediaLine) -> Option<(usize, &Mid)> {
     for (i, attribute) in section.attrs.as_slice().iter().enumerate() {
         if let MediaAttribute::Mid(mid) = attribute {
             return Some((i, mid));
@@ -182,7 +187,7 @@ fn mid_of(section: &MediaLine) -> Option<(usize, &Mid)> {
 fn count_taking(sections: &[MediaLine]) -> usize {
     sections
         .iter()
-        .filter(|section| takes_rows(section))
+        .filter(|section| takes_written_rows(section))
         .count()
 }
 
@@ -199,29 +204,29 @@ fn note_sections(
     let mut seen = BTreeSet::new(notes.alloc());
     let mut numbers = lines;
     for line in sections {
-        if let Some((i, mid)) = mid_of(line) {
+        if let Some((i, mid)) = mid_with_place(line) {
             if !seen.insert(mid.as_str())? {
-                let number = number_at(numbers, i.saturating_add(1));
-                note_mid(notes, number, Conflict::RepeatedMid, *mid)?;
+                let number = conflict_line_at(numbers, i.saturating_add(1));
+                note_mid_conflict(notes, number, Conflict::RepeatedMid, *mid)?;
             }
         }
         let section = SectionLines {
             line,
             numbers,
             some_take_rows: taking > 0,
-            others_take_rows: taking > usize::from(takes_rows(line)),
+            others_take_rows: taking > usize::from(takes_written_rows(line)),
         };
-        note_section(notes, section)?;
-        numbers = behind(numbers, line.attrs.len().saturating_add(1));
+        note_section_conflicts(notes, section)?;
+        numbers = lines_behind(numbers, line.attrs.len().saturating_add(1));
     }
     Ok(())
 }
 
 /// The mids of sections.
-fn names_of(alloc: Global, sections: &[MediaLine]) -> Result<BTreeSet<&str>, AllocError> {
+fn mids_of_sections(alloc: Global, sections: &[MediaLine]) -> Result<BTreeSet<&str>, AllocError> {
     let mut names = BTreeSet::new(alloc);
     for section in sections {
-        if let Some((_, mid)) = mid_of(section) {
+        if let Some((_, mid)) = mid_with_place(section) {
             names.insert(mid.as_str())?;
         }
     }
@@ -240,14 +245,14 @@ pub(crate) fn note_conflicts(
     ensures last { notes.new.last ≡ notes.old.last }
 {
     let alloc = notes.alloc();
-    let lines = lines_of(alloc, text)?;
+    let lines = conflict_lines(alloc, text)?;
     let lines = lines.as_slice();
     let sections = sdp.media_lines.as_slice();
-    let names = names_of(alloc, sections)?;
+    let names = mids_of_sections(alloc, sections)?;
     let attributes = sdp.session.attrs.as_slice();
     note_groups(notes, lines, attributes, &names)?;
     if is_whole || !sections.is_empty() {
         note_grouping(notes, lines, sdp, &names)?;
     }
-    note_sections(notes, behind(lines, attributes.len()), sections)
+    note_sections(notes, lines_behind(lines, attributes.len()), sections)
 }

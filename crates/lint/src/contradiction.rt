@@ -102,7 +102,7 @@ impl Seen {
 }
 
 /// The first two mappings of each payload type.
-fn mappings(attributes: &[MediaAttribute], before: usize) -> [FirstTwo; 256] {
+fn first_mappings(attributes: &[MediaAttribute], before: usize) -> [FirstTwo; 256] {
     let mut mappings = [FirstTwo::NONE; 256];
     let mut line = before;
     for attribute in attributes {
@@ -116,8 +116,8 @@ fn mappings(attributes: &[MediaAttribute], before: usize) -> [FirstTwo; 256] {
 }
 
 /// The first payload type without a mapping or with two, and the lines.
-fn mapping_fault(section: &MediaLine, before: usize) -> Option<(Refusal, Pt, FirstTwo)> {
-    let mappings = mappings(section.attrs.as_slice(), before);
+fn contradicting_mapping(section: &MediaLine, before: usize) -> Option<(Refusal, Pt, FirstTwo)> {
+    let mappings = first_mappings(section.attrs.as_slice(), before);
     for pt in section.pts.as_slice() {
         let pair = mappings[usize::from(pt.value())];
         if pair.second != 0 {
@@ -139,7 +139,7 @@ fn apt_of(values: &[FormatParam]) -> Option<Pt> {
 }
 
 /// The first payload type of which two format lines name different primary types, and these lines.
-fn clash(attributes: &[MediaAttribute], before: usize) -> Option<(Pt, FirstTwo)> {
+fn contradicting_formats(attributes: &[MediaAttribute], before: usize) -> Option<(Pt, FirstTwo)> {
     let mut apts = [(0usize, 0u8); 256];
     let mut line = before;
     for attribute in attributes {
@@ -176,13 +176,13 @@ pub(crate) fn contradiction(section: &MediaLine, before: usize) -> Result<Fault,
         let (refusal, detail) = (Refusal::MissingType, String::new(alloc));
         return Ok(Fault { refusal, detail });
     }
-    if let Some((refusal, pt, pair)) = mapping_fault(section, before) {
+    if let Some((refusal, pt, pair)) = contradicting_mapping(section, before) {
         let lines = pair.said(alloc)?;
         let comma = if lines.is_empty() { "" } else { ", " };
         let detail = format!(in alloc; "type {pt}{comma}{lines}")?;
         return Ok(Fault { refusal, detail });
     }
-    let detail = match clash(attributes, before) {
+    let detail = match contradicting_formats(attributes, before) {
         Some((pt, pair)) => {
             let lines = pair.said(alloc)?;
             format!(in alloc; "type {pt}, {lines}")?

@@ -19,7 +19,7 @@ impl Parameter {
 }
 
 /// The parameters of a format, in the order in which they print.
-fn parameters(alloc: Global, format: FormatParams) -> Result<Vec<Parameter>, AllocError> {
+fn format_parameters(alloc: Global, format: FormatParams) -> Result<Vec<Parameter>, AllocError> {
     let mut all = Vec::new(alloc);
     let params = format.to_format_param(alloc)?;
     for param in &params {
@@ -31,13 +31,13 @@ fn parameters(alloc: Global, format: FormatParams) -> Result<Vec<Parameter>, All
 }
 
 /// The parameter of a key.
-fn of_key<'a>(all: &'a [Parameter], key: &str) -> Option<&'a Parameter> {
+fn parameter_of_key<'a>(all: &'a [Parameter], key: &str) -> Option<&'a Parameter> {
     all.iter().find(|it| it.key() == key)
 }
 
 /// What a format says of a key, in quotes.
-fn said(alloc: Global, all: &[Parameter], key: &str) -> Result<String, AllocError> {
-    match of_key(all, key) {
+fn said_of_key(alloc: Global, all: &[Parameter], key: &str) -> Result<String, AllocError> {
+    match parameter_of_key(all, key) {
         Some(it) => {
             let text = it.text.as_str();
             format!(in alloc; "`{text}`")
@@ -47,7 +47,7 @@ fn said(alloc: Global, all: &[Parameter], key: &str) -> Result<String, AllocErro
 }
 
 /// How many channels a row has.
-fn channels(alloc: Global, count: Option<u8>) -> Result<String, AllocError> {
+fn row_channels(alloc: Global, count: Option<u8>) -> Result<String, AllocError> {
     match count {
         Some(1) => String::from_str(alloc, "1 channel"),
         Some(count) => format!(in alloc; "{count} channels"),
@@ -73,8 +73,8 @@ impl<'a> Pair<'a> {
         Ok(Pair {
             ours,
             theirs,
-            own: parameters(alloc, ours.spec().format)?,
-            other: parameters(alloc, theirs.spec().format)?,
+            own: format_parameters(alloc, ours.spec().format)?,
+            other: format_parameters(alloc, theirs.spec().format)?,
         })
     }
 
@@ -103,7 +103,7 @@ impl<'a> Pair<'a> {
                 format.set_param(&it.param);
             }
         }
-        if let Some(it) = of_key(self.other.as_slice(), key) {
+        if let Some(it) = parameter_of_key(self.other.as_slice(), key) {
             format.set_param(&it.param);
         }
         format
@@ -173,14 +173,14 @@ impl<'a> Pair<'a> {
         }
         if self.has_other_channels() {
             return Ok((
-                channels(alloc, own.channels)?,
-                channels(alloc, other.channels)?,
+                row_channels(alloc, own.channels)?,
+                row_channels(alloc, other.channels)?,
             ));
         }
         let key = self.key().unwrap_or("");
         Ok((
-            said(alloc, self.own.as_slice(), key)?,
-            said(alloc, self.other.as_slice(), key)?,
+            said_of_key(alloc, self.own.as_slice(), key)?,
+            said_of_key(alloc, self.other.as_slice(), key)?,
         ))
     }
 
@@ -193,7 +193,7 @@ impl<'a> Pair<'a> {
 }
 
 /// The row of the same codec that is nearest to a row of the other side, the first of several.
-pub(crate) fn nearest<'a>(
+pub(crate) fn nearest_row<'a>(
     alloc: Global,
     rows: &'a [PayloadParams],
     theirs: &'a PayloadParams,

@@ -186,7 +186,7 @@ const FORMS: [Form; 32] = [
 ];
 
 /// Whether the text is one or more ASCII letters and digits, and letters of other scripts.
-fn is_name(text: &str) -> bool {
+fn is_form_name(text: &str) -> bool {
     !text.is_empty()
         && text
             .bytes()
@@ -194,7 +194,7 @@ fn is_name(text: &str) -> bool {
 }
 
 /// What is said where the part isn't of this kind.
-fn misfit_unless(is: bool, misfit: Misfit) -> Option<Misfit> {
+fn form_misfit_unless(is: bool, misfit: Misfit) -> Option<Misfit> {
     if is { None } else { Some(misfit) }
 }
 
@@ -211,34 +211,40 @@ impl Kind {
             Kind::Text | Kind::Any => None,
             Kind::PayloadType => match text {
                 "*" => Some(Misfit::AllTypes),
-                _ => misfit_unless(num_u8(text, 127).is_some(), Misfit::PayloadType),
+                _ => form_misfit_unless(num_u8(text, 127).is_some(), Misfit::PayloadType),
             },
-            Kind::Extension => misfit_unless(
+            Kind::Extension => form_misfit_unless(
                 num_u8(before(text, Separator::Slash), 255).is_some(),
                 Misfit::Number,
             ),
-            Kind::Channels => misfit_unless(num_u8(text, 255).is_some(), Misfit::Number),
-            Kind::Port => misfit_unless(num_u16(text).is_some(), Misfit::Number),
-            Kind::Number => misfit_unless(num_u32(text).is_some(), Misfit::Number),
-            Kind::Size => misfit_unless(text.parse::<u64>().is_ok(), Misfit::Number),
+            Kind::Channels => form_misfit_unless(num_u8(text, 255).is_some(), Misfit::Number),
+            Kind::Port => form_misfit_unless(num_u16(text).is_some(), Misfit::Number),
+            Kind::Number => form_misfit_unless(num_u32(text).is_some(), Misfit::Number),
+            Kind::Size => form_misfit_unless(text.parse::<u64>().is_ok(), Misfit::Number),
             Kind::Rate => match num_u32(text) {
-                Some(rate) => misfit_unless(rate > 0, Misfit::ClockRate),
+                Some(rate) => form_misfit_unless(rate > 0, Misfit::ClockRate),
                 None => Some(Misfit::ClockRate),
             },
-            Kind::Address => misfit_unless(IpAddr::from_text(text).is_some(), Misfit::HostName),
-            Kind::Role => misfit_unless(case_of(&SETUPS, text).is_some(), Misfit::Role),
-            Kind::Name => misfit_unless(is_name(text), Misfit::StreamName),
-            Kind::Direction => misfit_unless(
+            Kind::Address => form_misfit_unless(
+                IpAddr::from_text(text).is_some(),
+                Misfit::HostName,
+            ),
+            Kind::Role => form_misfit_unless(case_of(&SETUPS, text).is_some(), Misfit::Role),
+            Kind::Name => form_misfit_unless(is_form_name(text), Misfit::StreamName),
+            Kind::Direction => form_misfit_unless(
                 text == "send" || text == "recv",
                 Misfit::StreamDirection,
             ),
-            Kind::HexPair => misfit_unless(text.len() == 2 && hex_u8(text).is_some(), Misfit::Hash),
+            Kind::HexPair => form_misfit_unless(
+                text.len() == 2 && hex_u8(text).is_some(),
+                Misfit::Hash,
+            ),
         }
     }
 }
 
 /// The name of an attribute: the text after `a=` up to a colon or a space.
-pub(crate) fn name_of(text: &str) -> &str {
+pub(crate) fn attribute_name_of(text: &str) -> &str {
     before(before(text, Separator::Colon), Separator::Space)
 }
 

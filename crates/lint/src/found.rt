@@ -1,5 +1,5 @@
 //! What a text loses, and why it is refused, line by line.
-ghost use Rattle.lint.specs.Findings.{AreFindingsOf, AreSilent, IsNoWant, ReadsAs, TellsUnread, ends, lines_kept, is_refused};
+ghost use Rattle.lint.specs.Findings.{AreFindingsOf, AreSilent, IsNotOutOfMemory, ReadsAs, TellsUnread, end_lines, lines_kept, is_refused, IsWithinLines};
 ghost use Rattle.lint.specs.Kept.{kept_at, kept_flags};
 ghost use Rattle.lint.specs.Lines.{IsWithinLines, attribute_numbers, last_line, unread_lines};
 ghost use Rattle.lint.specs.Prelude.{AtMostOne, Reading, Sdp, lines_of};
@@ -14,13 +14,13 @@ use crate::lines::{line_count, text_before};
 use crate::mark::all_marks;
 use crate::notes::Notes;
 use crate::refused::note_refused;
-use crate::unfit::note_end;
+use crate::unfit::note_unfit_end;
 use std::alloc::{AllocError, Global};
 use str0m_sdp::{Sdp, SdpError};
 use str0m_signal::sdp_parser;
 
 /// Says what is lost of a text that is read so, with this rest.
-fn note_read(notes: &mut Notes, text: &str, sdp: &Sdp, rest: &str) -> Result<(), AllocError>
+fn note_found_read(notes: &mut Notes, text: &str, sdp: &Sdp, rest: &str) -> Result<(), AllocError>
     ensures tells { notes.old.last ≡ last_line text.now → OnOk result (TellsUnread text.now sdp.now rest.now notes.old notes.new) }
     ensures last { notes.new.last ≡ notes.old.last }
 {
@@ -37,21 +37,26 @@ fn note_read(notes: &mut Notes, text: &str, sdp: &Sdp, rest: &str) -> Result<(),
         return Ok(());
     }
     let before = line_count(text).saturating_sub(line_count(rest));
-    note_end(notes, before.saturating_add(1), rest)
+    note_unfit_end(notes, before.saturating_add(1), rest)
 }
 
 /// Says what there is to be said of a text that is read so, with this rest.
-fn note_described(notes: &mut Notes, text: &str, sdp: &Sdp, rest: &str) -> Result<(), AllocError>
+fn note_found_described(
+    notes: &mut Notes,
+    text: &str,
+    sdp: &Sdp,
+    rest: &str,
+) -> Result<(), AllocError>
     ensures tells { notes.old.last ≡ last_line text.now → OnOk result (TellsUnread text.now sdp.now rest.now notes.old notes.new) }
     ensures last { notes.new.last ≡ notes.old.last }
 {
-    note_read(notes, text, sdp, rest)?;
+    note_found_read(notes, text, sdp, rest)?;
     note_conflicts(notes, text_before(text, rest), sdp, rest.is_empty())
 }
 
 /// Of an error that isn't out of memory, nothing.
-fn unless_memory(error: SdpError) -> Result<(), AllocError>
-    ensures { OnOk result (IsNoWant error) }
+fn found_unless_memory(error: SdpError) -> Result<(), AllocError>
+    ensures { OnOk result (IsNotOutOfMemory error) }
 {
     match error {
         SdpError::Memory => Err(AllocError),
@@ -61,14 +66,17 @@ fn unless_memory(error: SdpError) -> Result<(), AllocError>
 }
 
 /// The description that a text begins with, and the rest; none where the text is refused.
-pub(crate) fn read(alloc: Global, text: &str) -> Result<Option<(Sdp, &str)>, AllocError>
+pub(crate) fn found_description(
+    alloc: Global,
+    text: &str,
+) -> Result<Option<(Sdp, &str)>, AllocError>
     ensures read { IfOk result (ReadsAs text.now) }
     ensures one { AtMostOne (Reading text.now) }
 {
     match sdp_parser(alloc, text) {
         Ok(found) => Ok(Some(found)),
         Err(error) => {
-            unless_memory(error)?;
+            found_unless_memory(error)?;
             Ok(None)
         }
     }
@@ -81,7 +89,7 @@ fn note_found(notes: &mut Notes, text: &str, found: Option<(Sdp, &str)>) -> Resu
     ensures last { notes.new.last ≡ notes.old.last }
 {
     match found {
-        Some((sdp, rest)) => note_described(notes, text, &sdp, rest),
+        Some((sdp, rest)) => note_found_described(notes, text, &sdp, rest),
         None => note_refused(notes, text),
     }
 }
@@ -102,13 +110,13 @@ fn note_found(notes: &mut Notes, text: &str, found: Option<(Sdp, &str)>) -> Resu
 pub fn findings(alloc: Global, text: &str) -> Result<Report, AllocError>
     ensures numbered { IfOk result (λ report. All (IsWithinLines (last_line text.now)) report.findings) }
     ensures refused { IfOk result (λ report. (is_refused report.findings ≡ true) ↔ ((v : Sdp × List ℕ) → Reading text.now v → ⊥)) }
-    ensures unread { IfOk result (λ report. (sdp : Sdp) (rest : List ℕ) → Reading text.now (sdp, rest) → ends report.findings ≡ unread_lines text.now rest) }
+    ensures unread { IfOk result (λ report. (sdp : Sdp) (rest : List ℕ) → Reading text.now (sdp, rest) → end_lines report.findings ≡ unread_lines text.now rest) }
     ensures kept { IfOk result (λ report. (sdp : Sdp) (rest : List ℕ) → Reading text.now (sdp, rest)
         → lines_kept report.findings ≡ kept_at (kept_flags sdp) (attribute_numbers 1 (lines_of text.now))) }
     ensures silent { IfOk result (λ report. AreSilent report.findings ↔ NothingLost text.now) }
 {
     let mut notes = Notes::new(alloc, line_count(text));
-    let found = read(alloc, text)?;
+    let found = found_description(alloc, text)?;
     note_found(&mut notes, text, found)?;
     let findings = notes.into_findings();
     Ok(Report { findings })

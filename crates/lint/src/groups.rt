@@ -3,7 +3,7 @@ ghost use Rattle.lint.specs.Findings.{SaysElse};
 ghost use Rattle.std.specs.Prelude.{◌≡◌, OnOk};
 
 use crate::code::Conflict;
-use crate::conflicts::{note_conflict, note_mid, number_at};
+use crate::conflicts::{conflict_line_at, note_conflict, note_mid_conflict};
 use crate::notes::Notes;
 use std::alloc::AllocError;
 use std::collections::BTreeSet;
@@ -11,7 +11,7 @@ use str0m_sdp::{Sdp, SdpError, SessionAttribute};
 use str0m_values::Mid;
 
 /// The first mid of a group that no section has.
-fn stray(mids: &[Mid], names: &BTreeSet<&str>) -> Option<Mid> {
+fn stray_group_mid(mids: &[Mid], names: &BTreeSet<&str>) -> Option<Mid> {
     mids.iter()
         .copied()
         .find(|mid| !names.contains(mid.as_str()))
@@ -27,8 +27,8 @@ fn note_group(
     ensures others { OnOk result (SaysElse notes.old notes.new) }
     ensures last { notes.new.last ≡ notes.old.last }
 {
-    match stray(mids, names) {
-        Some(mid) => note_mid(notes, number, Conflict::GroupOfNothing, mid),
+    match stray_group_mid(mids, names) {
+        Some(mid) => note_mid_conflict(notes, number, Conflict::GroupOfNothing, mid),
         None => Ok(()),
     }
 }
@@ -45,7 +45,7 @@ pub(crate) fn note_groups(
 {
     for (i, attribute) in attributes.iter().enumerate() {
         if let SessionAttribute::Group { mids, .. } = attribute {
-            note_group(notes, number_at(lines, i), mids.as_slice(), names)?;
+            note_group(notes, conflict_line_at(lines, i), mids.as_slice(), names)?;
         }
     }
     Ok(())
@@ -72,7 +72,7 @@ fn group_fault(sdp: &Sdp) -> Result<Option<String>, AllocError> {
 }
 
 /// Says that the first group doesn't list the sections as they stand, where it doesn't.
-fn note_listing(notes: &mut Notes, number: usize, sdp: &Sdp) -> Result<(), AllocError>
+fn note_group_listing(notes: &mut Notes, number: usize, sdp: &Sdp) -> Result<(), AllocError>
     ensures others { OnOk result (SaysElse notes.old notes.new) }
     ensures last { notes.new.last ≡ notes.old.last }
 {
@@ -97,13 +97,13 @@ pub(crate) fn note_grouping(
     let Some((i, mids)) = first_group(attributes) else {
         return note_conflict(
             notes,
-            number_at(lines, attributes.len()),
+            conflict_line_at(lines, attributes.len()),
             Conflict::NoGroup,
             "",
         );
     };
-    if names.len() < sdp.media_lines.len() || stray(mids, names).is_some() {
+    if names.len() < sdp.media_lines.len() || stray_group_mid(mids, names).is_some() {
         return Ok(());
     }
-    note_listing(notes, number_at(lines, i), sdp)
+    note_group_listing(notes, conflict_line_at(lines, i), sdp)
 }

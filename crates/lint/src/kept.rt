@@ -3,7 +3,7 @@ ghost use Rattle.lint.specs.Code.{is_unread_code};
 ghost use Rattle.std.specs.Prelude.{◌≡◌, true};
 
 use crate::code::{Code, Misfit, Unknown};
-use crate::forms::{Form, Level, name_of};
+use crate::forms::{Form, Level, attribute_name_of};
 use crate::part::Part;
 use str0m_values::cuts::strip;
 
@@ -15,7 +15,7 @@ pub(crate) struct Reason<'a> {
 }
 
 /// Why the text after `a=` isn't read on a level where its attribute is.
-fn misfit<'a>(form: Form, text: &'a str) -> (Misfit, Part<'a>) {
+fn kept_misfit<'a>(form: Form, text: &'a str) -> (Misfit, Part<'a>) {
     let whole = Part::to_end(text);
     let Some(value) = strip(text, form.label()) else {
         return (Misfit::Form, whole);
@@ -34,7 +34,7 @@ fn misfit<'a>(form: Form, text: &'a str) -> (Misfit, Part<'a>) {
 pub(crate) fn why_kept<'a>(level: Level, text: &'a str) -> Reason<'a>
     ensures { is_unread_code result.code ≡ true }
 {
-    let name = name_of(text);
+    let name = attribute_name_of(text);
     let named = Part {
         shown: name,
         behind: text,
@@ -51,7 +51,7 @@ pub(crate) fn why_kept<'a>(level: Level, text: &'a str) -> Reason<'a>
             part: named,
         };
     }
-    let (misfit, part) = misfit(form, text);
+    let (misfit, part) = kept_misfit(form, text);
     Reason {
         code: Code::Malformed(misfit),
         part,

@@ -48,7 +48,7 @@ pub(crate) fn column_of(line: &str, behind: &str) -> usize {
 }
 
 /// What stands after the first space of a line, or the line.
-pub(crate) fn behind_space(line: &str) -> &str {
+pub(crate) fn line_behind_space(line: &str) -> &str {
     match cut(line, Separator::Space) {
         Some((_, value)) => value,
         None => line,

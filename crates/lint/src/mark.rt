@@ -4,7 +4,7 @@ ghost use Rattle.std.specs.Prelude.{◌≡◌, ◌++◌, IfOk, OnOk, map};
 
 use crate::code::{Change, Unseen};
 use crate::forms::Level;
-use crate::unseen::{change, is_unprinted, unseen};
+use crate::unseen::{is_unprinted, unseen, unseen_change};
 use std::alloc::{AllocError, Global};
 use str0m_sdp::{MediaAttribute, MediaLine, Sdp, SessionAttribute};
 
@@ -44,7 +44,7 @@ impl Mark {
         }
         match unseen(attribute) {
             Some(unseen) => Ok(Mark::Unseen(unseen)),
-            None => Ok(Mark::Read(change(attribute))),
+            None => Ok(Mark::Read(unseen_change(attribute))),
         }
     }
 
@@ -73,7 +73,10 @@ pub(crate) fn session_marks(
 }
 
 /// Adds the marks of a section's attributes, in order.
-pub(crate) fn add_section(marks: &mut Vec<Mark>, section: &MediaLine) -> Result<(), AllocError>
+pub(crate) fn add_section_marks(
+    marks: &mut Vec<Mark>,
+    section: &MediaLine,
+) -> Result<(), AllocError>
     ensures { OnOk result (map is_unread marks.new.items ≡ map is_unread marks.old.items ++ kept_of_section section.now) }
 {
     let alloc = *section.attrs.allocator();
@@ -89,7 +92,7 @@ pub(crate) fn all_marks(alloc: Global, sdp: &Sdp) -> Result<Vec<Mark>, AllocErro
 {
     let mut marks = session_marks(alloc, sdp.session.attrs.as_slice())?;
     for section in sdp.media_lines.as_slice() {
-        add_section(&mut marks, section)?;
+        add_section_marks(&mut marks, section)?;
     }
     Ok(marks)
 }

@@ -3,16 +3,16 @@ ghost use Rattle.lint.specs.Findings.{is_refused};
 ghost use Rattle.std.specs.Prelude.{◌≡◌, true, OnOk};
 
 use crate::attribute_lines::note_attributes;
-use crate::changes::note_printed;
+use crate::changes::note_printed_changes;
 use crate::code::{Code, Refusal};
 use crate::contradiction::contradiction;
 use crate::header::note_header;
 use crate::lines::{line_count, next_line, text_before};
-use crate::mark::{add_section, session_marks};
+use crate::mark::{add_section_marks, session_marks};
 use crate::notes::Notes;
 use crate::part::Place;
 use crate::section::{Section, next_section};
-use crate::unfit::note_end;
+use crate::unfit::note_unfit_end;
 use std::alloc::AllocError;
 use str0m_sdp::{SdpError, Session};
 use str0m_signal::session_parser;
@@ -20,7 +20,7 @@ use str0m_values::cuts::strip;
 
 /// Says where the reading of a section ended before the next m-line, if it did: what is missing may stand after that line. Returns
 /// what is said of the section itself.
-fn note_inner_end(
+fn note_refused_inner_end(
     notes: &mut Notes,
     number: usize,
     rest: &str,
@@ -34,7 +34,7 @@ fn note_inner_end(
     if strip(line, "m=").is_some() {
         return Ok(detail);
     }
-    note_end(notes, number, rest)?;
+    note_unfit_end(notes, number, rest)?;
     let comma = if detail.is_empty() { "" } else { ", " };
     format!(in notes.alloc(); "{detail}{comma}its reading ended at line {number}")
 }
@@ -52,7 +52,7 @@ fn note_refused_section(
     let fault = contradiction(&section.line, lead)?;
     let end = lead.saturating_add(section.line.attrs.len());
     let number = end.saturating_add(1);
-    let detail = note_inner_end(notes, number, section.rest, fault.detail)?;
+    let detail = note_refused_inner_end(notes, number, section.rest, fault.detail)?;
     let place = Place {
         line: before.saturating_add(1),
         column: 1,
@@ -61,7 +61,7 @@ fn note_refused_section(
 }
 
 /// Says what stands on the lines of a section after so many lines.
-fn note_lines(
+fn note_refused_lines(
     notes: &mut Notes,
     before: usize,
     text: &str,
@@ -70,11 +70,11 @@ fn note_lines(
     ensures { notes.new.last ≡ notes.old.last }
 {
     let mut marks = Vec::new(notes.alloc());
-    add_section(&mut marks, &section.line)?;
+    add_section_marks(&mut marks, &section.line)?;
     let lead = before.saturating_add(section.lead);
     note_attributes(notes, lead, section.attributes, marks.as_slice())?;
     let printed = section.line.to_string(notes.alloc())?;
-    note_printed(notes, before, text, printed.as_str(), marks.as_slice())
+    note_printed_changes(notes, before, text, printed.as_str(), marks.as_slice())
 }
 
 /// Says which section of those that the text begins with contradicts itself, and what stands in it and those before it.
@@ -87,7 +87,7 @@ fn note_refused_sections(notes: &mut Notes, before: usize, text: &str) -> Result
     let mut rest = text;
     while let Some(found) = next_section(alloc, rest)? {
         let lead = before.saturating_add(found.lead);
-        note_lines(notes, before, text_before(rest, found.rest), &found)?;
+        note_refused_lines(notes, before, text_before(rest, found.rest), &found)?;
         if found.line.check_consistent()?.is_some() {
             return note_refused_section(notes, before, &found);
         }
@@ -103,13 +103,13 @@ fn note_refused_sections(notes: &mut Notes, before: usize, text: &str) -> Result
 }
 
 /// Says what stands on the lines of a session.
-fn note_session(notes: &mut Notes, text: &str, session: &Session) -> Result<(), AllocError>
+fn note_refused_session(notes: &mut Notes, text: &str, session: &Session) -> Result<(), AllocError>
     ensures { notes.new.last ≡ notes.old.last }
 {
     let marks = session_marks(notes.alloc(), session.attrs.as_slice())?;
     note_attributes(notes, 0, text, marks.as_slice())?;
     let printed = session.to_string(notes.alloc())?;
-    note_printed(notes, 0, text, printed.as_str(), marks.as_slice())
+    note_printed_changes(notes, 0, text, printed.as_str(), marks.as_slice())
 }
 
 /// Says why a text is refused: which line of its header is at fault, or which section contradicts itself.
@@ -119,7 +119,7 @@ pub(crate) fn note_refused(notes: &mut Notes, text: &str) -> Result<(), AllocErr
 {
     match session_parser(notes.alloc(), text) {
         Ok((session, rest)) => {
-            note_session(notes, text_before(text, rest), &session)?;
+            note_refused_session(notes, text_before(text, rest), &session)?;
             let before = line_count(text).saturating_sub(line_count(rest));
             note_refused_sections(notes, before, rest)
         }

@@ -1,10 +1,10 @@
 //! What is said of rounds.
-ghost use Rattle.lint.specs.Fates.{AddsFates, RoundSays, RoundsSay, fate, refusal_fate, some_of};
+ghost use Rattle.lint.specs.Fates.{AddsFates, RoundSays, RoundsSay, fate, refusal_fate, some_fate};
 ghost use Rattle.lint.specs.declared.code.Fate.{Fate};
 ghost use Rattle.std.specs.Prelude.{◌≡◌, Err, List, OnOk, Some, filter_map};
 
 use crate::code::{Code, Fate};
-use crate::difference::nearest;
+use crate::difference::nearest_row;
 use crate::fate::{Ran, has_type};
 use crate::notes::Notes;
 use crate::part::Place;
@@ -15,7 +15,7 @@ use str0m_sdp::MediaLine;
 use str0m_values::Pt;
 
 /// Which row of this side goes with a row of the other one, and under which type.
-fn locked(
+fn locked_detail(
     alloc: Global,
     ran: &Ran<'_>,
     partners: &[Option<Pt>],
@@ -36,7 +36,7 @@ fn locked(
 }
 
 /// With which row the row of this side goes that fits a row of the other one.
-fn passed_over(
+fn passed_over_detail(
     alloc: Global,
     ran: &Ran<'_>,
     partners: &[Option<Pt>],
@@ -54,7 +54,11 @@ fn passed_over(
 }
 
 /// Which type of a row is taken, and by what, where that was locked before.
-fn taken(alloc: Global, ran: &Ran<'_>, theirs: &PayloadParams) -> Result<String, AllocError> {
+fn taken_detail(
+    alloc: Global,
+    ran: &Ran<'_>,
+    theirs: &PayloadParams,
+) -> Result<String, AllocError> {
     let pt = match ran.outcome {
         Err(NegotiationError::ClaimedTwice(pt)) => pt,
         _ => theirs.pt(),
@@ -73,7 +77,7 @@ fn taken(alloc: Global, ran: &Ran<'_>, theirs: &PayloadParams) -> Result<String,
 }
 
 /// What stands there, by what comes of a row.
-fn detail<'a>(
+fn fate_detail<'a>(
     alloc: Global,
     ran: &Ran<'a>,
     partners: &[Option<Pt>],
@@ -81,10 +85,10 @@ fn detail<'a>(
     fate: Fate,
 ) -> Result<String, AllocError> {
     match fate {
-        Fate::Locked => locked(alloc, ran, partners, theirs),
-        Fate::OtherRow => passed_over(alloc, ran, partners, theirs),
-        Fate::TakenType => taken(alloc, ran, theirs),
-        Fate::OtherFormat => match nearest(alloc, ran.before, theirs)? {
+        Fate::Locked => locked_detail(alloc, ran, partners, theirs),
+        Fate::OtherRow => passed_over_detail(alloc, ran, partners, theirs),
+        Fate::TakenType => taken_detail(alloc, ran, theirs),
+        Fate::OtherFormat => match nearest_row(alloc, ran.before, theirs)? {
             Some(pair) => pair.detail(alloc),
             None => Ok(String::new(alloc)),
         },
@@ -104,16 +108,16 @@ fn note_fate<'a>(
     theirs: &'a PayloadParams,
     fate: Fate,
 ) -> Result<(), AllocError>
-    ensures said { OnOk result (AddsFates (some_of (Some fate)) notes.old notes.new) }
+    ensures said { OnOk result (AddsFates (some_fate (Some fate)) notes.old notes.new) }
     ensures last { notes.new.last ≡ notes.old.last }
 {
-    let detail = detail(notes.alloc(), ran, partners, theirs, fate)?;
+    let detail = fate_detail(notes.alloc(), ran, partners, theirs, fate)?;
     let place = Place { line, column: 1 };
     notes.add(place, Code::Round(fate), detail.as_str())
 }
 
 /// Says what comes of a row, if anything.
-#[tactic(auto, using(crate::proofs::FateLaws::adds_none))]
+#[tactic(auto, using(crate::proofs::FateLaws::adds_no_fate))]
 fn note_row<'a>(
     notes: &mut Notes,
     places: &RowPlaces,
@@ -122,7 +126,7 @@ fn note_row<'a>(
     theirs: &'a PayloadParams,
 ) -> Result<(), AllocError>
     ensures said { OnOk result (AddsFates
-        (some_of (fate ran.now.before.now ran.now.receives ran.now.after.now ran.now.outcome partners.now theirs.now)) notes.old notes.new) }
+        (some_fate (fate ran.now.before.now ran.now.receives ran.now.after.now ran.now.outcome partners.now theirs.now)) notes.old notes.new) }
     ensures last { notes.new.last ≡ notes.old.last }
 {
     match ran.fate(partners, theirs) {
@@ -162,7 +166,7 @@ fn note_cause(notes: &mut Notes, line: usize, cause: NegotiationError) -> Result
 }
 
 /// Says that a round is refused, and why, where it is.
-#[tactic(auto, using(crate::proofs::FateLaws::adds_none))]
+#[tactic(auto, using(crate::proofs::FateLaws::adds_no_fate))]
 fn note_refusal(
     notes: &mut Notes,
     line: usize,

@@ -1,7 +1,7 @@
 //! A section by itself, consistent or not.
 ghost use Rattle.std.specs.Prelude.{◌<◌, ◌≤◌, IfOk, IfSome, length};
 
-use crate::fields::{is_bandwidth, is_field};
+use crate::fields::{is_bandwidth_field, is_field};
 use crate::lines::next_line;
 use crate::unfit::{Parts, media_line};
 use std::alloc::{AllocError, Global};
@@ -20,7 +20,7 @@ pub(crate) struct Section<'a> {
     pub(crate) rest: &'a str,
 }
 
-fn media_type(alloc: Global, text: &str) -> Result<MediaType, AllocError> {
+fn section_media_type(alloc: Global, text: &str) -> Result<MediaType, AllocError> {
     match text {
         AUDIO => Ok(MediaType::Audio),
         VIDEO => Ok(MediaType::Video),
@@ -30,7 +30,7 @@ fn media_type(alloc: Global, text: &str) -> Result<MediaType, AllocError> {
 }
 
 /// The payload types of an m-line; none where the text isn't numbers with a space between each two.
-fn types(alloc: Global, text: &str) -> Result<Items<Pt>, AllocError> {
+fn types_of_head(alloc: Global, text: &str) -> Result<Items<Pt>, AllocError> {
     let mut types = Items::empty(alloc);
     for word in text.split(' ') {
         match num_u8(word, 255) {
@@ -42,19 +42,19 @@ fn types(alloc: Global, text: &str) -> Result<Items<Pt>, AllocError> {
 }
 
 /// The section of an m-line, without attributes.
-fn head(alloc: Global, parts: Parts<'_>) -> Result<MediaLine, AllocError> {
+fn section_of_head(alloc: Global, parts: Parts<'_>) -> Result<MediaLine, AllocError> {
     let mut section = MediaLine::new(alloc);
-    section.typ = media_type(alloc, parts.kind)?;
+    section.typ = section_media_type(alloc, parts.kind)?;
     section.disabled = parts.port == "0";
     if parts.protocol != SRTP {
         section.proto = Proto::Sctp;
     }
-    section.pts = types(alloc, parts.formats)?;
+    section.pts = types_of_head(alloc, parts.formats)?;
     Ok(section)
 }
 
 /// The attribute of a line of a section, where it is one.
-fn attribute(alloc: Global, line: &str) -> Result<Option<MediaAttribute>, AllocError> {
+fn attribute_of_line(alloc: Global, line: &str) -> Result<Option<MediaAttribute>, AllocError> {
     match media_attribute_line(alloc, line) {
         Ok((attribute, _)) => Ok(Some(attribute)),
         Err(SdpError::Memory) => Err(AllocError),
@@ -63,13 +63,16 @@ fn attribute(alloc: Global, line: &str) -> Result<Option<MediaAttribute>, AllocE
 }
 
 /// The attributes of the lines that stand next, and the text after them.
-fn attributes(alloc: Global, text: &str) -> Result<(Items<MediaAttribute>, &str), AllocError>
+fn attributes_of_lines(
+    alloc: Global,
+    text: &str,
+) -> Result<(Items<MediaAttribute>, &str), AllocError>
     ensures { IfOk result (λ found. length found.1.now ≤ length text.now) }
 {
     let mut attributes = Items::empty(alloc);
     let mut rest = text;
     while let Some((line, after)) = next_line(rest) {
-        match attribute(alloc, line)? {
+        match attribute_of_line(alloc, line)? {
             Some(attribute) => attributes.push(attribute)?,
             None => return Ok((attributes, rest)),
         }
@@ -95,7 +98,7 @@ fn behind_bandwidth(text: &str) -> (usize, &str)
     ensures one { result.0 ≤ 1 }
 {
     match next_line(text) {
-        Some((line, rest)) if is_bandwidth(line) => (1, rest),
+        Some((line, rest)) if is_bandwidth_field(line) => (1, rest),
         _ => (0, text),
     }
 }
@@ -110,10 +113,10 @@ pub(crate) fn next_section(alloc: Global, text: &str) -> Result<Option<Section<'
     let Ok(parts) = media_line(line) else {
         return Ok(None);
     };
-    let mut head = head(alloc, parts)?;
+    let mut head = section_of_head(alloc, parts)?;
     let (connections, rest) = behind_connection(rest);
     let (bandwidths, start) = behind_bandwidth(rest);
-    let (attrs, rest) = attributes(alloc, start)?;
+    let (attrs, rest) = attributes_of_lines(alloc, start)?;
     head.attrs = attrs;
     Ok(Some(Section {
         line: head,

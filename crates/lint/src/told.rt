@@ -1,5 +1,5 @@
 //! What the lines of a text say, but for what printing fixes.
-ghost use Rattle.lint.specs.Told.{NextTold, line_told, ported, shown_told, told_of, whole};
+ghost use Rattle.lint.specs.Told.{NextTold, line_told, told_ported, shown_told, told_of, told_whole};
 ghost use Rattle.std.specs.Prelude.{◌≡◌, ◌<◌, ◌↔◌, IsTrue, IfSome, MatchOption, length, option_map};
 
 use crate::lines::next_line;
@@ -16,7 +16,7 @@ pub(crate) struct Told<'a> {
 
 impl<'a> Told<'a> {
     fn whole(line: &'a str) -> Told<'a>
-        ensures { shown_told result ≡ whole line.now }
+        ensures { shown_told result ≡ told_whole line.now }
     {
         Told {
             kind: "",
@@ -27,7 +27,7 @@ impl<'a> Told<'a> {
 
     /// An m-line by its parts, where a space stands before and after its port.
     fn ported(line: &'a str) -> Option<Told<'a>>
-        ensures { option_map shown_told result ≡ ported line.now }
+        ensures { option_map shown_told result ≡ told_ported line.now }
     {
         let (kind, behind) = cut(line, Separator::Space)?;
         let (port, rest) = cut(behind, Separator::Space)?;
@@ -97,7 +97,7 @@ fn next_told(text: &str) -> Option<Next<'_>>
 
 /// The number of the first line of a text that says something else than what is printed of it, counted without what printing fixes;
 /// that of its last line where more is printed. None where both say the same.
-pub(crate) fn first_change(text: &str, printed: &str) -> Option<usize>
+pub(crate) fn first_told_change(text: &str, printed: &str) -> Option<usize>
     ensures { MatchOption result (told_of text.now ≡ told_of printed.now) (λ line. told_of text.now ≡ told_of printed.now → ⊥) }
 {
     let mut passed = 0usize;

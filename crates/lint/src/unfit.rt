@@ -1,5 +1,5 @@
 //! Why a line fits nowhere.
-ghost use Rattle.lint.specs.Findings.{Ends};
+ghost use Rattle.lint.specs.Findings.{EndsReading};
 ghost use Rattle.lint.specs.Lines.{IsNumbered};
 ghost use Rattle.std.specs.Prelude.{◌≡◌, OnOk, ◌∷◌, []};
 
@@ -47,7 +47,7 @@ fn is_kind(text: &str) -> bool {
 }
 
 /// The first carriage return of a line, of which nothing can be shown.
-fn lone_return(line: &str) -> Option<Part<'_>> {
+fn unfit_return(line: &str) -> Option<Part<'_>> {
     let (front, _) = cut(line, Separator::CarriageReturn)?;
     let behind = line.get(front.len()..).unwrap_or("");
     Some(Part { shown: "", behind })
@@ -55,7 +55,7 @@ fn lone_return(line: &str) -> Option<Part<'_>> {
 
 /// The parts of an m-line; or why the line is none, and the part at fault.
 pub(crate) fn media_line(line: &str) -> Result<Parts<'_>, (Unfit, Part<'_>)> {
-    if let Some(part) = lone_return(line) {
+    if let Some(part) = unfit_return(line) {
         return Err((Unfit::LoneReturn, part));
     }
     let Some((parts, behind)) = media_parts(line) else {
@@ -85,12 +85,12 @@ pub(crate) fn media_line(line: &str) -> Result<Parts<'_>, (Unfit, Part<'_>)> {
 }
 
 /// Why a line fits nowhere, and the part at fault.
-fn fault(line: &str) -> (Unfit, Part<'_>) {
+fn unfit_fault(line: &str) -> (Unfit, Part<'_>) {
     let whole = Part::to_end(line);
     if line.is_empty() {
         return (Unfit::Blank, whole);
     }
-    if let Some(part) = lone_return(line) {
+    if let Some(part) = unfit_return(line) {
         return (Unfit::LoneReturn, part);
     }
     match line.get(..2) {
@@ -106,7 +106,7 @@ fn fault(line: &str) -> (Unfit, Part<'_>) {
 }
 
 /// How many lines and m-lines stand after the first line of the text.
-fn lost(text: &str) -> (usize, usize) {
+fn lines_lost(text: &str) -> (usize, usize) {
     let (mut lines, mut sections) = (0usize, 0usize);
     let mut rest = match next_line(text) {
         Some((_, rest)) => rest,
@@ -123,15 +123,15 @@ fn lost(text: &str) -> (usize, usize) {
 }
 
 /// A count with its noun, which takes an `s` where it isn't one.
-fn counted(alloc: Global, count: usize, noun: &str) -> Result<String, AllocError> {
+fn counted_noun(alloc: Global, count: usize, noun: &str) -> Result<String, AllocError> {
     let ending = if count == 1 { "" } else { "s" };
     format!(in alloc; "{count} {noun}{ending}")
 }
 
 /// What the first line of the rest is, by the part of it that is at fault, and what stands after it.
-fn hidden(alloc: Global, part: Part<'_>, rest: &str) -> Result<String, AllocError> {
+fn unfit_line(alloc: Global, part: Part<'_>, rest: &str) -> Result<String, AllocError> {
     let shown = part.quoted(alloc)?;
-    let (lines, sections) = lost(rest);
+    let (lines, sections) = lines_lost(rest);
     if lines == 0 {
         return Ok(shown);
     }
@@ -140,25 +140,25 @@ fn hidden(alloc: Global, part: Part<'_>, rest: &str) -> Result<String, AllocErro
     } else {
         shown.as_str()
     };
-    let lines = counted(alloc, lines, "line")?;
+    let lines = counted_noun(alloc, lines, "line")?;
     if sections == 0 {
         return format!(in alloc; "{subject} hides {lines} after it");
     }
-    let sections = counted(alloc, sections, "m-line")?;
+    let sections = counted_noun(alloc, sections, "m-line")?;
     format!(in alloc; "{subject} hides {lines} after it, {sections} among them")
 }
 
 /// Says that reading ended at the first line of the rest, which has this number, why, and what stands after it.
-pub(crate) fn note_end(notes: &mut Notes, number: usize, rest: &str) -> Result<(), AllocError>
-    ensures ends { IsNumbered notes.old.last number → OnOk result (Ends number notes.old notes.new) }
+pub(crate) fn note_unfit_end(notes: &mut Notes, number: usize, rest: &str) -> Result<(), AllocError>
+    ensures ends { IsNumbered notes.old.last number → OnOk result (EndsReading number notes.old notes.new) }
     ensures last { notes.new.last ≡ notes.old.last }
 {
     let line = match next_line(rest) {
         Some((line, _)) => line,
         None => "",
     };
-    let (unfit, part) = fault(line);
-    let detail = hidden(notes.alloc(), part, rest)?;
+    let (unfit, part) = unfit_fault(line);
+    let detail = unfit_line(notes.alloc(), part, rest)?;
     let place = Place {
         line: number,
         column: column_of(line, part.behind),

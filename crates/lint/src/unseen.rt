@@ -28,7 +28,7 @@ fn holds_unknown(values: &[FormatParam]) -> bool {
 }
 
 /// What is lost where the line of an attribute is printed otherwise than it stands, and not only in another spelling.
-pub(crate) fn change(attribute: &MediaAttribute) -> Change {
+pub(crate) fn unseen_change(attribute: &MediaAttribute) -> Change {
     match attribute {
         MediaAttribute::RtpMap { value, .. } if matches!(value.codec, Codec::Unknown) =>
             Change::Codec,

@@ -6,7 +6,7 @@ use str0m_signal::media_attribute_line;
 use str0m_values::{Pt, Text};
 
 /// Whether rows may be written into a section: one of audio or video over RTP.
-pub(crate) fn takes_rows(section: &MediaLine) -> bool {
+pub(crate) fn takes_written_rows(section: &MediaLine) -> bool {
     section.typ.is_media() && matches!(section.proto, Proto::Srtp)
 }
 
@@ -48,7 +48,7 @@ fn mappings_of_0(attributes: &[MediaAttribute]) -> usize {
 
 /// Why the section contradicts itself once its m-line is printed and read, if it does: that of data channels without payload types, that
 /// of other sections that have none with type 0.
-pub(crate) fn head_fault(section: &MediaLine) -> Option<&'static str> {
+pub(crate) fn written_head_fault(section: &MediaLine) -> Option<&'static str> {
     if section.typ.is_channel() {
         return match section.proto {
             Proto::Srtp if !section.disabled => Some(
