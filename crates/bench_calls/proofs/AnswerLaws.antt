@@ -1,7 +1,7 @@
 -- An answer has as many sections as the offer that it answers.
 use Rattle.bench_calls.specs.Answers.{HasAnswered}
+use Rattle.exchange.specs.answer.AnswerRules.{HasShapeOf}
 use Rattle.exchange.specs.answer.Offered.{IsOfferText}
-use Rattle.exchange.specs.offer.Rules.{HasShapeOf}
 use Rattle.exchange.specs.state.Exchange.{EachOfferedSection}
 use Rattle.std.proofs.Common.{List, ℕ, Option, Some, None, IsSomeAnd, length}
 use Rattle.std.proofs.lemmas.Slice.Zip.{AllZip-long}

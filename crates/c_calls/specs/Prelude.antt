@@ -10,6 +10,7 @@ pub use Rattle.c_parts.specs.declared.section.Section.{Section}
 pub use Rattle.c_parts.specs.declared.side.OwnNumbers.{OwnNumbers}
 pub use Rattle.c_parts.specs.declared.side.OwnTexts.{OwnTexts}
 pub use Rattle.exchange.specs.answer.AcceptedOffer.{answer_tracks}
+pub use Rattle.exchange.specs.answer.AnswerRules.{HasShapeOf, IsAcceptedExactly, KeepsRules}
 pub use Rattle.exchange.specs.answer.AnsweredSession.{BundlesAccepted}
 pub use Rattle.exchange.specs.answer.Offered.{IsOfferText, NegotiatesOffer}
 pub use Rattle.exchange.specs.declared.state.exchange.Exchange.{Exchange}
@@ -21,8 +22,8 @@ pub use Rattle.exchange.specs.offer.Fits.{FitsOffer}
 pub use Rattle.exchange.specs.offer.FreshNames.{AreFresh}
 pub use Rattle.exchange.specs.offer.MadeOffer.{MakesOffer, placed_as, ready_with_added}
 pub use Rattle.exchange.specs.offer.Names.{grown_names}
-pub use Rattle.exchange.specs.offer.OfferRules.{IsNewName, KeepsOfferRules, KeepsPlaces}
-pub use Rattle.exchange.specs.offer.Rules.{HasShapeOf, IsAcceptedExactly, KeepsRules}
+pub use Rattle.exchange.specs.offer.OfferPlaces.{IsNewName, KeepsPlaces}
+pub use Rattle.exchange.specs.offer.OfferRules.{KeepsOfferRules}
 pub use Rattle.exchange.specs.section.Places.{StaysInPlaces}
 pub use Rattle.exchange.specs.state.Exchange.{AnswersOffer, EachOfferedSection, RefusesChannels, RefusesMedia, RefusesOffer, RefusesToOffer}
 pub use Rattle.exchange.specs.state.ExchangeFollows.{Follows, IsSoundExchange}

@@ -37,16 +37,14 @@ pub use Rattle.std.specs.BTreeSet.{Updates, contains}
 pub use Rattle.std.specs.Cmp.Lexicographic.{pointwise, slice_cmp}
 pub use Rattle.std.specs.List.{AllZip, cons_option, list_any}
 pub use Rattle.str0m_formats.proofs.{merged_bytes_itself, claimed_slice_get_item, one_time_if, times-append, times-cons, times-none}
-pub use Rattle.str0m_formats.proofs.{stays-same, stays-then}
-pub use Rattle.str0m_formats.proofs.{pass_at_place, row_before}
+pub use Rattle.str0m_formats.proofs.{stays-same, stays-then, pass_at_place, row_before}
 pub use Rattle.str0m_formats.specs.declared.format.format_param.FormatParam.{FormatParam}
 pub use Rattle.str0m_formats.specs.declared.round.rounds.Round.{Round}
 pub use Rattle.str0m_formats.specs.declared.row.codec_config.CodecConfig.{CodecConfig}
 pub use Rattle.str0m_formats.specs.round.Claimed.{times}
 pub use Rattle.str0m_formats.specs.round.RoundsPromises.{StaysLocked}
 pub use Rattle.str0m_sdp.proofs.{filter_map_next, filter_map_one_all, first_by_find_map, first_from_find_map, accessor_filter_map_more}
-pub use Rattle.str0m_sdp.proofs.{accessor_filter_map_same}
-pub use Rattle.str0m_sdp.proofs.{count-append, rows_uncounted, mids_holds_before, mids_holds_behind}
+pub use Rattle.str0m_sdp.proofs.{accessor_filter_map_same, count-append, rows_uncounted, mids_holds_before, mids_holds_behind}
 pub use Rattle.str0m_sdp.specs.declared.attribute.MediaAttribute.TheVariants.{Fmtp, RtcpFb, Unused}
 pub use Rattle.str0m_sdp.specs.declared.attribute.media_type.MediaType.TheVariants.{Application, Audio, Unknown, Video}
 pub use Rattle.str0m_sdp.specs.declared.attribute.proto.Proto.TheVariants.{Sctp, Srtp}
@@ -55,7 +53,6 @@ pub use Rattle.str0m_sdp.specs.declared.label.TheConstants.{EXTMAP_ALLOW_MIXED, 
 pub use Rattle.str0m_sdp.specs.declared.session.error.SdpError.{SdpError}
 pub use Rattle.str0m_sdp.specs.declared.session.error.SdpError.TheVariants.{Inconsistent, Memory, ParseError}
 pub use Rattle.str0m_sdp.specs.section.RowAttributes.{feedback_attrs, row_feedback_line, row_fmtp_line, format_attrs, row_format_values}
-pub use Rattle.str0m_sdp.specs.section.RowAttributes.{red_attrs}
-pub use Rattle.str0m_sdp.specs.section.RowAttributes.{red_lines, rtx_attrs, rtx_lines}
+pub use Rattle.str0m_sdp.specs.section.RowAttributes.{red_attrs, red_lines, rtx_attrs, rtx_lines}
 pub use Rattle.str0m_sdp.specs.session.SessionConsistency.{section_mid}
 pub use Rattle.str0m_signal.proofs.{joined-append, line_feeds, line_number}

@@ -1,7 +1,8 @@
 pub mod AcceptedLaws
 pub mod AcceptedOfferLaws
 pub mod AnswerLaws
-pub mod BundleLaws
+pub mod AnswerRuleLaws
+pub mod AnsweredBundleLaws
 pub mod InForceLaws
 pub mod LayerLaws
 pub mod OfferedFeedbackLaws
@@ -10,7 +11,7 @@ pub mod OfferedRoundLaws
 pub mod OfferedUnreadLaws
 pub mod RejectedSectionLaws
 pub mod RowLaws
-pub mod RowTypes
+pub mod RowsApart
 pub mod RowsListLaws
 pub mod RowsPlain
-pub mod RowsTypeLaws
+pub mod RowsWeightLaws

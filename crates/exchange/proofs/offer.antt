@@ -4,4 +4,3 @@ pub mod OfferFollows
 pub mod OfferNameLaws
 pub mod OfferRuleLaws
 pub mod OwnNameLaws
-pub mod RuleLaws

@@ -1,11 +1,11 @@
 pub mod Accepted
 pub mod AcceptedOffer
+pub mod AnswerRules
+pub mod AnsweredBundle
 pub mod AnsweredSection
 pub mod AnsweredSession
 pub mod Bundle
-pub mod Bundled
 pub mod Choice
-pub mod InBundle
 pub mod InForce
 pub mod Layers
 pub mod Offered

@@ -9,4 +9,3 @@ pub mod OfferPlaces
 pub mod OfferRules
 pub mod OfferSection
 pub mod OwnNames
-pub mod Rules

@@ -8,12 +8,11 @@ use str0m_signal::{Sdp, VersionedSdp};
 
 pub(crate) mod accepted;
 pub(crate) mod accepted_offer;
+pub(crate) mod answered_bundle;
 pub(crate) mod answered_section;
 pub(crate) mod answered_session;
 pub(crate) mod bundle;
-pub(crate) mod bundled;
 pub(crate) mod choice;
-pub(crate) mod in_bundle;
 pub(crate) mod in_force;
 pub(crate) mod layers;
 pub(crate) mod offered;

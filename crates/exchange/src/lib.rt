@@ -3,12 +3,11 @@
 //! - `answer`: Answers with their versions.
 //!   - `accepted`: Sections that accept.
 //!   - `accepted_offer`: Answers of this side to offers.
+//!   - `answered_bundle`: The names that the group of an answer lists.
 //!   - `answered_section`: The sections of an answer.
 //!   - `answered_session`: What an answer says of the session as a whole.
-//!   - `bundle`: The names that the group of an answer lists.
-//!   - `bundled`: What the sections of a bundle share, looked for once.
+//!   - `bundle`: The bundle of a description: its names, the section whose transport they share, and what is in force there.
 //!   - `choice`: What a section is answered with.
-//!   - `in_bundle`: Sections that share the transport of a bundle.
 //!   - `in_force`: What is in force at a section: what it says itself, else what the session says for all sections.
 //!   - `layers`: The layers of a stream that is received in several.
 //!   - `offered`: Offers that are read whole, and their rounds.
@@ -54,7 +53,7 @@ mod section;
 mod state;
 
 pub use answer::Answer;
-pub use answer::bundle::answered_bundle;
+pub use answer::answered_bundle::answered_bundle;
 pub use answer::in_force::{creds_at, fingerprint_at, setup_at};
 pub use answer::layers::answered_layers;
 pub use answer::rejected_section::rejected;

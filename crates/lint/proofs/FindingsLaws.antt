@@ -2,8 +2,8 @@
 use Rattle.lint.proofs.Common.{◌≡◌, ◌↔◌, ◌+◌, ◌-◌, ◌≤◌, ℕ, true, false, true≢false, cond, eqb, List, [], ◌∷◌, ◌++◌, length, refl, sym, ap}
 use Rattle.lint.proofs.Common.{subst, ◌∙◌, arith, eqb-true, append-nil, Sdp, sdp_text, Line, Reading, AtMostOne}
 use Rattle.lint.specs.Findings.{AreFindingsOf, AreSilent, EndsReading, IsNotOutOfMemory, KeepsUnread, AddsChangesOnly, SaysElse}
-use Rattle.lint.specs.Findings.{TellsUnread, end_lines, is_changed}
-use Rattle.lint.specs.Findings.{is_refused, lines_kept, kept_numbers}
+use Rattle.lint.specs.Findings.{TellsUnread, end_lines, is_changed, is_refused, lines_kept}
+use Rattle.lint.specs.Kept.{kept_numbers}
 use Rattle.lint.specs.Lines.{IsNumbered, last_line, unread_lines}
 use Rattle.lint.specs.Told.{NothingLost, told_of}
 use Rattle.lint.specs.declared.finding.Finding.{Finding}
@@ -107,7 +107,8 @@ finding_tells_else text sdp rest old mid new t s last = record {
 
 -- what is refused, and not for memory, has no reading
 pub finding_refused_has_no_reading : (error : SdpError) (text : List ℕ) → Refuses error (Reading text) → IsNotOutOfMemory error
-    → (v : Sdp × List ℕ) → Reading text v
+    → (v : Sdp × List ℕ)
+    → Reading text v
     → ⊥
 finding_refused_has_no_reading (ParseError message) text h is = h
 finding_refused_has_no_reading (Inconsistent message) text h is = absurd h

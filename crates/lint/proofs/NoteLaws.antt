@@ -3,8 +3,7 @@ use Rattle.lint.proofs.Common.{◌≡◌, ◌||◌, ℕ, Bool, true, false, cond
 use Rattle.lint.proofs.Common.{append-nil, filter_map-append, cons_option, list_any, rows_or_false}
 use Rattle.lint.specs.Code.{is_refusal, is_end, is_unread_code, is_change}
 use Rattle.lint.specs.Findings.{AddsOneFinding, EndsReading, KeepsUnread, AddsChangesOnly, SaysElse, end_lines, is_changed, is_refused}
-use Rattle.lint.specs.Findings.{lines_kept, line_if}
-use Rattle.lint.specs.Findings.{lines_of_kind}
+use Rattle.lint.specs.Findings.{lines_kept, line_if, lines_of_kind}
 use Rattle.lint.specs.Lines.{IsNumbered}
 use Rattle.lint.specs.declared.code.Change.{Change}
 use Rattle.lint.specs.declared.code.Code.{Code}

@@ -1,8 +1,8 @@
 -- What findings say of a text.
 use Rattle.lint.specs.Code.{is_refusal, is_end, is_unread_code, is_change}
-use Rattle.lint.specs.Kept.{is_unread, kept_at, kept_flags}
+use Rattle.lint.specs.Kept.{is_unread, kept_at, kept_numbers}
 use Rattle.lint.specs.Lines.{attribute_numbers, unread_lines}
-use Rattle.lint.specs.Prelude.{Line, Reading, Sdp, lines_of, sdp_text}
+use Rattle.lint.specs.Prelude.{Line, Reading, Sdp, sdp_text}
 use Rattle.lint.specs.Told.{NothingLost, told_of}
 use Rattle.lint.specs.declared.code.Code.{Code}
 use Rattle.lint.specs.declared.finding.Finding.{Finding}
@@ -75,10 +75,6 @@ pub record EndsReading (line : ℕ) (old new : Notes) : Type 0 where
   pub kept_stay : lines_kept new.findings ≡ lines_kept old.findings
   pub refused_stays : is_refused new.findings ≡ is_refused old.findings
   pub last_stays : new.last ≡ old.last
-
--- the numbers of the attribute lines of a text that its description keeps unread
-abbrev pub kept_numbers : List ℕ → Sdp → List ℕ
-kept_numbers text sdp = kept_at (kept_flags sdp) (attribute_numbers 1 (lines_of text))
 
 -- of a text that is read so, with this rest, findings are added of the lines that are kept unread, and of the end where there is a rest; where
 -- there is none, some line is said to be printed otherwise exactly where the lines don't say what is printed

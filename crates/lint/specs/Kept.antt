@@ -1,5 +1,6 @@
 -- The attribute lines that are kept unread.
-use Rattle.lint.specs.Prelude.{MediaLine, Sdp}
+use Rattle.lint.specs.Lines.{attribute_numbers}
+use Rattle.lint.specs.Prelude.{MediaLine, Sdp, lines_of}
 use Rattle.lint.specs.declared.mark.Mark.{Mark}
 use Rattle.lint.specs.declared.mark.Mark.TheVariants.{Kept}
 use Rattle.std.specs.Prelude.{ℕ, Bool, true, false, List, [], ◌∷◌, ◌++◌, map, flat_map}
@@ -36,3 +37,7 @@ kept_at [] numbers = []
 kept_at (kept ∷ flags) [] = []
 kept_at (true ∷ flags) (n ∷ numbers) = n ∷ kept_at flags numbers
 kept_at (false ∷ flags) (n ∷ numbers) = kept_at flags numbers
+
+-- the numbers of the attribute lines of a text that its description keeps unread
+abbrev pub kept_numbers : List ℕ → Sdp → List ℕ
+kept_numbers text sdp = kept_at (kept_flags sdp) (attribute_numbers 1 (lines_of text))

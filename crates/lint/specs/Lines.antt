@@ -1,5 +1,6 @@
 -- The lines of a text as the findings number them.
 use Rattle.lint.specs.Prelude.{LineEndsIn, Line, lines_of, strip}
+use Rattle.lint.specs.declared.finding.Finding.{Finding}
 use Rattle.std.specs.Borrow.{Bor}
 use Rattle.std.specs.Prelude.{◌≡◌, ◌⊎◌, ◌+◌, ◌-◌, ◌≤◌, ℕ, Bool, List, [], ◌∷◌, ◌++◌, Option, Some, None, codes, length, max, if◌then◌else◌, is_some}
 

@@ -1,7 +1,7 @@
 //! What would come of a text in rounds of negotiation, line by line.
 ghost use Rattle.lint.specs.Fates.{AddsFates, RoundsSay, SaysRounds, codes_of_findings};
-ghost use Rattle.lint.specs.Findings.{ReadsAs, IsWithinLines};
-ghost use Rattle.lint.specs.Lines.{last_line};
+ghost use Rattle.lint.specs.Findings.{ReadsAs};
+ghost use Rattle.lint.specs.Lines.{IsWithinLines, last_line};
 ghost use Rattle.lint.specs.Prelude.{AtMostOne, PayloadParams, Reading, Sdp};
 ghost use Rattle.lint.specs.declared.code.Code.TheVariants.{Round};
 ghost use Rattle.lint.specs.declared.code.Fate.{Fate};

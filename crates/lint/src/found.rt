@@ -1,5 +1,5 @@
 //! What a text loses, and why it is refused, line by line.
-ghost use Rattle.lint.specs.Findings.{AreFindingsOf, AreSilent, IsNotOutOfMemory, ReadsAs, TellsUnread, end_lines, lines_kept, is_refused, IsWithinLines};
+ghost use Rattle.lint.specs.Findings.{AreFindingsOf, AreSilent, IsNotOutOfMemory, ReadsAs, TellsUnread, end_lines, lines_kept, is_refused};
 ghost use Rattle.lint.specs.Kept.{kept_at, kept_flags};
 ghost use Rattle.lint.specs.Lines.{IsWithinLines, attribute_numbers, last_line, unread_lines};
 ghost use Rattle.lint.specs.Prelude.{AtMostOne, Reading, Sdp, lines_of};

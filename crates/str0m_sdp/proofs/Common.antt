@@ -37,8 +37,7 @@ pub use Rattle.std.specs.Prelude.{codes, IsTrue, MatchOption, nat_lt, option_map
 pub use Rattle.std.specs.Str.{bytes_eq, str_eq_ignore_ascii_case, str_to_ascii_lowercase}
 pub use Rattle.std.specs.String.{string_bytes, string_len, string_capacity}
 pub use Rattle.str0m_formats.proofs.{static_needs_none, static_small, line_all_of_both, param_Decides, EqualityTest, eq_along, equality}
-pub use Rattle.str0m_formats.proofs.{eq_word, times-append}
-pub use Rattle.str0m_formats.proofs.{times-cons, one_time_if, times-some}
+pub use Rattle.str0m_formats.proofs.{eq_word, times-append, times-cons, one_time_if, times-some}
 pub use Rattle.str0m_formats.specs.codec.Codec.{events, other, CodecContent, audio, video}
 pub use Rattle.str0m_formats.specs.declared.format.format_param.FormatParam.TheVariants.{Apt, BarePtList, BareRange}
 pub use Rattle.str0m_formats.specs.format.FormatLine.{line_asks_absent, line_events_end, is_line_event, line_without_event_ranges}
@@ -51,7 +50,6 @@ pub use Rattle.str0m_formats.specs.row.PlainRow.{IsPlain, IsPlainG722}
 pub use Rattle.str0m_formats.specs.row.PlainRowBounds.{HoldsRowNumbers}
 pub use Rattle.str0m_sdp.specs.Prelude.{codec_content, rtp_rate, static_spec, Codec, CodecSpec, FormatParam, FormatParams, PayloadParams}
 pub use Rattle.str0m_sdp.specs.Prelude.{format_of_fmtp, line_values, empty_format, has, types, types_of, has_video, IsBounded}
-pub use Rattle.str0m_sdp.specs.Prelude.{ArePlainModes}
-pub use Rattle.str0m_sdp.specs.Prelude.{IsPlainDistance, when, ◌<|>◌, ◌>>=◌, cut, before, IpAddr, SocketAddr, Candidate}
+pub use Rattle.str0m_sdp.specs.Prelude.{ArePlainModes, IsPlainDistance, when, ◌<|>◌, ◌>>=◌, cut, before, IpAddr, SocketAddr, Candidate}
 pub use Rattle.str0m_values.specs.declared.address.IpAddr.TheVariants.{V4, V6}
 pub use denote.Enum.Bare.{same_true, sameb}

@@ -41,8 +41,7 @@ pub use Rattle.str0m_formats.specs.round.Narrowing.{narrowed_telephone_max}
 pub use Rattle.str0m_formats.specs.row.PayloadParams.{types_of, AllTypesSmall}
 pub use Rattle.str0m_formats.specs.row.PlainRowBounds.{HoldsRowNumbers, IsBounded, IsByte}
 pub use Rattle.str0m_sdp.proofs.{values_printed, describes_read_back, pairs_line_read, values_read, format_line_printed, reads}
-pub use Rattle.str0m_sdp.proofs.{row_fmtp_lines}
-pub use Rattle.str0m_sdp.proofs.{red_reads}
+pub use Rattle.str0m_sdp.proofs.{row_fmtp_lines, red_reads}
 pub use Rattle.str0m_sdp.specs.attribute.Bandwidth.{bandwidth_line}
 pub use Rattle.str0m_sdp.specs.attribute.Fmtp.{is_fmtp_shown, shown_fmtp_line}
 pub use Rattle.str0m_sdp.specs.attribute.MediaType.{media_type_text}
@@ -62,13 +61,11 @@ pub use Rattle.str0m_sdp.specs.section.Consistency.{AgreesOnApt, NoneIff, IsMapp
 pub use Rattle.str0m_sdp.specs.section.Consistency.{maps_type}
 pub use Rattle.str0m_sdp.specs.section.MediaLine.{formats_text, m_line, media_line_text, pts_text, port_text}
 pub use Rattle.str0m_sdp.specs.section.RowAttributes.{row_attrs, row_feedback_line, feedback_attrs, row_fmtp_line, row_format_values}
-pub use Rattle.str0m_sdp.specs.section.RowAttributes.{format_attrs}
-pub use Rattle.str0m_sdp.specs.section.RowAttributes.{rtx_lines, rtx_attrs, red_lines, red_attrs}
+pub use Rattle.str0m_sdp.specs.section.RowAttributes.{format_attrs, rtx_lines, rtx_attrs, red_lines, red_attrs}
 pub use Rattle.str0m_sdp.specs.section.SectionRows.{KeepsToLine, IsInBounds, KeepsToLines}
 pub use Rattle.str0m_sdp.specs.session.Session.{origin_line, session_text}
 pub use Rattle.str0m_signal.specs.Prelude.{codec_of, IsReadAsCodec, FormatParam, PayloadParams, pair_texts, IsEventRange, AllDistinct}
-pub use Rattle.str0m_signal.specs.Prelude.{types}
-pub use Rattle.str0m_signal.specs.Prelude.{IsPlain, media_attribute_text, session_attribute_text, media_words, session_words}
+pub use Rattle.str0m_signal.specs.Prelude.{types, IsPlain, media_attribute_text, session_attribute_text, media_words, session_words}
 pub use Rattle.str0m_signal.specs.Prelude.{bandwidth_text, is_media, setup_text, MediaAttribute, SessionAttribute, Bandwidth, MediaType}
 pub use Rattle.str0m_signal.specs.Prelude.{Proto, RestrictionId, SimulcastLayer, MediaLine, Sdp, line_end, Consistent, is_mid, is_setup}
 pub use Rattle.str0m_signal.specs.Prelude.{is_direction, is_of_type, made, HasBoundedRows, sdp_text, Parted, IsCandidateText, before, cut}
@@ -82,16 +79,14 @@ pub use Rattle.str0m_values.proofs.CutLaws.{strip_at, strip_found, before_lacks,
 pub use Rattle.str0m_values.proofs.CutsBothWays.{bind_some, if_some, or_some, reads_first, some_is, Sound, sound_or, reads_either, Reads}
 pub use Rattle.str0m_values.proofs.CutsBothWays.{one_value, none_reads, reads_none}
 pub use Rattle.str0m_values.proofs.CutsNumLaws.{num_digits_lack, num_found, num_reads, num_number_lacks, num_parsed_whole, num_rest_true}
-pub use Rattle.str0m_values.proofs.CutsNumLaws.{num_when_some}
-pub use Rattle.str0m_values.proofs.CutsNumLaws.{num_when_true}
+pub use Rattle.str0m_values.proofs.CutsNumLaws.{num_when_some, num_when_true}
 pub use Rattle.str0m_values.proofs.FingerprintPairs.{fingerprint_hex_glyph_value}
 pub use Rattle.str0m_values.proofs.ShortTextBeginnings.{beginning_is, beginning_only}
 pub use Rattle.str0m_values.proofs.WordsOfCases.{reads_words}
 pub use Rattle.str0m_values.specs.Address.{IsOctet, IsHexGroup, IsOneHexGroup, IsAddressEnd, AreHexGroups, AreAnyHexGroups, IsIpText}
 pub use Rattle.str0m_values.specs.Address.{octet_pairs, ip_text}
 pub use Rattle.str0m_values.specs.Candidate.{candidate_text, IsSocket, IsRelatedAddress, AreIceNames, IsSocketInRange, IsPrintableCandidate}
-pub use Rattle.str0m_values.specs.Candidate.{socket_text}
-pub use Rattle.str0m_values.specs.Candidate.{related_text, candidate_extras_text}
+pub use Rattle.str0m_values.specs.Candidate.{socket_text, related_text, candidate_extras_text}
 pub use Rattle.str0m_values.specs.Cuts.{front}
 pub use Rattle.str0m_values.specs.Fingerprint.{hex_pair, hex_pairs_text, fingerprint_text}
 pub use denote.Shadow.{shadow}

@@ -4,8 +4,7 @@ use Rattle.str0m_values.proofs.Common.{◌≡◌, ◌⊎◌, ℕ, ◌+◌, ◌-�
 use Rattle.str0m_values.proofs.Common.{◌∙◌, subst, arith, inl, inr, append-nil, append_assoc, length-append, codes, length-replicate}
 use Rattle.str0m_values.proofs.Common.{IsTrue, segments_of}
 use Rattle.str0m_values.specs.Address.{Parted, IsOctet, IsV4Text, IsHexGroup, IsOneHexGroup, octet_pairs, IsV4Tail, IsAddressEnd}
-use Rattle.str0m_values.specs.Address.{AreHexGroups}
-use Rattle.str0m_values.specs.Address.{AreAnyHexGroups, IsShortenedV6, IsV6Text}
+use Rattle.str0m_values.specs.Address.{AreHexGroups, AreAnyHexGroups, IsShortenedV6, IsV6Text}
 
 -- ---- V4
 

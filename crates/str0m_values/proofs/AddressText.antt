@@ -7,8 +7,7 @@ use Rattle.str0m_values.proofs.AddressLaws.{address_v4_from, address_v6_from}
 use Rattle.str0m_values.proofs.Common.{◌≡◌, ℕ, zero, suc, ◌<◌, ◌≤◌, ◌+◌, ◌^◌, List, [], ◌∷◌, ◌++◌, length, get_or, refl, ap, subst, arith}
 use Rattle.str0m_values.proofs.Common.{append-nil, append_assoc, lit<, AllByRecursion, cases_lt, le-leb, lt-leb, hex}
 use Rattle.str0m_values.specs.Address.{IsV4Text, IsV6Text, IsIpText, v4_text, v6_groups_text, zero_groups_at_front, longest_group_run}
-use Rattle.str0m_values.specs.Address.{first_group_run, v6_text}
-use Rattle.str0m_values.specs.Address.{ip_text, IsAddressInRange}
+use Rattle.str0m_values.specs.Address.{first_group_run, v6_text, ip_text, IsAddressInRange}
 use Rattle.str0m_values.specs.declared.address.IpAddr.{IpAddr}
 
 -- ---- std's printing and ours

@@ -2,8 +2,7 @@
 use Rattle.str0m_values.proofs.Common.{◌≡◌, ◌≢◌, ℕ, ◌<◌, ◌≤◌, ◌+◌, ◌^◌, List, [], ◌∷◌, ◌++◌, length, ap, ◌∙◌, inl, inr, arith, lit≤}
 use Rattle.str0m_values.proofs.Common.{length-append, codes, decimal, digit_value, IsNumeral, AllDigits, decimal_is_IsNumeral}
 use Rattle.str0m_values.specs.Address.{Parted, IsOctet, IsV4Text, IsHexGroup, IsOneHexGroup, IsAddressEnd, AreHexGroups, AreAnyHexGroups}
-use Rattle.str0m_values.specs.Address.{IsShortenedV6}
-use Rattle.str0m_values.specs.Address.{IsIpText}
+use Rattle.str0m_values.specs.Address.{IsShortenedV6, IsIpText}
 use Rattle.str0m_values.specs.CutsParts.{Lacks, IsRest, IsWord}
 use Rattle.str0m_values.specs.declared.address.IpAddr.{IpAddr}
 use Rattle.str0m_values.specs.declared.address.IpAddr.TheVariants.{V4, V6}

@@ -6,8 +6,7 @@ use Rattle.str0m_values.proofs.Common.{subst, append-nil, append_assoc, lit<, co
 use Rattle.str0m_values.proofs.Common.{decimal_is_IsNumeral, without_leading_plus_none}
 use Rattle.str0m_values.specs.Address.{ip_text}
 use Rattle.str0m_values.specs.Candidate.{IsSocket, IsRelatedAddress, IsCandidateText, socket_text, related_text, candidate_text}
-use Rattle.str0m_values.specs.Candidate.{IsSocketInRange}
-use Rattle.str0m_values.specs.Candidate.{IsPrintableCandidate}
+use Rattle.str0m_values.specs.Candidate.{IsSocketInRange, IsPrintableCandidate}
 use Rattle.str0m_values.specs.CandidateKind.{kind_text}
 use Rattle.str0m_values.specs.CutsParts.{IsWord, IsNum}
 use Rattle.str0m_values.specs.Labels.{IsSame, IsLabelled, IsOptional, optional_text}

@@ -7,8 +7,7 @@ use Rattle.str0m_values.proofs.FingerprintZipLaws.{AllZip-at}
 use Rattle.str0m_values.specs.Cuts.{cut}
 use Rattle.str0m_values.specs.CutsParts.{Lacks}
 use Rattle.str0m_values.specs.Fingerprint.{IsHashNamed, IsHexByte, hash_pieces, IsFingerprint, HasBadHashByte, IsHashBytesReading}
-use Rattle.str0m_values.specs.Fingerprint.{IsFingerprintReading}
-use Rattle.str0m_values.specs.Fingerprint.{GivesFingerprint, CanBeReadBack, fingerprint_text, hex_pairs_text}
+use Rattle.str0m_values.specs.Fingerprint.{IsFingerprintReading, GivesFingerprint, CanBeReadBack, fingerprint_text, hex_pairs_text}
 use Rattle.str0m_values.specs.declared.fingerprint.Fingerprint.{Fingerprint}
 use Rattle.str0m_values.specs.declared.fingerprint.FingerprintError.{FingerprintError}
 use Rattle.str0m_values.specs.declared.fingerprint.FingerprintError.TheVariants.{NoSpace, BadByte, Memory}

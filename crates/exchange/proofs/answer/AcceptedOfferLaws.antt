@@ -6,24 +6,22 @@ use Rattle.exchange.proofs.Common.{AllZip, cons_option, flat_map, list_any, ◌&
 use Rattle.exchange.proofs.Common.{direction_attribute, MediaAttribute, Proto, Srtp, Sctp, Setup, SimulcastLayer, EXTMAP_ALLOW_MIXED, FIR}
 use Rattle.exchange.proofs.Common.{NACK, PLI, REMB, TRANSPORT_CC, MediaLine, Sdp, is_mid, maps_type, is_of_type, made, feedback_attrs}
 use Rattle.exchange.proofs.Common.{row_feedback_line, row_fmtp_line, format_attrs, row_format_values, red_attrs, red_lines, row_attrs}
-use Rattle.exchange.proofs.Common.{rtx_attrs}
-use Rattle.exchange.proofs.Common.{rtx_lines, AreDistinct, section_mids, receives, Candidate, Direction}
+use Rattle.exchange.proofs.Common.{rtx_attrs, rtx_lines, AreDistinct, section_mids, receives, Candidate, Direction}
+use Rattle.exchange.proofs.answer.AnswerRuleLaws.{rule_sections_shape}
 use Rattle.exchange.proofs.offer.OfferNameLaws.{NamesDiffer, OtherName, name_differ_from}
-use Rattle.exchange.proofs.offer.RuleLaws.{rule_sections_shape}
 use Rattle.exchange.specs.answer.Accepted.{accepted_layers_told, accepted_candidate_line, accepted_channel_lines, first_accepted_lines}
 use Rattle.exchange.specs.answer.Accepted.{accepted_frame, accepted_layer_lines, accepted_media_lines}
 use Rattle.exchange.specs.answer.Accepted.{accepted_msid_lines, accepted_track_id}
 use Rattle.exchange.specs.answer.AcceptedOffer.{section_tracks, track_of_line}
+use Rattle.exchange.specs.answer.AnswerRules.{HasShapeOf}
 use Rattle.exchange.specs.answer.AnsweredSection.{AnswersSection, SaysChoice}
 use Rattle.exchange.specs.answer.Layers.{answered_layers, answered_rid, answered_rids, is_rid_left, is_layer_named, layers_line}
-use Rattle.exchange.specs.answer.Layers.{received_layers}
-use Rattle.exchange.specs.answer.Layers.{sent_layers, rid_types_left}
+use Rattle.exchange.specs.answer.Layers.{received_layers, sent_layers, rid_types_left}
 use Rattle.exchange.specs.answer.RejectedSection.{rejected_direction, first_rejected_type, first_rejected_line, rejecting_section}
 use Rattle.exchange.specs.declared.answer.choice.Choice.{Choice}
 use Rattle.exchange.specs.declared.answer.choice.Choice.TheVariants.{Rejected, Media, Channels}
 use Rattle.exchange.specs.declared.state.own_side.DataChannels.{DataChannels}
 use Rattle.exchange.specs.declared.state.own_side.OwnSide.{OwnSide}
-use Rattle.exchange.specs.offer.Rules.{HasShapeOf}
 use Rattle.exchange.specs.section.RepeatedLines.{is_repeated, repeated_lines}
 use Rattle.exchange.specs.section.Stopped.{name_of}
 use Rattle.str0m_sdp.specs.declared.attribute.MediaAttribute.TheVariants as media
@@ -35,7 +33,8 @@ TracklessLine lines = filter_map track_of_line lines ≡ []
 
 offer_trackless_both : (xs ys : List MediaAttribute) → TracklessLine xs → TracklessLine ys → TracklessLine (xs ++ ys)
 offer_trackless_both xs ys x y = filter_map-append track_of_line xs ys
-    ∙ ap (λ (found : List (List ℕ)). found ++ filter_map track_of_line ys) x ∙ y
+    ∙ ap (λ (found : List (List ℕ)). found ++ filter_map track_of_line ys) x
+    ∙ y
 
 -- ---- of rows
 
@@ -116,12 +115,13 @@ offer_rids_trackless : (sent : List SimulcastLayer) (rows : List PayloadParams) 
 offer_rids_trackless sent rows [] = refl
 offer_rids_trackless sent rows (media.Rid id direction pts restrictions ∷ attrs) =
     go (bytes_eq direction (codes "send") && (list_any (is_layer_named id.0) sent && is_rid_left rows pts))
-    (offer_rids_trackless sent rows attrs) where
-      go : (b : Bool) → TracklessLine (filter_map (answered_rid sent rows) attrs)
-          → TracklessLine (cons_option (cond b (Some (media.Rid id (codes "recv") (rid_types_left rows pts) restrictions)) None)
-          (filter_map (answered_rid sent rows) attrs))
-      go true rec = rec
-      go false rec = rec
+    (offer_rids_trackless sent rows attrs)
+  where
+    go : (b : Bool) → TracklessLine (filter_map (answered_rid sent rows) attrs)
+        → TracklessLine (cons_option (cond b (Some (media.Rid id (codes "recv") (rid_types_left rows pts) restrictions)) None)
+        (filter_map (answered_rid sent rows) attrs))
+    go true rec = rec
+    go false rec = rec
 offer_rids_trackless sent rows (attr ∷ attrs) = offer_rids_trackless sent rows attrs
 
 offer_layers_trackless : (layers : List SimulcastLayer) → TracklessLine (layers_line layers)

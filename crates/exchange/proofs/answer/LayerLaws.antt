@@ -5,8 +5,7 @@ use Rattle.exchange.proofs.Common.{All-contains_itself, All-filter, All-nil, byt
 use Rattle.exchange.proofs.Common.{bytes_eq, PayloadParams, MediaAttribute, SimulcastLayer, MediaLine}
 use Rattle.exchange.proofs.answer.RowsListLaws.{All-filter_map}
 use Rattle.exchange.specs.answer.Layers.{IsTurnedLine, answered_layers, answered_rid, answered_rids, is_rid_answered, is_rid_left}
-use Rattle.exchange.specs.answer.Layers.{is_layer_named}
-use Rattle.exchange.specs.answer.Layers.{layers_line, received_layers, sent_layers, rid_types_left}
+use Rattle.exchange.specs.answer.Layers.{is_layer_named, layers_line, received_layers, sent_layers, rid_types_left}
 use Rattle.str0m_sdp.specs.declared.attribute.MediaAttribute.TheVariants as media
 
 turned_rid : (rows : List PayloadParams) (offered : MediaLine) (line : MediaAttribute) → Contains offered.attrs line

@@ -7,14 +7,12 @@ use Rattle.exchange.proofs.Common.{REMB, TRANSPORT_CC, MediaLine, is_of_type, ma
 use Rattle.exchange.proofs.Common.{format_attrs}
 use Rattle.exchange.proofs.Common.{row_format_values, red_attrs, red_lines, row_attrs, rtx_attrs, rtx_lines, receives, Candidate, Direction}
 use Rattle.exchange.specs.answer.Accepted.{accepted_layers_told, accepted_candidate_line, accepted_channel_lines, first_accepted_lines}
-use Rattle.exchange.specs.answer.Accepted.{accepted_frame, accepted_layer_lines, accepted_media_lines}
-use Rattle.exchange.specs.answer.Accepted.{accepted_msid_lines}
+use Rattle.exchange.specs.answer.Accepted.{accepted_frame, accepted_layer_lines, accepted_media_lines, accepted_msid_lines}
+use Rattle.exchange.specs.answer.AnswerRules.{SaysOnlyOffered, needs_offer}
 use Rattle.exchange.specs.answer.Layers.{answered_layers, answered_rid, answered_rids, is_rid_left, is_layer_named, layers_line}
-use Rattle.exchange.specs.answer.Layers.{received_layers}
-use Rattle.exchange.specs.answer.Layers.{sent_layers, rid_types_left}
+use Rattle.exchange.specs.answer.Layers.{received_layers, sent_layers, rid_types_left}
 use Rattle.exchange.specs.declared.state.own_side.DataChannels.{DataChannels}
 use Rattle.exchange.specs.declared.state.own_side.OwnSide.{OwnSide}
-use Rattle.exchange.specs.offer.Rules.{SaysOnlyOffered, needs_offer}
 use Rattle.exchange.specs.section.RepeatedLines.{is_repeated, repeated_lines}
 use Rattle.str0m_sdp.specs.declared.attribute.MediaAttribute.TheVariants as media
 use Rattle.str0m_values.specs.declared.direction.Direction.TheVariants as way
@@ -104,12 +102,13 @@ offered_rids_none : (sent : List SimulcastLayer) (rows : List PayloadParams) (at
 offered_rids_none sent rows [] = refl
 offered_rids_none sent rows (media.Rid id direction pts restrictions ∷ attrs) =
     go (bytes_eq direction (codes "send") && (list_any (is_layer_named id.0) sent && is_rid_left rows pts))
-    (offered_rids_none sent rows attrs) where
-      go : (b : Bool) → list_any needs_offer (filter_map (answered_rid sent rows) attrs) ≡ false
-          → list_any needs_offer (cons_option (cond b (Some (media.Rid id (codes "recv") (rid_types_left rows pts) restrictions)) None)
-          (filter_map (answered_rid sent rows) attrs)) ≡ false
-      go true rec = rec
-      go false rec = rec
+    (offered_rids_none sent rows attrs)
+  where
+    go : (b : Bool) → list_any needs_offer (filter_map (answered_rid sent rows) attrs) ≡ false
+        → list_any needs_offer (cons_option (cond b (Some (media.Rid id (codes "recv") (rid_types_left rows pts) restrictions)) None)
+        (filter_map (answered_rid sent rows) attrs)) ≡ false
+    go true rec = rec
+    go false rec = rec
 offered_rids_none sent rows (attr ∷ attrs) = offered_rids_none sent rows attrs
 
 offered_layers_none : (layers : List SimulcastLayer) → list_any needs_offer (layers_line layers) ≡ false

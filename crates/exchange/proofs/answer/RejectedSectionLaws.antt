@@ -2,8 +2,7 @@
 use Rattle.exchange.proofs.Common.{arith, ◌≡◌, ◌+◌, ◌≤◌, inl, inr, ℕ, Bool, true, false, cond, List, [], ◌∷◌, ◌++◌, Option, Some, None, All}
 use Rattle.exchange.proofs.Common.{IfSome, find, count_by, option_to_list, refl, subst, sym, ap, ◌∙◌, false≢true, All-append, All-cons}
 use Rattle.exchange.proofs.Common.{All-head, All-nil, list_any, is_some, count-append, rows_uncounted, MediaAttribute, MediaType}
-use Rattle.exchange.proofs.Common.{Application}
-use Rattle.exchange.proofs.Common.{Audio, Video, Unknown, Proto, Srtp, Sctp, MediaLine, Consistent, is_mid, maps_type}
+use Rattle.exchange.proofs.Common.{Application, Audio, Video, Unknown, Proto, Srtp, Sctp, MediaLine, Consistent, is_mid, maps_type}
 use Rattle.exchange.proofs.answer.RowsListLaws.{list_found, list_is_some_find}
 use Rattle.exchange.specs.answer.RejectedSection.{rejected_direction, first_rejected_type, first_rejected_line, rejected_type_alone}
 use Rattle.exchange.specs.answer.RejectedSection.{rejecting_section}

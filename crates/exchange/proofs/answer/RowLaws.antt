@@ -4,11 +4,9 @@ use Rattle.exchange.proofs.Common.{if◌then◌else◌, filter, find, refl, subs
 use Rattle.exchange.proofs.Common.{false≢true, All-contains_itself, Contains, is_some, PayloadParams, AllDistinct, has, times, distinct}
 use Rattle.exchange.proofs.Common.{MediaLine, rows, ◌>>=◌}
 use Rattle.exchange.proofs.answer.RowsListLaws.{All-distinct, All-filter_map, list_contains_type, distinct-once, list_found}
-use Rattle.exchange.proofs.answer.RowsListLaws.{list_found_some, list_keeps_type}
-use Rattle.exchange.proofs.answer.RowsListLaws.{list_marks, times-filter}
+use Rattle.exchange.proofs.answer.RowsListLaws.{list_found_some, list_keeps_type, list_marks, times-filter}
 use Rattle.exchange.specs.answer.Rows.{IsAgreedRow, BelongsInAnswer, RowSaysOffered, row_agreed_type, answer_to_row, answer_under_type}
-use Rattle.exchange.specs.answer.Rows.{answered_rows}
-use Rattle.exchange.specs.answer.Rows.{row_as_answered, is_type_answered, is_row_carried_in, row_matches, answered_own_types}
+use Rattle.exchange.specs.answer.Rows.{answered_rows, row_as_answered, is_type_answered, is_row_carried_in, row_matches, answered_own_types}
 use Rattle.str0m_formats.specs.round.MatchScore.{spec_score}
 
 -- ---- one row

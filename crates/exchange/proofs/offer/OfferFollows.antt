@@ -3,8 +3,8 @@
 use Rattle.exchange.proofs.Common.{arith, ◌≡◌, ◌+◌, ◌++◌, ◌||◌, ◌⊎◌, ℕ, suc, zero, Bool, true, false, List, [], ◌∷◌, map, Option, Some, All}
 use Rattle.exchange.proofs.Common.{inl, inr, subst, sym, ap, ◌∙◌, true≢false, All-cons, All-head, All-nil, All-tail, same_Some, slice_get}
 use Rattle.exchange.proofs.Common.{MediaAttribute, MediaLine, Sdp, is_listed, section_mids, pass_at_place}
+use Rattle.exchange.proofs.answer.AnswerRuleLaws.{rule_rejecting_shape}
 use Rattle.exchange.proofs.offer.OfferRuleLaws.{offer_new_section_name, offer_next_shape}
-use Rattle.exchange.proofs.offer.RuleLaws.{rule_rejecting_shape}
 use Rattle.exchange.proofs.state.ExchangeFollowLaws.{follows_listed_more}
 use Rattle.exchange.specs.declared.offer.added.Added.{Added}
 use Rattle.exchange.specs.declared.offer.added.Placed.{Placed}
@@ -12,8 +12,7 @@ use Rattle.exchange.specs.declared.state.exchange.Exchange.{Exchange}
 use Rattle.exchange.specs.declared.state.own_side.SectionDirection.{SectionDirection}
 use Rattle.exchange.specs.offer.Added.{added_under_names}
 use Rattle.exchange.specs.offer.MadeOffer.{MakesOffer, ready_with_added, sections_added}
-use Rattle.exchange.specs.offer.OfferPlaces.{FillsPlace, FillsPlaces, added_tail, place_over_section, their_section_at}
-use Rattle.exchange.specs.offer.OfferRules.{IsNewName}
+use Rattle.exchange.specs.offer.OfferPlaces.{FillsPlace, FillsPlaces, IsNewName, added_tail, place_over_section, their_section_at}
 use Rattle.exchange.specs.offer.OfferSection.{new_section}
 use Rattle.exchange.specs.section.Places.{FollowsPlaces, HasPlaceNameAt, IsNewPlaceName}
 use Rattle.exchange.specs.section.Stopped.{name_of}

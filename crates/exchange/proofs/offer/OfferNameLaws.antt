@@ -3,8 +3,8 @@ use Rattle.exchange.proofs.Common.{arith, ◌≡◌, ◌≢◌, ◌+◌, ◌++�
 use Rattle.exchange.proofs.Common.{MatchOption, All, bytes_eq, map, subst, sym, ap, ◌∙◌, or_parts, true≢false, All-cons, All-head, All-nil}
 use Rattle.exchange.proofs.Common.{All-tail, All-weaker, AllPairs-cons, bytes_eq-Decides, cons_option, MediaAttribute, MediaLine, Sdp}
 use Rattle.exchange.proofs.Common.{AreDistinct, is_listed, section_mids}
+use Rattle.exchange.proofs.answer.AnswerRuleLaws.{rule_rejecting_shape}
 use Rattle.exchange.proofs.offer.OfferRuleLaws.{offer_all_named, offer_new_section_name, offer_next_shape}
-use Rattle.exchange.proofs.offer.RuleLaws.{rule_rejecting_shape}
 use Rattle.exchange.proofs.section.PlaceLaws.{places_hold}
 use Rattle.exchange.specs.answer.RejectedSection.{rejecting_section}
 use Rattle.exchange.specs.declared.offer.added.Added.{Added}
@@ -12,8 +12,7 @@ use Rattle.exchange.specs.declared.state.exchange.Exchange.{Exchange}
 use Rattle.exchange.specs.declared.state.own_side.SectionDirection.{SectionDirection}
 use Rattle.exchange.specs.offer.Added.{added_under_names}
 use Rattle.exchange.specs.offer.MadeOffer.{MakesOffer, ready_with_added, sections_added}
-use Rattle.exchange.specs.offer.OfferPlaces.{FillsPlace, FillsPlaces, their_section_at}
-use Rattle.exchange.specs.offer.OfferRules.{IsNewName}
+use Rattle.exchange.specs.offer.OfferPlaces.{FillsPlace, FillsPlaces, IsNewName, their_section_at}
 use Rattle.exchange.specs.offer.OfferSection.{new_section, next_section}
 use Rattle.exchange.specs.section.Stopped.{name_of}
 use Rattle.exchange.specs.state.State.{sections_of}
@@ -104,7 +103,8 @@ other_names_hold : (name : Option (List ℕ)) (old : Exchange) (ready : List Sec
     → All (OtherName name) (filled ++ left)
 other_names_hold name old ready at ms added filled left there apart fills =
     places_hold (OtherName name) (OtherName name) old ready (other_name_next name old ready) (other_name_over name) at ms added filled left
-    there apart fills
+    there
+    apart fills
 
 -- each of what is added has another name than each earlier section
 abbrev AreNamedApart : List MediaLine → List MediaLine → Type 0
@@ -143,7 +143,9 @@ name_goes_apart : (old : Exchange) (ready : List SectionDirection) (at : ℕ) (m
     → GoesApart ms said between
 name_goes_apart old ready at m ms added said between earlier differ apart (inl (runs, is, same)) =
     goes_as_named ms added m said between (ap name_of is ∙ (offer_next_shape old ready (their_section_at old.remote at) m).name) same
-    earlier differ apart
+    earlier
+    differ
+    apart
 name_goes_apart old ready at m ms [] said between earlier differ apart (inr (over, is, same)) =
     goes_as_named ms [] m said between (ap name_of is ∙ (rule_rejecting_shape m).name) same earlier differ apart
 name_goes_apart old ready at m ms (x ∷ xs) said between earlier differ apart (inr (over, is, same)) =

@@ -2,9 +2,10 @@
 use Rattle.exchange.proofs.Common.{◌≡◌, ◌+◌, ◌++◌, inl, inr, ℕ, true, false, List, [], ◌∷◌, Option, Some, None, MatchOption, All, map, refl}
 use Rattle.exchange.proofs.Common.{subst, sym, ◌∙◌, All-cons, All-head, All-nil, All-tail, flat_map, kind_rows, MediaAttribute, MediaType}
 use Rattle.exchange.proofs.Common.{Audio, Video, Application, Unknown, Proto, Srtp, Sctp, ActPass, MediaLine, Sdp, row_attrs, MediaKind}
-use Rattle.exchange.proofs.offer.RuleLaws.{rule_direction_said, rule_rejecting_shape}
+use Rattle.exchange.proofs.answer.AnswerRuleLaws.{rule_direction_said, rule_rejecting_shape}
 use Rattle.exchange.proofs.section.PlaceLaws.{places_hold}
 use Rattle.exchange.specs.answer.Accepted.{accepted_candidate_line, accepted_msid_lines}
+use Rattle.exchange.specs.answer.AnswerRules.{HasShapeOf}
 use Rattle.exchange.specs.answer.RejectedSection.{rejecting_section}
 use Rattle.exchange.specs.declared.offer.added.Added.{Added}
 use Rattle.exchange.specs.declared.offer.added.Added.TheVariants as added
@@ -14,12 +15,10 @@ use Rattle.exchange.specs.declared.state.own_side.DataChannels.{DataChannels}
 use Rattle.exchange.specs.declared.state.own_side.SectionDirection.{SectionDirection}
 use Rattle.exchange.specs.offer.Added.{added_under_names}
 use Rattle.exchange.specs.offer.MadeOffer.{MakesOffer, ready_with_added, sections_added}
-use Rattle.exchange.specs.offer.OfferPlaces.{FillsPlace, FillsPlaces, their_section_at}
-use Rattle.exchange.specs.offer.OfferRules.{HasNewPlaceName, IsNewName, KeepsOfferRules, KeepsOfferedRules, KeepsPlace, KeepsPlaces}
+use Rattle.exchange.specs.offer.OfferPlaces.{FillsPlace, FillsPlaces, HasNewPlaceName, IsNewName, KeepsPlace, KeepsPlaces, their_section_at}
+use Rattle.exchange.specs.offer.OfferRules.{KeepsOfferRules, KeepsOfferedRules}
 use Rattle.exchange.specs.offer.OfferSection.{asked_section_lines, kept_section_lines, new_section, next_section, offered_channels}
-use Rattle.exchange.specs.offer.OfferSection.{offered_media}
-use Rattle.exchange.specs.offer.OfferSection.{section_by, section_for, offered_section_with}
-use Rattle.exchange.specs.offer.Rules.{HasShapeOf}
+use Rattle.exchange.specs.offer.OfferSection.{offered_media, section_by, section_for, offered_section_with}
 use Rattle.exchange.specs.section.Stopped.{name_of}
 use Rattle.exchange.specs.state.OwnSide.{direction_among}
 use Rattle.exchange.specs.state.State.{sections_of}
@@ -125,7 +124,8 @@ offer_places old names offer new makes =
 offer_disabled_absurd : (m : MediaLine) (P : Type 0) → m.disabled ≡ true → m.disabled ≡ false → P
 offer_disabled_absurd m P t f = absurd (let e : true ≡ false = sym t ∙ f in cc)
 
-rejecting_offered : (old : Exchange) (ready : List SectionDirection) (mine : MediaLine) → KeepsOfferRules old ready (rejecting_section mine)
+rejecting_offered : (old : Exchange) (ready : List SectionDirection) (mine : MediaLine)
+    → KeepsOfferRules old ready (rejecting_section mine)
 rejecting_offered old ready mine = offer_disabled_absurd (rejecting_section mine) (KeepsOfferedRules old ready (rejecting_section mine))
     refl
 

@@ -5,8 +5,7 @@ use Rattle.exchange.proofs.Common.{take_all, list_any_at, all_pairs_push, get_or
 use Rattle.exchange.proofs.Common.{bytes_eq-Decides, BTreeSet, Updates, contains, Bor, slice_cmp, slice_get, nat_cmp}
 use Rattle.exchange.proofs.Common.{claimed_slice_get_item}
 use Rattle.exchange.proofs.Common.{accessor_filter_map_more, accessor_filter_map_same, mids_holds_before, MediaLine, HoldsMids, is_mid_held}
-use Rattle.exchange.proofs.Common.{AreDistinct, is_listed}
-use Rattle.exchange.proofs.Common.{section_mid, section_mids}
+use Rattle.exchange.proofs.Common.{AreDistinct, is_listed, section_mid, section_mids}
 use Rattle.exchange.proofs.state.ExchangeFollowLaws.{follows_listed_more}
 use Rattle.exchange.specs.offer.OwnNames.{IsNamedAgain}
 use Rattle.exchange.specs.section.Stopped.{name_of}

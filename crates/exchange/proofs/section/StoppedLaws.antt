@@ -2,7 +2,7 @@
 use Rattle.exchange.proofs.Common.{arith, ◌≡◌, ◌↔◌, ◌||◌, ℕ, Bool, true, false, List, [], ◌∷◌, get_or, Option, Some, None, IfSome, IsTrue}
 use Rattle.exchange.proofs.Common.{bytes_eq, refl, subst, sym, ap, ◌∙◌, false≢true, Contains-append_right, list_any_at, bytes_eq-Decides}
 use Rattle.exchange.proofs.Common.{BTreeSet, Bor, Contains, MediaLine, Sdp, HoldsMids, is_listed}
-use Rattle.exchange.specs.answer.InBundle.{bundle_names, bundle_names_or_none}
+use Rattle.exchange.specs.answer.Bundle.{bundle_names, bundle_names_or_none}
 use Rattle.exchange.specs.section.Places.{HoldsBundleGroup}
 use Rattle.exchange.specs.section.Stopped.{IsBundled, bundle_group, name_of}
 

@@ -6,7 +6,8 @@ use Rattle.str0m_signal.proofs.Common.{candidate_both}
 
 -- a line has one reading: so there is another with nothing left where this is it
 pub trickled_only_candidate_so : {V : Type 0} (P : V × List ℕ → Type 0) (value : V) (rest : List ℕ) (r : Result V SdpError)
-    → P (value, rest) → AtMostOne P
+    → P (value, rest)
+    → AtMostOne P
     → Answers (λ read. read) r (λ read. (read ≡ value) × (rest ≡ [])) → Answers (λ read. read) r (λ read. P (read, []))
 trickled_only_candidate_so {V} P value rest (Ok read) there one (same, ends) =
     subst (λ (left : List ℕ). P (read, left)) ends (subst (λ (other : V). P (other, rest)) (sym same) there)

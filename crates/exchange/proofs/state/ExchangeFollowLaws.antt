@@ -4,11 +4,11 @@ use Rattle.exchange.proofs.Common.{All, IfSome, IsSomeAnd, MatchOption, filter_m
 use Rattle.exchange.proofs.Common.{All-cons, All-nil, All-weaker, list_any-append, same_Some, AllZip-long, AllZip-right, AllZip}
 use Rattle.exchange.proofs.Common.{cons_option, slice_get, stays-same, stays-then, row_before, CodecConfig, PayloadParams, LockedStay}
 use Rattle.exchange.proofs.Common.{StaysLocked, MediaLine, Sdp, AreDistinct, is_listed, section_mids, merged_bytes_itself}
+use Rattle.exchange.specs.answer.AnswerRules.{HasShapeOf}
 use Rattle.exchange.specs.declared.offer.pending.Pending.{Pending}
 use Rattle.exchange.specs.declared.state.exchange.Exchange.{Exchange}
 use Rattle.exchange.specs.declared.state.signaling_state.SignalingState.TheVariants.{Stable}
 use Rattle.exchange.specs.offer.Names.{grown_names, new_name}
-use Rattle.exchange.specs.offer.Rules.{HasShapeOf}
 use Rattle.exchange.specs.section.Places.{FollowsPlaces, HasPlaceNameAt, IsNewPlaceName, StaysInPlace, StaysInPlaces}
 use Rattle.exchange.specs.section.Stopped.{name_of}
 use Rattle.exchange.specs.state.ExchangeFollows.{Follows, NamesGrow, IsKnownName, IsPlacedSo, IsSoundExchange}

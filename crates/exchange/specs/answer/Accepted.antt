@@ -1,5 +1,6 @@
 -- What an accepted section says, line by line.
-use Rattle.exchange.specs.Prelude.{AnswersDirection, AnswersRole, Candidate, Direction, MediaAttribute, MediaLine, PayloadParams, Sdp, Setup, direction_attribute, first, made, media_setup, receives, section_direction, sends, session_setup}
+use Rattle.exchange.specs.Prelude.{AnswersDirection, AnswersRole, Candidate, Direction, MediaAttribute, MediaLine, PayloadParams, Sdp, Setup, direction_attribute, made, receives, section_direction, sends}
+use Rattle.exchange.specs.answer.InForce.{setup_in_force}
 use Rattle.exchange.specs.answer.Layers.{answered_layers}
 use Rattle.exchange.specs.declared.answer.accepted.TheConstants.{RTP_STREAM_ID}
 use Rattle.exchange.specs.declared.state.own_side.DataChannels.{DataChannels}
@@ -7,13 +8,8 @@ use Rattle.exchange.specs.declared.state.own_side.OwnSide.{OwnSide}
 use Rattle.exchange.specs.section.RepeatedLines.{is_repeated, repeated_lines}
 use Rattle.exchange.specs.state.OwnSide.{own_direction}
 use Rattle.std.specs.List.{list_any}
-use Rattle.std.specs.Option.{option_or}
-use Rattle.std.specs.Prelude.{◌≡◌, ◌&&◌, ℕ, Bool, false, List, [], ◌∷◌, ◌++◌, Option, None, bytes_eq, codes, filter_map, map, if◌then◌else◌}
+use Rattle.std.specs.Prelude.{◌≡◌, ◌&&◌, ℕ, Bool, false, List, [], ◌∷◌, ◌++◌, None, bytes_eq, codes, map, if◌then◌else◌}
 use Rattle.str0m_sdp.specs.declared.attribute.MediaAttribute.TheVariants as media
-
--- the role that is said for a section: by its own lines, else by the session (RFC 8842, section 5.2)
-abbrev pub setup_in_force : Sdp → MediaLine → Option Setup
-setup_in_force offer m = option_or (first (filter_map media_setup m.attrs)) (first (filter_map session_setup offer.session.attrs))
 
 -- its name (RFC 5888, section 4), the hash of the certificate (RFC 8122, section 5), the credentials (RFC 8839, section 5.4),
 -- that candidates may follow (RFC 8840, section 4.1.3), and the role (RFC 8842, section 5.3)

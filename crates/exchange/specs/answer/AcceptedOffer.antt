@@ -1,9 +1,9 @@
 -- What answers an offer, before it is in force, and the tracks that a description says (RFC 8830, section 2).
 use Rattle.exchange.specs.Prelude.{AllDistinct, AreDistinct, IsPlain, LockedStay, MediaAttribute, MediaLine, Sdp, section_mids, types, versioned_text}
+use Rattle.exchange.specs.answer.AnswerRules.{HasShapeOf, IsAcceptedExactly, KeepsRules}
 use Rattle.exchange.specs.answer.AnsweredSession.{BundlesAccepted}
 use Rattle.exchange.specs.answer.Offered.{IsOfferText, NegotiatesOffer}
 use Rattle.exchange.specs.declared.state.exchange.Exchange.{Exchange}
-use Rattle.exchange.specs.offer.Rules.{HasShapeOf, IsAcceptedExactly, KeepsRules}
 use Rattle.exchange.specs.section.Places.{StaysInPlaces}
 use Rattle.exchange.specs.state.Exchange.{AnswersOffer}
 use Rattle.exchange.specs.state.ReadBack.{IsReadBack}

@@ -1,7 +1,7 @@
 -- What an answer says of the session as a whole.
 use Rattle.exchange.specs.Prelude.{MediaLine, Sdp, Session, SessionAttribute}
-use Rattle.exchange.specs.answer.Bundle.{answered_bundle}
-use Rattle.exchange.specs.answer.InBundle.{bundle_names}
+use Rattle.exchange.specs.answer.AnsweredBundle.{answered_bundle}
+use Rattle.exchange.specs.answer.Bundle.{bundle_names}
 use Rattle.exchange.specs.declared.state.own_side.OwnSide.{OwnSide}
 use Rattle.exchange.specs.section.Stopped.{bundle_group}
 use Rattle.std.specs.List.{list_any}

@@ -1,20 +1,39 @@
--- The names that the group of an answer lists (RFC 9143, section 7.3).
-use Rattle.exchange.specs.Prelude.{MediaLine, Sdp, is_listed}
+-- The bundle of a description: its names, the section whose transport they share, and what is in force there.
+use Rattle.exchange.specs.Prelude.{HoldsMids, MediaLine, Sdp, first, is_listed}
+use Rattle.exchange.specs.declared.answer.bundle.Bundled.{Bundled}
+use Rattle.exchange.specs.section.Reached.{has_creds, has_fingerprint}
 use Rattle.exchange.specs.section.Stopped.{bundle_group, name_of}
-use Rattle.std.specs.Prelude.{ℕ, Bool, true, false, List, [], Option, Some, None, filter, filter_map, zip}
+use Rattle.std.specs.Prelude.{◌≡◌, ◌||◌, ◌&&◌, ℕ, Bool, false, List, [], Option, Some, None, bytes_eq, find}
 
--- the name of a section that is accepted
-abbrev pub answered_bundle_name : MediaLine × Bool → Option (List ℕ)
-answered_bundle_name (m, true) = name_of m
-answered_bundle_name (m, false) = None
+abbrev pub bundle_names_or_none : Option (List (List ℕ)) → List (List ℕ)
+bundle_names_or_none None = []
+bundle_names_or_none (Some names) = names
 
-abbrev pub answered_bundle_names : List MediaLine → List Bool → List (List ℕ)
-answered_bundle_names sections accepted = filter_map answered_bundle_name (zip sections accepted)
+-- the names of the first `BUNDLE` group (RFC 9143, section 5); none where there is no such group
+abbrev pub bundle_names : Sdp → List (List ℕ)
+bundle_names sdp = bundle_names_or_none (bundle_group sdp)
 
--- the names of a group that are those of accepted sections, in the group's order; none where there is no group
-abbrev pub answered_bundle_among : List (List ℕ) → Option (List (List ℕ)) → List (List ℕ)
-answered_bundle_among names None = []
-answered_bundle_among names (Some group) = filter (λ mid. is_listed names (Some mid)) group
+abbrev pub is_same_bundle_name : Option (List ℕ) → Option (List ℕ) → Bool
+is_same_bundle_name (Some name) (Some other) = bytes_eq name other
+is_same_bundle_name _ _ = false
 
-abbrev pub answered_bundle : Sdp → List Bool → List (List ℕ)
-answered_bundle offer accepted = answered_bundle_among (answered_bundle_names offer.media_lines accepted) (bundle_group offer)
+-- the section whose transport all of the bundle share: that of the first name (RFC 9143, section 7.3.1)
+abbrev pub is_bundle_tagged : List (List ℕ) → MediaLine → Bool
+is_bundle_tagged names m = is_same_bundle_name (first names) (name_of m)
+
+abbrev pub tagged_section : Sdp → Option MediaLine
+tagged_section sdp = find (is_bundle_tagged (bundle_names sdp)) sdp.media_lines
+
+abbrev pub is_so_of_tagged : (MediaLine → Bool) → Option MediaLine → Bool
+is_so_of_tagged test None = false
+is_so_of_tagged test (Some m) = test m
+
+-- what is so of a section, or of the one whose transport it shares (RFC 9143, section 7.1.3)
+abbrev pub is_so_in_bundle : (MediaLine → Bool) → Sdp → MediaLine → Bool
+is_so_in_bundle test sdp m = test m || (is_listed (bundle_names sdp) (name_of m) && is_so_of_tagged test (tagged_section sdp))
+
+-- the names of the sections that share a transport, and what is in force at the section whose transport they share
+pub record IsBundledBy (sdp : Sdp) (bundled : Bundled) : Type 0 where
+  pub names : HoldsMids bundled.names (bundle_names sdp)
+  pub creds : bundled.has_creds ≡ is_so_of_tagged (has_creds sdp.session) (tagged_section sdp)
+  pub fingerprint : bundled.has_fingerprint ≡ is_so_of_tagged (has_fingerprint sdp.session) (tagged_section sdp)

@@ -11,6 +11,10 @@ in_force_of of_section of_session session (Some m) = option_or (first (filter_ma
 abbrev pub in_force : {X : Type 0} → (MediaAttribute → Option X) → (SessionAttribute → Option X) → Sdp → ℕ → Option X
 in_force of_section of_session sdp at = in_force_of of_section of_session sdp.session.attrs (slice_get sdp.media_lines at)
 
+-- the role in force at a section that is at hand (RFC 8842, section 5.2)
+abbrev pub setup_in_force : Sdp → MediaLine → Option Setup
+setup_in_force offer m = option_or (first (filter_map media_setup m.attrs)) (first (filter_map session_setup offer.session.attrs))
+
 -- the role (RFC 4145, section 4; RFC 8842, section 5.2)
 abbrev pub setup_at : Sdp → ℕ → Option Setup
 setup_at = in_force media_setup session_setup

@@ -1,12 +1,12 @@
 -- The rules that an answer to an offer of this side keeps.
 use Rattle.exchange.specs.Prelude.{Direction, MediaLine, PayloadParams, Sdp, is_listed, is_media, receives, section_direction, sends}
-use Rattle.exchange.specs.answer.Accepted.{setup_in_force}
-use Rattle.exchange.specs.answer.InBundle.{bundle_names, is_so_in_bundle}
+use Rattle.exchange.specs.answer.AnswerRules.{SaysOnlyOffered}
+use Rattle.exchange.specs.answer.Bundle.{bundle_names, is_so_in_bundle}
+use Rattle.exchange.specs.answer.InForce.{setup_in_force}
 use Rattle.exchange.specs.answer.Rows.{answered_rows}
 use Rattle.exchange.specs.answer.TurnedLayers.{TurnsLayers}
 use Rattle.exchange.specs.declared.offer.rule.Rule.{Rule}
 use Rattle.exchange.specs.declared.offer.rule.Rule.TheVariants as rule
-use Rattle.exchange.specs.offer.Rules.{SaysOnlyOffered}
 use Rattle.exchange.specs.section.Reached.{has_creds, has_fingerprint}
 use Rattle.exchange.specs.section.Stopped.{name_of}
 use Rattle.std.specs.Prelude.{◌≡◌, ◌≢◌, ◌<◌, ◌⊎◌, ℕ, true, false, cond, List, [], ◌∷◌, Option, Some, None, All, filter_map, length, take, slice_get}

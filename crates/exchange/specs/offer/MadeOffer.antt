@@ -1,7 +1,7 @@
 -- The offer that this side makes (RFC 3264, section 8; RFC 8829, section 5.2).
 use Rattle.exchange.specs.Prelude.{MediaLine, Sdp, Session}
+use Rattle.exchange.specs.answer.AnsweredBundle.{answered_bundle_names}
 use Rattle.exchange.specs.answer.AnsweredSession.{session_group_lines, is_accepted, session_mixed_lines}
-use Rattle.exchange.specs.answer.Bundle.{answered_bundle_names}
 use Rattle.exchange.specs.declared.offer.added.Placed.{Placed}
 use Rattle.exchange.specs.declared.state.exchange.Exchange.{Exchange}
 use Rattle.exchange.specs.declared.state.own_side.SectionDirection.{SectionDirection}

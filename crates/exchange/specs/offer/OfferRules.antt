@@ -1,43 +1,21 @@
 -- The rules that an offer of this side keeps, beside the last exchange.
-use Rattle.exchange.specs.Prelude.{AreDistinct, MediaLine, MediaType, PayloadParams, first, is_listed, is_media, kind_rows, media_creds, media_fingerprint, media_setup, section_direction, section_mids, types, versioned_text}
+use Rattle.exchange.specs.Prelude.{AreDistinct, MediaLine, MediaType, PayloadParams, first, is_media, kind_rows, media_creds, media_fingerprint, media_setup, section_direction, section_mids, types, versioned_text}
 use Rattle.exchange.specs.declared.offer.Offer.{Offer}
 use Rattle.exchange.specs.declared.state.exchange.Exchange.{Exchange}
 use Rattle.exchange.specs.declared.state.own_side.SectionDirection.{SectionDirection}
 use Rattle.exchange.specs.declared.state.signaling_state.SignalingState.TheVariants.{Stable}
 use Rattle.exchange.specs.offer.FreshNames.{AreFresh}
-use Rattle.exchange.specs.offer.MadeOffer.{MakesOffer, ready_with}
-use Rattle.exchange.specs.offer.Rules.{HasShapeOf}
-use Rattle.exchange.specs.section.Places.{IsPlaceOver}
+use Rattle.exchange.specs.offer.MadeOffer.{MakesOffer, ready_with_added}
+use Rattle.exchange.specs.offer.OfferPlaces.{IsNewName, KeepsPlaces}
+use Rattle.exchange.specs.section.Places.{FollowsPlaces}
 use Rattle.exchange.specs.section.Stopped.{name_of}
 use Rattle.exchange.specs.state.OwnSide.{direction_among}
 use Rattle.exchange.specs.state.ReadBack.{IsReadBack}
 use Rattle.exchange.specs.state.State.{sections_of, state_of, taken_names}
-use Rattle.std.specs.Prelude.{All, ◌≡◌, ◌⊎◌, ◌+◌, ℕ, true, false, List, [], ◌∷◌, Some, MatchOption, filter_map, length}
+use Rattle.std.specs.Prelude.{All, ◌≡◌, ℕ, true, false, List, Some, filter_map, length}
 use Rattle.str0m_sdp.specs.declared.attribute.media_type.MediaType.TheVariants.{Audio, Video}
 use Rattle.str0m_sdp.specs.declared.attribute.setup.Setup.TheVariants.{ActPass}
 use Rattle.str0m_values.specs.declared.media_kind.MediaKind.TheVariants as kind
-
--- ---- places
-
--- a name that no section of the session has had
-abbrev pub IsNewName : Exchange → List ℕ → Type 0
-IsNewName old name = is_listed (taken_names old) (Some name) ≡ false
-
-abbrev pub HasNewPlaceName : Exchange → MediaLine → Type 0
-HasNewPlaceName old m = MatchOption (name_of m) ⊥ (IsNewName old)
-
--- an earlier section has its place, with its type, protocol and name; or the place is over, and has a new one (RFC 3264, section 8;
--- RFC 8829, section 5.2.2)
-abbrev pub KeepsPlace : Exchange → ℕ → MediaLine → MediaLine → Type 0
-KeepsPlace old at mine said = HasShapeOf mine said ⊎ (IsPlaceOver old.remote at mine × HasNewPlaceName old said)
-
--- each place from one on, and there may be more after them
-abbrev pub KeepsPlaces : Exchange → ℕ → List MediaLine → List MediaLine → Type 0
-KeepsPlaces old at [] sections = Unit {0}
-KeepsPlaces old at (mine ∷ more) [] = ⊥
-KeepsPlaces old at (mine ∷ more) (said ∷ behind) = KeepsPlace old at mine said × KeepsPlaces old (at + 1) more behind
-
--- ---- sections with a port
 
 -- the m-line lists the types of exactly the rows of its kind, so that rows that are agreed on stand under their types (RFC 3264,
 -- section 8.3.2)
@@ -57,3 +35,19 @@ pub record KeepsOfferedRules (old : Exchange) (ready : List SectionDirection) (m
 
 abbrev pub KeepsOfferRules : Exchange → List SectionDirection → MediaLine → Type 0
 KeepsOfferRules old ready m = m.disabled ≡ false → KeepsOfferedRules old ready m
+
+-- ---- the whole
+
+-- this side makes the offer, which keeps the rules beside the last exchange, and is read back whole
+pub record IsOfferedWith (old : Exchange) (offer : Offer) : Type 0 where
+  pub stable : state_of old ≡ Stable
+  pub names : (to : ℕ) × AreFresh (taken_names old) 0 offer.added to
+  pub as_many : length offer.added ≡ length old.added
+  pub new : All (IsNewName old) offer.added
+  pub says : MakesOffer old offer.added offer.sdp
+  pub places : KeepsPlaces old 0 (sections_of old.local) offer.sdp.media_lines
+  pub follows : FollowsPlaces old.names (sections_of old.local) offer.sdp.media_lines
+  pub rules : All (KeepsOfferRules old (ready_with_added old offer.added)) offer.sdp.media_lines
+  pub different : AreDistinct (section_mids (sections_of old.local)) → AreDistinct (section_mids offer.sdp.media_lines)
+  pub read_back : IsReadBack offer.sdp (versioned_text offer.version offer.sdp)
+  pub version : offer.version ≡ old.version

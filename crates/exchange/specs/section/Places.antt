@@ -1,6 +1,6 @@
 -- The places of sections over several exchanges (RFC 3264, section 8; RFC 8829, section 5.2.2).
 use Rattle.exchange.specs.Prelude.{HoldsMids, MediaLine, Sdp, is_listed}
-use Rattle.exchange.specs.answer.InBundle.{bundle_names}
+use Rattle.exchange.specs.answer.Bundle.{bundle_names}
 use Rattle.exchange.specs.section.Stopped.{IsStoppedAt, name_of}
 use Rattle.std.specs.BTreeSet.{BTreeSet}
 use Rattle.std.specs.Borrow.{Bor}

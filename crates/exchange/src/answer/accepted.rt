@@ -1,8 +1,10 @@
 //! Sections that accept.
 ghost use Rattle.exchange.specs.Prelude.{is_of_type, made, row_attrs, types, types_of};
-ghost use Rattle.exchange.specs.answer.Accepted.{AcceptsChannels, AcceptsMedia, accepted_layers_told, accepted_candidate_line, accepted_channel_lines, first_accepted_lines, accepted_frame, accepted_layer_lines, accepted_media_lines, accepted_msid_lines, setup_in_force, accepted_tells_layer, accepted_track_id};
+ghost use Rattle.exchange.specs.answer.Accepted.{AcceptsChannels, AcceptsMedia, accepted_layers_told, accepted_candidate_line, accepted_channel_lines, first_accepted_lines, accepted_frame, accepted_layer_lines, accepted_media_lines, accepted_msid_lines, accepted_tells_layer, accepted_track_id};
+ghost use Rattle.exchange.specs.answer.InForce.{setup_in_force};
 ghost use Rattle.std.specs.Prelude.{◌≡◌, ◌++◌, IfOk, OnOk, filter, map, not, flat_map};
 
+use crate::answer::in_force::setup_in_force;
 use crate::answer::layers::answered_layers;
 use crate::section::repeated_lines::{is_repeated, repeated};
 use crate::state::own_side::{DataChannels, OwnSide};
@@ -14,16 +16,6 @@ use str0m_signal::{
 
 /// The header extension that tells of each packet which layer it is of (RFC 8852, section 3.3).
 const RTP_STREAM_ID: &str = "urn:ietf:params:rtp-hdrext:sdes:rtp-stream-id";
-
-/// The role that is said for a section: by its own lines, else by the session.
-pub(crate) fn setup_in_force(offer: &Sdp, section: &MediaLine) -> Option<Setup>
-    ensures { result ≡ setup_in_force offer.now section.now }
-{
-    match section.setup() {
-        Some(setup) => Some(setup),
-        None => offer.session.setup(),
-    }
-}
 
 /// The lines that each accepted section begins with: its name, and how its transport is reached. Each has all of
 /// them, since Firefox 153 ends where a section of a bundle has no fingerprint.

@@ -1,11 +1,11 @@
 //! Answers of this side to offers.
 ghost use Rattle.exchange.specs.Prelude.{AllDistinct, AreDistinct, HasBoundedRows, IsPlain, LockedStay, section_mids, types, versioned_text};
 ghost use Rattle.exchange.specs.answer.AcceptedOffer.{IsAcceptedWith, answer_tracks};
+ghost use Rattle.exchange.specs.answer.AnswerRules.{HasShapeOf, IsAcceptedExactly, KeepsRules};
 ghost use Rattle.exchange.specs.answer.AnsweredSession.{BundlesAccepted};
 ghost use Rattle.exchange.specs.answer.Offered.{AreOfferRounds, IsOfferText, NegotiatesOffer};
 ghost use Rattle.exchange.specs.declared.state.signaling_state.SignalingState.TheVariants.{Stable};
 ghost use Rattle.exchange.specs.offer.Names.{grown_names};
-ghost use Rattle.exchange.specs.offer.Rules.{HasShapeOf, IsAcceptedExactly, KeepsRules};
 ghost use Rattle.exchange.specs.section.Places.{StaysInPlaces};
 ghost use Rattle.exchange.specs.state.Exchange.{AnswersOffer, EachOfferedSection, RefusesOffer, RefusesSections, RefusesToAnswer};
 ghost use Rattle.exchange.specs.state.ExchangeFollows.{Follows, IsSoundExchange};
@@ -42,7 +42,7 @@ struct Answering {
 }
 
 /// The description that answers an offer.
-#[tactic(auto, using(crate::proofs::answer::BundleLaws::answer_bundles))]
+#[tactic(auto, using(crate::proofs::answer::AnsweredBundleLaws::answer_bundles))]
 fn description_for_offer(
     alloc: Global,
     own: &OwnSide,

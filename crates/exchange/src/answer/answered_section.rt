@@ -1,15 +1,15 @@
 //! The sections of an answer.
 ghost use Rattle.exchange.specs.Prelude.{HoldsMids, rows};
+ghost use Rattle.exchange.specs.answer.AnswerRules.{HasShapeOf, IsAcceptedExactly, KeepsRules};
 ghost use Rattle.exchange.specs.answer.AnsweredSection.{AnswersSection, SaysChoice};
-ghost use Rattle.exchange.specs.answer.InBundle.{bundle_names};
+ghost use Rattle.exchange.specs.answer.Bundle.{bundle_names};
 ghost use Rattle.exchange.specs.answer.Offered.{AreOfferRounds, BringsRound};
-ghost use Rattle.exchange.specs.offer.Rules.{HasShapeOf, IsAcceptedExactly, KeepsRules};
 ghost use Rattle.std.specs.List.{AllZip};
 ghost use Rattle.std.specs.Prelude.{◌≡◌, IfOk};
 
 use crate::answer::accepted::{accepted_channels, accepted_media};
+use crate::answer::bundle::ordered_bundle;
 use crate::answer::choice::{Choice, choice_of};
-use crate::answer::in_bundle::ordered_bundle;
 use crate::answer::offered::offered_rows_of_next;
 use crate::answer::rejected_section::rejected;
 use crate::state::own_side::OwnSide;
@@ -82,7 +82,7 @@ fn each_section_answered(
 }
 
 /// The sections that answer those of an offer, which keep the rules.
-#[tactic(auto, using(crate::proofs::offer::RuleLaws::rule_sections_keep, crate::proofs::offer::RuleLaws::rule_sections_shape, crate::proofs::offer::RuleLaws::rule_sections_exact))]
+#[tactic(auto, using(crate::proofs::answer::AnswerRuleLaws::rule_sections_keep, crate::proofs::answer::AnswerRuleLaws::rule_sections_shape, crate::proofs::answer::AnswerRuleLaws::rule_sections_exact))]
 pub(crate) fn answered_sections(
     alloc: Global,
     own: &OwnSide,

@@ -3,7 +3,7 @@ ghost use Rattle.exchange.specs.answer.AnsweredSession.{session_allows_mixed, an
 ghost use Rattle.std.specs.List.{list_any};
 ghost use Rattle.std.specs.Prelude.{◌≡◌, IfOk, map};
 
-use crate::answer::bundle::answered_bundle;
+use crate::answer::answered_bundle::answered_bundle;
 use crate::state::own_side::OwnSide;
 use std::alloc::{AllocError, Global};
 use str0m_signal::{Items, MediaLine, Mid, Sdp, Session, SessionAttribute, Text};

@@ -1,85 +1,117 @@
-//! The names that the group of an answer lists.
-
-ghost use Rattle.exchange.specs.Prelude.{HoldsMids, is_listed};
-ghost use Rattle.exchange.specs.answer.Bundle.{answered_bundle_names, answered_bundle, answered_bundle_among, answered_bundle_name};
-ghost use Rattle.std.specs.Prelude.{◌≡◌, IfOk, Some};
+//! The bundle of a description: its names, the section whose transport they share, and what is in force there.
+ghost use Rattle.exchange.specs.Prelude.{HoldsMids};
+ghost use Rattle.exchange.specs.answer.Bundle.{IsBundledBy, bundle_names, is_same_bundle_name, is_so_in_bundle, is_so_of_tagged, is_bundle_tagged, tagged_section};
+ghost use Rattle.exchange.specs.section.Reached.{has_creds, has_fingerprint};
+ghost use Rattle.std.specs.Prelude.{◌≡◌, IfOk, option_copied};
 
 use crate::offer::names::{is_name_held, ordered_names};
+use crate::section::reached::{has_creds, has_fingerprint};
 use crate::section::stopped::name_of;
 use std::alloc::{AllocError, Global};
 use std::collections::BTreeSet;
-use str0m_signal::{Items, MediaLine, Mid, Sdp};
+use str0m_signal::{MediaLine, Mid, Sdp};
 
-fn answered_bundle_name(section: &MediaLine, is_accepted: bool) -> Option<Mid>
-    ensures { result ≡ answered_bundle_name (section.now, is_accepted) }
+/// The names of the first `BUNDLE` group; none where there is no such group.
+pub(crate) fn bundle_names(sdp: &Sdp) -> &[Mid]
+    ensures { result.now ≡ bundle_names sdp.now }
 {
-    if is_accepted { name_of(section) } else { None }
-}
-
-/// The names of the accepted sections, in order.
-pub(crate) fn answered_bundle_names(
-    alloc: Global,
-    sections: &[MediaLine],
-    accepted: &[bool],
-) -> Result<Vec<Mid>, AllocError>
-    ensures { IfOk result (λ names. names.items ≡ answered_bundle_names sections.now accepted.now) }
-{
-    let mut names = Vec::new(alloc);
-    let (mut left, mut marks) = (sections, accepted);
-    while let Some((section, later)) = left.split_first() {
-        let Some((is_accepted, more)) = marks.split_first() else {
-            return Ok(names);
-        };
-        if let Some(name) = answered_bundle_name(section, *is_accepted) {
-            names.push(name)?;
-        }
-        left = later;
-        marks = more;
+    match sdp.bundle_mids() {
+        Some(names) => names,
+        None => &[],
     }
-    Ok(names)
 }
 
-/// Whether a name is among others, which `listed` has in order.
-fn is_bundle_listed(names: &[Mid], listed: &BTreeSet<&str>, mid: Mid) -> bool
-    requires { HoldsMids listed.now names.now }
-    ensures { result ≡ is_listed names.now (Some mid) }
+/// The same in the order of their bytes.
+pub(crate) fn ordered_bundle(alloc: Global, sdp: &Sdp) -> Result<BTreeSet<&str>, AllocError>
+    ensures { IfOk result (λ group. HoldsMids group (bundle_names sdp.now)) }
 {
-    is_name_held(listed, Some(mid))
+    ordered_names(alloc, bundle_names(sdp))
 }
 
-/// The names of a group that are among others, in the group's order.
-fn answered_bundle_among(
-    alloc: Global,
-    names: &[Mid],
-    group: &[Mid],
-) -> Result<Vec<Mid>, AllocError>
-    ensures { IfOk result (λ mids. mids.items ≡ answered_bundle_among names.now (Some group.now)) }
+fn is_same_bundle_name(name: Option<Mid>, other: Option<Mid>) -> bool
+    ensures { result ≡ is_same_bundle_name name other }
 {
-    let listed = ordered_names(alloc, names)?;
-    let mut mids = Vec::new(alloc);
-    for mid in group {
-        if is_bundle_listed(names, &listed, *mid) {
-            mids.push(*mid)?;
-        }
+    match (name, other) {
+        (Some(name), Some(other)) => name == other,
+        _ => false,
     }
-    Ok(mids)
 }
 
-/// The names that the `BUNDLE` group of an answer lists (RFC 9143, section 7.3): those of the offer's
-/// first `BUNDLE` group, in that group's order, whose section is accepted. `accepted` says so of each
-/// section in order; sections without a place in it aren't accepted. None where the offer has no such
-/// group. The only error is that memory was refused.
-pub fn answered_bundle(
-    alloc: Global,
-    offer: &Sdp,
-    accepted: &[bool],
-) -> Result<Items<Mid>, AllocError>
-    ensures { IfOk result (λ mids. mids ≡ answered_bundle offer.now accepted.now) }
+/// Whether the section has the first of the names.
+fn is_bundle_tagged(names: &[Mid], section: &MediaLine) -> bool
+    ensures { result ≡ is_bundle_tagged names.now section.now }
 {
-    let Some(group) = offer.bundle_mids() else {
-        return Ok(Items::empty(alloc));
-    };
-    let names = answered_bundle_names(alloc, offer.media_lines.as_slice(), accepted)?;
-    let mids = answered_bundle_among(alloc, names.as_slice(), group)?;
-    Ok(Items::from(mids))
+    is_same_bundle_name(names.first().copied(), name_of(section))
+}
+
+/// The section whose transport all of the bundle share.
+pub(crate) fn tagged_section(sdp: &Sdp) -> Option<&MediaLine>
+    ensures { option_copied result ≡ tagged_section sdp.now }
+{
+    let names = bundle_names(sdp);
+    let sections = sdp.media_lines.as_slice();
+    sections
+        .iter()
+        .find(|section| is_bundle_tagged(names, section))
+}
+
+/// What the sections of the first `BUNDLE` group share.
+#[derive(Drop)]
+pub(crate) struct Bundled<'a> {
+    /// Their names.
+    names: BTreeSet<&'a str>,
+    /// Whether credentials of ICE are in force at the section whose transport they share.
+    has_creds: bool,
+    /// Whether a fingerprint is.
+    has_fingerprint: bool,
+}
+
+fn has_tagged_creds(sdp: &Sdp) -> bool
+    ensures { result ≡ is_so_of_tagged (has_creds sdp.now.session) (tagged_section sdp.now) }
+{
+    match tagged_section(sdp) {
+        Some(section) => has_creds(&sdp.session, section),
+        None => false,
+    }
+}
+
+fn has_tagged_fingerprint(sdp: &Sdp) -> bool
+    ensures { result ≡ is_so_of_tagged (has_fingerprint sdp.now.session) (tagged_section sdp.now) }
+{
+    match tagged_section(sdp) {
+        Some(section) => has_fingerprint(&sdp.session, section),
+        None => false,
+    }
+}
+
+/// What the sections of a description's bundle share.
+pub(crate) fn shared_by_bundle(alloc: Global, sdp: &Sdp) -> Result<Bundled<'_>, AllocError>
+    ensures { IfOk result (IsBundledBy sdp.now) }
+{
+    let names = ordered_names(alloc, bundle_names(sdp))?;
+    Ok(Bundled {
+        names,
+        has_creds: has_tagged_creds(sdp),
+        has_fingerprint: has_tagged_fingerprint(sdp),
+    })
+}
+
+impl<'a> Bundled<'a> {
+    /// Whether credentials of ICE are in force at a section, its own or those of the section whose transport it shares.
+    pub(crate) fn have_creds(&self, sdp: &Sdp, section: &MediaLine) -> bool
+        requires { IsBundledBy sdp.now self.now }
+        ensures { result ≡ is_so_in_bundle (has_creds sdp.now.session) sdp.now section.now }
+    {
+        has_creds(&sdp.session, section)
+            || (is_name_held(&self.names, name_of(section)) && self.has_creds)
+    }
+
+    /// Whether a fingerprint is in force there likewise.
+    pub(crate) fn have_fingerprint(&self, sdp: &Sdp, section: &MediaLine) -> bool
+        requires { IsBundledBy sdp.now self.now }
+        ensures { result ≡ is_so_in_bundle (has_fingerprint sdp.now.session) sdp.now section.now }
+    {
+        has_fingerprint(&sdp.session, section)
+            || (is_name_held(&self.names, name_of(section)) && self.has_fingerprint)
+    }
 }

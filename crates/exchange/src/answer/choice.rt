@@ -1,7 +1,7 @@
 //! What a section is answered with.
 ghost use Rattle.exchange.specs.Prelude.{HoldsMids, is_media, rows};
+ghost use Rattle.exchange.specs.answer.Bundle.{bundle_names};
 ghost use Rattle.exchange.specs.answer.Choice.{IsSectionChoice, channels_choice, open_choice, rows_choice};
-ghost use Rattle.exchange.specs.answer.InBundle.{bundle_names};
 ghost use Rattle.exchange.specs.answer.Offered.{BringsRound};
 ghost use Rattle.exchange.specs.answer.Rows.{answered_rows};
 ghost use Rattle.std.specs.Prelude.{◌≡◌, IfOk, true};

@@ -1,13 +1,23 @@
 //! What is in force at a section: what it says itself, else what the session says for all sections.
 
 ghost use Rattle.exchange.specs.Prelude.{IsPreferred, first, media_pwd, media_ufrag, session_pwd, session_ufrag};
-ghost use Rattle.exchange.specs.answer.InForce.{creds_at, fingerprints_at, fingerprints_of, pwd_at, setup_at, ufrag_at};
+ghost use Rattle.exchange.specs.answer.InForce.{creds_at, fingerprints_at, fingerprints_of, pwd_at, setup_at, setup_in_force, ufrag_at};
 ghost use Rattle.std.specs.Prelude.{◌≡◌, IfOk, Some, filter_map, option_copied};
 
 use std::alloc::AllocError;
 use str0m_signal::{
     Fingerprint, IceCreds, MediaAttribute, MediaLine, Sdp, Session, SessionAttribute, Setup, Text,
 };
+
+/// The role that is said for a section: by its own lines, else by the session.
+pub(crate) fn setup_in_force(offer: &Sdp, section: &MediaLine) -> Option<Setup>
+    ensures { result ≡ setup_in_force offer.now section.now }
+{
+    match section.setup() {
+        Some(role) => Some(role),
+        None => offer.session.setup(),
+    }
+}
 
 fn media_ufrag_of(attr: &MediaAttribute) -> Option<&Text>
     ensures { option_copied result ≡ media_ufrag attr.now }

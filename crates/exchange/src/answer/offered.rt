@@ -1,10 +1,10 @@
 //! Offers that are read whole, and their rounds.
 ghost use Rattle.exchange.specs.Prelude.{AllDistinct, HasBoundedRows, HoldsMids, IsFromLine, IsPlain, LockedStay, MediaLine, rows, types};
-ghost use Rattle.exchange.specs.answer.InBundle.{bundle_names};
+ghost use Rattle.exchange.specs.answer.Bundle.{bundle_names};
 ghost use Rattle.exchange.specs.answer.Offered.{AreOfferRounds, BringsRound, IsOfferText, IsOfferedRoundOf, NegotiatesOffer, RefusesOfferText};
 ghost use Rattle.std.specs.Prelude.{◌≡◌, ◌≢◌, ◌==◌, ◌+◌, ◌∷◌, ◌↔◌, [], IfErr, IfOk, IsTrue, List, OnOk, All, count_by, length};
 
-use crate::answer::in_bundle::ordered_bundle;
+use crate::answer::bundle::ordered_bundle;
 use crate::section::stopped::is_stopped_in;
 use crate::state::exchange_error::ExchangeError;
 use std::alloc::{AllocError, Global};

@@ -1,5 +1,5 @@
 //! Lines that an answer says only where its offer does.
-ghost use Rattle.exchange.specs.offer.Rules.{SaysOnlyOffered, needs_offer};
+ghost use Rattle.exchange.specs.answer.AnswerRules.{SaysOnlyOffered, needs_offer};
 ghost use Rattle.std.specs.Prelude.{◌≡◌, ◌↔◌, IsTrue, true, Contains};
 
 use str0m_signal::{MediaAttribute, MediaLine};

@@ -1,12 +1,10 @@
 //! Whether an answer fits the offer of this side.
 ghost use Rattle.exchange.specs.Prelude.{HoldsMids};
-ghost use Rattle.exchange.specs.answer.Bundled.{IsBundledBy};
-ghost use Rattle.exchange.specs.answer.InBundle.{bundle_names};
+ghost use Rattle.exchange.specs.answer.Bundle.{IsBundledBy, bundle_names};
 ghost use Rattle.exchange.specs.offer.Fits.{Breaks, BreaksAt, BreaksFirstAt, FitsBundle, FitsAt, FitsOffer, FitsBundledName, fit_section_name, fit_section_names};
 ghost use Rattle.std.specs.Prelude.{◌≡◌, ◌↔◌, ℕ, IfOk, IsTrue, MatchOption, filter_map, Some};
 
-use crate::answer::bundled::{Bundled, shared_by_bundle};
-use crate::answer::in_bundle::bundle_names;
+use crate::answer::bundle::{Bundled, bundle_names, shared_by_bundle};
 use crate::offer::fits_section::broken_rule;
 use crate::offer::names::{is_name_held, ordered_names, push_name};
 use crate::offer::rule::{Misfit, Rule};

@@ -1,18 +1,17 @@
 //! The rules that a section of an answer keeps beside the one that is offered in its place.
 ghost use Rattle.exchange.specs.Prelude.{is_media, section_direction};
-ghost use Rattle.exchange.specs.answer.Accepted.{setup_in_force};
-ghost use Rattle.exchange.specs.answer.Bundled.{IsBundledBy};
-ghost use Rattle.exchange.specs.answer.InBundle.{is_so_in_bundle};
+ghost use Rattle.exchange.specs.answer.AnswerRules.{SaysOnlyOffered};
+ghost use Rattle.exchange.specs.answer.Bundle.{IsBundledBy, is_so_in_bundle};
+ghost use Rattle.exchange.specs.answer.InForce.{setup_in_force};
 ghost use Rattle.exchange.specs.answer.Rows.{answered_rows};
 ghost use Rattle.exchange.specs.answer.TurnedLayers.{TurnsLayers};
 ghost use Rattle.exchange.specs.offer.Fits.{BreaksFirst, FitsEveryRule, FitsFlow, FitsIfAccepted, Keeps};
-ghost use Rattle.exchange.specs.offer.Rules.{SaysOnlyOffered};
 ghost use Rattle.exchange.specs.section.Reached.{has_creds, has_fingerprint};
 ghost use Rattle.std.specs.Prelude.{◌≡◌, ◌≢◌, ◌↔◌, [], IfOk, IsTrue, MatchOption, Some, true};
 ghost use Rattle.str0m_sdp.specs.declared.attribute.setup.Setup.TheVariants.{ActPass};
 
-use crate::answer::accepted::setup_in_force;
-use crate::answer::bundled::Bundled;
+use crate::answer::bundle::Bundled;
+use crate::answer::in_force::setup_in_force;
 use crate::answer::offered_lines::says_only_offered;
 use crate::answer::rows::rows_for;
 use crate::answer::turned_layers::turns_layers;

@@ -2,16 +2,17 @@
 ghost use Rattle.exchange.specs.Prelude.{AreDistinct, section_mids};
 ghost use Rattle.exchange.specs.offer.MadeOffer.{MakesOffer, offer_bundle_names, offer_session, placed_as, ready_with_added};
 ghost use Rattle.exchange.specs.offer.OfferExtensions.{extension_lines};
-ghost use Rattle.exchange.specs.offer.OfferRules.{IsNewName, KeepsOfferRules, KeepsPlaces};
+ghost use Rattle.exchange.specs.offer.OfferPlaces.{IsNewName, KeepsPlaces};
+ghost use Rattle.exchange.specs.offer.OfferRules.{KeepsOfferRules};
 ghost use Rattle.exchange.specs.offer.OfferSection.{new_section};
 ghost use Rattle.exchange.specs.section.Places.{FollowsPlaces};
 ghost use Rattle.exchange.specs.state.State.{sections_of, description_session, taken_names};
 ghost use Rattle.std.specs.Prelude.{◌≡◌, All, IfOk, map};
 
+use crate::answer::answered_bundle::answered_bundle_names;
 use crate::answer::answered_session::{
     session_group_lines, session_mixed_lines, session_sections_accepted,
 };
-use crate::answer::bundle::answered_bundle_names;
 use crate::offer::added::{Placed, added_under_names, with_added_directions};
 use crate::offer::offer_extensions::extension_lines;
 use crate::offer::offer_places::{filled_places, new_sections};

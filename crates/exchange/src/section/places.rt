@@ -5,7 +5,7 @@ ghost use Rattle.exchange.specs.section.Stopped.{IsStoppedAt};
 ghost use Rattle.exchange.specs.state.State.{sections_of};
 ghost use Rattle.std.specs.Prelude.{◌≡◌, ◌↔◌, IfOk, IsSomeAnd, IsTrue, MatchOption};
 
-use crate::answer::in_bundle::ordered_bundle;
+use crate::answer::bundle::ordered_bundle;
 use crate::offer::names::{is_name_held, ordered_names};
 use crate::section::stopped::{is_stopped_at, name_of};
 use std::alloc::{AllocError, Global};

@@ -1,7 +1,7 @@
 //! Which sections of an offer are stopped.
 
 ghost use Rattle.exchange.specs.Prelude.{HoldsMids, mid_of};
-ghost use Rattle.exchange.specs.answer.InBundle.{bundle_names};
+ghost use Rattle.exchange.specs.answer.Bundle.{bundle_names};
 ghost use Rattle.exchange.specs.section.Stopped.{IsBundled, IsBundleOnly, IsStopped, IsStoppedAt, name_of};
 ghost use Rattle.std.specs.Prelude.{◌≡◌, ◌↔◌, IsTrue, Some, codes, Contains};
 ghost use Rattle.str0m_sdp.specs.declared.attribute.MediaAttribute.TheVariants.{Unused};

@@ -6,7 +6,8 @@ ghost use Rattle.exchange.specs.declared.state.signaling_state.SignalingState.Th
 ghost use Rattle.exchange.specs.offer.Added.{with_added_channels, with_added_media};
 ghost use Rattle.exchange.specs.offer.FreshNames.{AreFresh};
 ghost use Rattle.exchange.specs.offer.MadeOffer.{MakesOffer, placed_as, ready_with_added};
-ghost use Rattle.exchange.specs.offer.OfferRules.{IsNewName, KeepsOfferRules, KeepsPlaces};
+ghost use Rattle.exchange.specs.offer.OfferPlaces.{IsNewName, KeepsPlaces};
+ghost use Rattle.exchange.specs.offer.OfferRules.{IsOfferedWith, KeepsOfferRules};
 ghost use Rattle.exchange.specs.state.Exchange.{RefusesChannels, RefusesMedia, RefusesToOffer};
 ghost use Rattle.exchange.specs.state.ExchangeFollows.{Follows, IsSoundExchange};
 ghost use Rattle.exchange.specs.state.OwnSide.{with_direction_entry};

@@ -9,8 +9,7 @@ use Rattle.str0m_formats.proofs.Common.{lacks_true, lacks_from, H265ProfileTierL
 use Rattle.str0m_formats.proofs.format.FormatLineLaws.{set_all-append}
 use Rattle.str0m_formats.proofs.format.FormatParamsSet.{fields_filled, are_fields_fresh, set_each}
 use Rattle.str0m_formats.proofs.format.FormatParamsShown.{shown_slots_at, shown_bares_at, shown_joined_pair, shown_pieces_at, IsSolidPair}
-use Rattle.str0m_formats.proofs.format.FormatParamsShown.{IsShown, field_shows}
-use Rattle.str0m_formats.proofs.format.FormatParamsShown.{shown_is_single, shown_field_reads}
+use Rattle.str0m_formats.proofs.format.FormatParamsShown.{IsShown, field_shows, shown_is_single, shown_field_reads}
 use Rattle.str0m_formats.proofs.format.PairsJoined.{AreFreeOf, slice_split-join}
 use Rattle.str0m_formats.proofs.format.PairsLaws.{pairs_read_only}
 use Rattle.str0m_formats.proofs.format.PairsRows.{PairSlots, given_slots, given_slots-append, slot_look_given, mark_given_slots}
@@ -179,8 +178,8 @@ line_pieces_found (f ∷ fs) p h =
           ∙ ap (λ (t : List (List ℕ × List ℕ)). given_slots (shown_slots_at f p) ++ t) rest.0,
       filter_map-append line_piece_bare (keyed ++ shown_bares_at f p) (line_all_field_pieces fs p)
           ∙ ap (λ (t : List (List ℕ)). t ++ filter_map line_piece_bare (line_all_field_pieces fs p))
-          (filter_map-append line_piece_bare keyed (shown_bares_at f p)
-          ∙ ap (λ (t : List (List ℕ)). t ++ filter_map line_piece_bare (shown_bares_at f p)) pairs.1
+          (filter_map-append line_piece_bare keyed (shown_bares_at f p) ∙ ap
+          (λ (t : List (List ℕ)). t ++ filter_map line_piece_bare (shown_bares_at f p)) pairs.1
           ∙ bares.1)
           ∙ ap (λ (t : List (List ℕ)). shown_bares_at f p ++ t) rest.1,
     )

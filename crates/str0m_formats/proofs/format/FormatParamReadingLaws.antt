@@ -1,8 +1,7 @@
 -- Numbers after keys are read both ways.
 use Rattle.str0m_formats.proofs.Common.{arith, ◌≡◌, ℕ, true, List, [], ◌∷◌, Option, refl, AllDigits, ltb-true, lt-ltb, le-leb, leb-true}
 use Rattle.str0m_formats.proofs.Common.{and_parts, IsTheOnly, IsNumber, IsNum, num, num_when_some, num_when_true, only_read, and_from}
-use Rattle.str0m_formats.proofs.Common.{reads_first}
-use Rattle.str0m_formats.proofs.Common.{Reads}
+use Rattle.str0m_formats.proofs.Common.{reads_first, Reads}
 use Rattle.str0m_formats.proofs.format.FormatParamOnly.{only_same}
 use Rattle.str0m_formats.specs.format.FormatParam.{IsHexElseDecimal}
 use Rattle.str0m_formats.specs.format.FormatParamReading.{param_all_digits, param_number_read, param_hex_read}

@@ -9,8 +9,7 @@ use Rattle.str0m_formats.proofs.format.FormatKeyAgain.{keyed_shown, shown_keyed,
 use Rattle.str0m_formats.proofs.format.FormatLineAgain.{line_pairs_unmarked, line_pairs_marked}
 use Rattle.str0m_formats.proofs.format.FormatParamsShown.{IsSolidPair, shown_joined_pair, shown_decimal_solid}
 use Rattle.str0m_formats.proofs.format.MergedPairsKeys.{IsLowKey, AreLowKeys, AreKeysApart, merged_apart, merged_others_all}
-use Rattle.str0m_formats.proofs.format.MergedPairsKeys.{merged_others_apart, merged_others_other}
-use Rattle.str0m_formats.proofs.format.MergedPairsKeys.{merged_others_same, merged_same}
+use Rattle.str0m_formats.proofs.format.MergedPairsKeys.{merged_others_apart, merged_others_other, merged_others_same, merged_same}
 use Rattle.str0m_formats.proofs.format.PairsSolid.{solid_from}
 use Rattle.str0m_formats.proofs.format.PairsTripleLaws.{AreTripleBytes, triple_texts_shown, h265_triple_small, h266_triple_small}
 use Rattle.str0m_formats.proofs.format.PairsTripleLaws.{h265_triple_again, h266_triple_again}

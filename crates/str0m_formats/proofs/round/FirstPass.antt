@@ -13,8 +13,7 @@ use Rattle.str0m_formats.specs.round.Choices.{IsChoice, choice_points_for}
 use Rattle.str0m_formats.specs.round.Claimed.{TypeSet, has, with_type, with_option, either_set}
 use Rattle.str0m_formats.specs.round.Narrowing.{narrowed}
 use Rattle.str0m_formats.specs.round.Rounds.{types_taken_by, placed, locked_to, then_in_round, role_type, rtx_type, red_type}
-use Rattle.str0m_formats.specs.round.Rounds.{only_audio_red, Becomes}
-use Rattle.str0m_formats.specs.round.Rounds.{Begun, MayBegin, StopsFirstPass}
+use Rattle.str0m_formats.specs.round.Rounds.{only_audio_red, Becomes, Begun, MayBegin, StopsFirstPass}
 use Rattle.str0m_formats.specs.row.PayloadParams.{AllTypesSmall, types_of, types, locked_types, open_types}
 
 -- ---- types of at most 127

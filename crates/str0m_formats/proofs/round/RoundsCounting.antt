@@ -17,8 +17,7 @@ use Rattle.str0m_formats.specs.declared.row.payload_params.PayloadParams.{Payloa
 use Rattle.str0m_formats.specs.round.Claimed.{TypeSet, has, with_type, with_option, either_set, free, free_order}
 use Rattle.str0m_formats.specs.round.Narrowing.{narrowed}
 use Rattle.str0m_formats.specs.round.Rounds.{then_in_round, role_type, rtx_type, locked_to, placed, types_taken_by, types_taken_after}
-use Rattle.str0m_formats.specs.round.Rounds.{settled_row}
-use Rattle.str0m_formats.specs.round.Rounds.{kept_or_free, kept_red, kept_rtx, StopsFirstPass, StopsSecondPass, Refused}
+use Rattle.str0m_formats.specs.round.Rounds.{settled_row, kept_or_free, kept_red, kept_rtx, StopsFirstPass, StopsSecondPass, Refused}
 use Rattle.str0m_formats.specs.row.PayloadParams.{types_of, types, locked_types, open_types}
 
 -- ---- a list without repeats that stands in another is no longer

@@ -7,8 +7,7 @@ use Rattle.str0m_formats.specs.declared.round.negotiation_error.NegotiationError
 use Rattle.str0m_formats.specs.declared.row.payload_params.PayloadParams.{PayloadParams}
 use Rattle.str0m_formats.specs.round.Claimed.{TypeSet, has, either_set, free}
 use Rattle.str0m_formats.specs.round.Rounds.{then_in_round, role_type, rtx_type, red_type, types_taken_by, types_taken_after, settled_row}
-use Rattle.str0m_formats.specs.round.Rounds.{kept_red, Becomes}
-use Rattle.str0m_formats.specs.round.Rounds.{Leaves}
+use Rattle.str0m_formats.specs.round.Rounds.{kept_red, Becomes, Leaves}
 use Rattle.str0m_formats.specs.row.PayloadParams.{locked_types, open_types}
 
 -- ---- what a step gives, by its parts

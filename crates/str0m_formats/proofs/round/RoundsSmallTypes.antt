@@ -4,8 +4,7 @@ use Rattle.str0m_formats.proofs.Common.{None, Ok, IfSome, refl, sym, ap, ◌∙�
 use Rattle.str0m_formats.proofs.Common.{le-ltb, IfOk-at_ok}
 use Rattle.str0m_formats.proofs.round.ClaimedSets.{free-small}
 use Rattle.str0m_formats.proofs.round.FirstPass.{none-parts, row_types_small_at, choice_types_small, placed-locked, placed-open_row}
-use Rattle.str0m_formats.proofs.round.FirstPass.{placed-no_choice}
-use Rattle.str0m_formats.proofs.round.FirstPass.{locked_parts}
+use Rattle.str0m_formats.proofs.round.FirstPass.{placed-no_choice, locked_parts}
 use Rattle.str0m_formats.proofs.round.RoundsInvariants.{locked_once}
 use Rattle.str0m_formats.proofs.round.RoundsRowSteps.{row_steps, role-given, rtx-given, red-given, kept-given}
 use Rattle.str0m_formats.proofs.round.RoundsWhole.{row_before}

@@ -29,10 +29,10 @@ abbrev pub line_piece_bare : List ℕ → Option (List ℕ)
 line_piece_bare piece = when (lacks 61 piece) (trim piece)
 
 unfoldable pub line_piece_pairs : List (List ℕ) → List (List ℕ × List ℕ)
-line_piece_pairs line_pieces = filter_map line_piece_pair line_pieces
+line_piece_pairs pieces = filter_map line_piece_pair pieces
 
 unfoldable pub line_piece_bares : List (List ℕ) → List (List ℕ)
-line_piece_bares line_pieces = filter_map line_piece_bare line_pieces
+line_piece_bares pieces = filter_map line_piece_bare pieces
 
 -- what the pieces without a key say
 pub record IsFormatOfBares (pieces : List (List ℕ)) (p : FormatParams) : Type 0 where

@@ -30,7 +30,7 @@ abbrev pub HeldValue : KeyKind → Type 0
 HeldValue flag = Bool
 HeldValue (exactly text) = Unit {0}
 HeldValue anything = Unit {0}
-HeldValue key_kind = ℕ
+HeldValue kind = ℕ
 
 -- The table of the keys: the kind of each one's values, and the parameter that holds such a value. The last four ask for what
 -- isn't there of AMR-WB (RFC 4867, section 8.2).

@@ -7,8 +7,7 @@ use Rattle.str0m_formats.specs.format.PairsReading.{params_read}
 use Rattle.str0m_formats.specs.round.Narrowing.{narrowed_telephone_max}
 use Rattle.str0m_sdp.proofs.Common.{rules, arith, ◌≡◌, ◌≢◌, ℕ, false, List, [], ◌∷◌, Some, refl, All, get_or, AllByRecursion, types}
 use Rattle.str0m_sdp.proofs.Common.{AllDistinct, codec_content, events, format_of_fmtp, empty_format, IsPlain, Codec, FormatParam}
-use Rattle.str0m_sdp.proofs.Common.{FormatParams}
-use Rattle.str0m_sdp.proofs.Common.{PayloadParams, HoldsRowNumbers, BareRange}
+use Rattle.str0m_sdp.proofs.Common.{FormatParams, PayloadParams, HoldsRowNumbers, BareRange}
 use Rattle.str0m_sdp.proofs.section.MadeSectionFrame.{NamesNoType, NameNoType}
 use Rattle.str0m_sdp.proofs.section.MadeSectionRead.{IsBareFrame, DescribesRows, made_section_describes}
 use Rattle.str0m_sdp.proofs.section.MappingsBack.{IsSaid}

@@ -3,12 +3,10 @@ use Rattle.str0m_formats.specs.declared.codec.Codec.TheVariants as codec
 use Rattle.str0m_sdp.proofs.Common.{arith, ◌≡◌, ◌==◌, ◌&&◌, ◌||◌, ℕ, Bool, true, false, List, [], ◌∷◌, ◌++◌, Option, Some, None}
 use Rattle.str0m_sdp.proofs.Common.{option_to_list, refl, sym, ap, ◌∙◌, AllByRecursion, list_any, ne_eqb, append-nil, list_any-append, when}
 use Rattle.str0m_sdp.proofs.Common.{has, types_of, rtp_rate, empty_format, Codec, CodecSpec, Apt, BarePtList, FormatParam, PayloadParams}
-use Rattle.str0m_sdp.proofs.Common.{bytes_eq}
-use Rattle.str0m_sdp.proofs.Common.{filter_map, eqb-false, line_all_of_both}
+use Rattle.str0m_sdp.proofs.Common.{bytes_eq, filter_map, eqb-false, line_all_of_both}
 use Rattle.str0m_sdp.proofs.section.MadeSectionFrame.{NameNoType, NamesNoType}
 use Rattle.str0m_sdp.proofs.section.RowAttributesReads.{row_fmtp_lines, red_reads, reads, row_lines_each, row_all_feedback, row_all_fmtp}
-use Rattle.str0m_sdp.proofs.section.RowAttributesReads.{row_all_rtx, row_all_red, row_lines_quiet}
-use Rattle.str0m_sdp.proofs.section.RowAttributesReads.{row_append_said, row_parts_said}
+use Rattle.str0m_sdp.proofs.section.RowAttributesReads.{row_all_rtx, row_all_red, row_lines_quiet, row_append_said, row_parts_said}
 use Rattle.str0m_sdp.proofs.section.SectionRowsApart.{row_type_is_itself, pt_apart}
 use Rattle.str0m_sdp.proofs.section.SectionRowsParts.{rows_all_always, rows_none_passes, rows_or_false, rows_all_weaker}
 use Rattle.str0m_sdp.specs.attribute.Feedback.{is_feedback}

@@ -8,15 +8,13 @@ use Rattle.str0m_sdp.proofs.section.FmtpLinesAnswers.{fmtp_values_apart, fmtp_va
 use Rattle.str0m_sdp.proofs.section.MadeSectionFrame.{HasNoTypes, NameNoType, frame_mapping, frame_maps, frame_feedback, frame_values}
 use Rattle.str0m_sdp.proofs.section.MadeSectionFrame.{frame_apt, frame_companion}
 use Rattle.str0m_sdp.proofs.section.RowAttributesAnswers.{NamesItself, row_entries, row_and_false, row_none_with, row_rtx_own, row_red_own}
-use Rattle.str0m_sdp.proofs.section.RowAttributesAnswers.{row_feedback_apart}
-use Rattle.str0m_sdp.proofs.section.RowAttributesAnswers.{row_feedback_own, row_mapping_own}
+use Rattle.str0m_sdp.proofs.section.RowAttributesAnswers.{row_feedback_apart, row_feedback_own, row_mapping_own}
 use Rattle.str0m_sdp.proofs.section.RowAttributesReads.{reads, row_fmtp_lines, red_reads, row_lines_quiet, row_all_feedback, row_all_fmtp}
 use Rattle.str0m_sdp.proofs.section.SectionRowsApart.{LacksRowType, RowRoles, row_type_unique, roles, row_distinct, row_has_pt, row_has_rtx}
 use Rattle.str0m_sdp.proofs.section.SectionRowsApart.{pt_apart}
 use Rattle.str0m_sdp.proofs.section.SectionRowsOwn.{AreRowsOpen, own_said}
 use Rattle.str0m_sdp.proofs.section.SectionRowsParts.{rows_all_always, rows_or_false, rows_all_weaker, rows_all_together, rows_taken_apart}
-use Rattle.str0m_sdp.proofs.section.SectionRowsParts.{rows_none_passes, rows_none_counted}
-use Rattle.str0m_sdp.proofs.section.SectionRowsParts.{count-append, rows_own_holds, AllRowsFail}
+use Rattle.str0m_sdp.proofs.section.SectionRowsParts.{rows_none_passes, rows_none_counted, count-append, rows_own_holds, AllRowsFail}
 use Rattle.str0m_sdp.specs.Common.{first, last}
 use Rattle.str0m_sdp.specs.attribute.Feedback.{is_feedback, has_feedback}
 use Rattle.str0m_sdp.specs.attribute.RtpMap.{map_of_spec}

@@ -5,8 +5,7 @@ use Rattle.str0m_formats.specs.row.KindRows.{has_audio}
 use Rattle.str0m_sdp.proofs.Common.{arith, ◌≡◌, ◌≢◌, ◌&&◌, ◌||◌, ℕ, Bool, true, false, cond, List, [], ◌∷◌, ◌++◌, map, Option, Some, None}
 use Rattle.str0m_sdp.proofs.Common.{refl, sym, ap, ◌∙◌, subst, option_map, or_left, or_right, AllByRecursion, AllZip, flat_map, cons_option}
 use Rattle.str0m_sdp.proofs.Common.{filter_map-append, filter-append, codec_content, events, other, format_of_fmtp, empty_format, types_of}
-use Rattle.str0m_sdp.proofs.Common.{types}
-use Rattle.str0m_sdp.proofs.Common.{SameRow, same_codec, has, AllDistinct, Codec, FormatParam, PayloadParams, IsPlain, ◌==◌, filter}
+use Rattle.str0m_sdp.proofs.Common.{types, SameRow, same_codec, has, AllDistinct, Codec, FormatParam, PayloadParams, IsPlain, ◌==◌, filter}
 use Rattle.str0m_sdp.proofs.Common.{filter_map, CodecContent, audio, video, has_video}
 use Rattle.str0m_sdp.proofs.section.MadeSectionFrame.{HasNoTypes, NameNoType}
 use Rattle.str0m_sdp.proofs.section.MappingsBack.{IsSaid, unlocked_row, rows_section, mapped_is, mapped_among, entry_pt, entry_rtx}

@@ -3,8 +3,7 @@ use Rattle.str0m_formats.specs.format.FormatParams.{set_param}
 use Rattle.str0m_sdp.proofs.Common.{rules, arith, ◌≡◌, ◌≤◌, ◌++◌, ℕ, Bool, cond, not, List, [], ◌∷◌, Option, Some, None, All, IfSome}
 use Rattle.str0m_sdp.proofs.Common.{filter, find, nat_eq, option_to_list, filter_map, All-nil, All-head, All-tail, IsBounded, static_spec}
 use Rattle.str0m_sdp.proofs.Common.{format_of_fmtp, empty_format, set_all_params, Codec, CodecSpec, FormatParam, FormatParams, nat_lt}
-use Rattle.str0m_sdp.proofs.Common.{option_map}
-use Rattle.str0m_sdp.proofs.Common.{All-append, All-filter, ArePlainModes, IsPlainDistance, line_events_end, is_line_event}
+use Rattle.str0m_sdp.proofs.Common.{option_map, All-append, All-filter, ArePlainModes, IsPlainDistance, line_events_end, is_line_event}
 use Rattle.str0m_sdp.proofs.Common.{line_without_event_ranges, values_of_lines, static_small}
 use Rattle.str0m_sdp.proofs.section.MappingsFilterMap.{filter_map_all, last_of_all}
 use Rattle.str0m_sdp.specs.Common.{distinct}

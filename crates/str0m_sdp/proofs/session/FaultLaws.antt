@@ -14,8 +14,7 @@ use Rattle.str0m_sdp.specs.declared.session.fault.Fault.TheVariants.{SecondSetup
 use Rattle.str0m_sdp.specs.section.Consistency.{Consistent, NeedsNoMapping, NamesNoOther, AgreesOnApt, IsMapped, FitsProto, apt_of}
 use Rattle.str0m_sdp.specs.section.Consistency.{is_direction, is_mid, is_setup, maps_type as maps_to, mid_of}
 use Rattle.str0m_sdp.specs.session.Fault.{after_mid, apt_fault, apt_clash, err_if_fault, fault_beside, first_fault, map_fault}
-use Rattle.str0m_sdp.specs.session.Fault.{mapping_fault, one_mid}
-use Rattle.str0m_sdp.specs.session.Fault.{proto_fault, setup_fault, value_fault, values_fault}
+use Rattle.str0m_sdp.specs.session.Fault.{mapping_fault, one_mid, proto_fault, setup_fault, value_fault, values_fault}
 
 -- ---- the first of several
 

@@ -2,8 +2,7 @@
 use Rattle.str0m_formats.specs.declared.codec.Codec.TheVariants as codec
 use Rattle.str0m_signal.proofs.Common.{◌≡◌, ◌≢◌, ◌≤◌, ℕ, List, [], ◌∷◌, ◌++◌, IfSome, refl, sym, ◌∙◌, arith, AllByRecursion}
 use Rattle.str0m_signal.proofs.Common.{HoldsRowNumbers, narrowed_telephone_max, types_of, types, Codec, PayloadParams, values_printed}
-use Rattle.str0m_signal.proofs.Common.{reads}
-use Rattle.str0m_signal.proofs.Common.{row_attrs, IsPlain, codec_content, other, AllTypesSmall, values_read, format_line_printed}
+use Rattle.str0m_signal.proofs.Common.{reads, row_attrs, IsPlain, codec_content, other, AllTypesSmall, values_read, format_line_printed}
 use Rattle.str0m_signal.proofs.Common.{line_printed_pairs}
 use Rattle.str0m_signal.proofs.back.ReadBackRowLines.{ReadAs, IsRateInRange, KeepsToRow, events_read, pairs_row_read}
 use Rattle.str0m_signal.proofs.session.SectionLines.{AreTypes}

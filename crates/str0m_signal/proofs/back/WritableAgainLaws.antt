@@ -5,8 +5,7 @@ use Rattle.str0m_signal.proofs.Common.{is_of_type, MediaAttribute, SessionAttrib
 use Rattle.str0m_signal.proofs.form.MediaAttributeAgain.{MediaComesBack, media_again}
 use Rattle.str0m_signal.proofs.form.SessionAttributeAgain.{session_again}
 use Rattle.str0m_signal.proofs.line.LinesAgain.{IsFineLine, IsOnLine, one_line, chain_lines, taken_line, line_behind_is}
-use Rattle.str0m_signal.proofs.line.LinesAgain.{line_bandwidth_again, line_head_of}
-use Rattle.str0m_signal.proofs.line.LinesAgain.{line_head_again}
+use Rattle.str0m_signal.proofs.line.LinesAgain.{line_bandwidth_again, line_head_of, line_head_again}
 use Rattle.str0m_signal.proofs.line.WordsCharacterStarts.{StartsWithin, of_utf8}
 use Rattle.str0m_signal.proofs.session.SectionAgain.{section_are_again, section_consistent_again, section_frame_again}
 use Rattle.str0m_signal.specs.back.Writable.{AreReadAs, SessionGoesWith, IsMediaReadAs, IsFrame, Writable, frame_of}

@@ -8,8 +8,7 @@ use Rattle.str0m_signal.proofs.Common.{replicate}
 use Rattle.str0m_signal.proofs.Common.{AllDigits, IsOctet, IsHexGroup, IsOneHexGroup, IsAddressEnd, AreHexGroups, AreAnyHexGroups, IsIpText}
 use Rattle.str0m_signal.proofs.Common.{IsSocket}
 use Rattle.str0m_signal.proofs.Common.{IsRelatedAddress, AreIceNames, IsSocketInRange, IsPrintableCandidate, socket_text, related_text}
-use Rattle.str0m_signal.proofs.Common.{candidate_extras_text}
-use Rattle.str0m_signal.proofs.Common.{octet_pairs, ip_text}
+use Rattle.str0m_signal.proofs.Common.{candidate_extras_text, octet_pairs, ip_text}
 use Rattle.str0m_signal.proofs.form.FmtpPrinted.{fmtp_behind_lacks}
 use Rattle.str0m_signal.proofs.session.AttributesPrinted.{HoldsNoEnd, attribute_no_end, attribute_no_ends, attribute_decimal_lacks}
 use Rattle.str0m_signal.proofs.session.AttributesPrinted.{attribute_decimal_no_end}

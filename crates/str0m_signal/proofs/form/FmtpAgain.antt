@@ -3,9 +3,7 @@ use Rattle.str0m_formats.proofs.{IsPairsLine, pairs_again}
 use Rattle.str0m_signal.proofs.Common.{rules, ◌≡◌, ◌≢◌, ◌⊎◌, ◌≤◌, ℕ, List, [], ◌∷◌, map, filter, refl, subst, arith, inl, inr}
 use Rattle.str0m_signal.proofs.Common.{AllByRecursion, join_with_byte, cases_Bool, ltb-true, param_text, params_read, FormatParam}
 use Rattle.str0m_signal.proofs.Common.{BarePtList, BareRange, IsSolidPair, shown_joined_pair, media_attribute_text, is_fmtp_shown}
-use Rattle.str0m_signal.proofs.Common.{shown_fmtp_line}
-use Rattle.str0m_signal.proofs.Common.{Fmtp}
-use Rattle.str0m_signal.proofs.Common.{IsRest}
+use Rattle.str0m_signal.proofs.Common.{shown_fmtp_line, Fmtp, IsRest}
 use Rattle.str0m_signal.proofs.form.FmtpPrinted.{AreShown, FmtpValues, fmtp_all_shown, fmtp_list_shown, list_printed, range_printed}
 use Rattle.str0m_signal.proofs.form.FmtpPrinted.{pairs_printed}
 use Rattle.str0m_signal.specs.back.Writable.{IsPrintedAs}

@@ -7,18 +7,14 @@ use Rattle.str0m_signal.proofs.Common.{FirstFit, lacks, ◌>>=◌, cut, strip, w
 use Rattle.str0m_signal.proofs.Common.{strip_at, num_when_some, lacks_true, lacks_from, Lacks-append, bind_some, some_is, if_some}
 use Rattle.str0m_signal.proofs.Common.{reads_first}
 use Rattle.str0m_signal.proofs.Common.{num_rest_true, num_number_lacks, num_found, num_reads, before_front, Reads, ArePairsRead}
-use Rattle.str0m_signal.proofs.Common.{pairs_read_only}
-use Rattle.str0m_signal.proofs.Common.{front}
-use Rattle.str0m_signal.proofs.Common.{before_lacks}
+use Rattle.str0m_signal.proofs.Common.{pairs_read_only, front, before_lacks}
 use Rattle.str0m_signal.proofs.line.BareValuesLaws.{bare_both}
 use Rattle.str0m_signal.proofs.line.PairLaws.{pair_value_given, EndsPairValue, IsBlank-skip}
 use Rattle.str0m_signal.proofs.line.PairsOneByOne.{all_pairs_found, all_pairs_given}
 use Rattle.str0m_signal.specs.form.Fmtp.{IsFmtpBlank, AreFmtpBlanks, IsFmtpKey, IsFmtpValue, IsFmtpEnd, StartsUnblank, IsFmtpPair}
-use Rattle.str0m_signal.specs.form.Fmtp.{AreFmtpPairs, IsFmtpPairsForm}
-use Rattle.str0m_signal.specs.form.Fmtp.{IsFmtpListForm, IsFmtpRangeForm, IsFmtpAnything, IsFmtp}
+use Rattle.str0m_signal.specs.form.Fmtp.{AreFmtpPairs, IsFmtpPairsForm, IsFmtpListForm, IsFmtpRangeForm, IsFmtpAnything, IsFmtp}
 use Rattle.str0m_signal.specs.form.FmtpReading.{fmtp_value_read, skip_blanks, fmtp_next_read, fmtp_key_read, fmtp_pair_read}
-use Rattle.str0m_signal.specs.form.FmtpReading.{fmtp_pairs_read}
-use Rattle.str0m_signal.specs.form.FmtpReading.{fmtp_pairs_form_read, fmtp_values_read, fmtp_fields_read}
+use Rattle.str0m_signal.specs.form.FmtpReading.{fmtp_pairs_read, fmtp_pairs_form_read, fmtp_values_read, fmtp_fields_read}
 
 -- ---- the parts of a pair
 

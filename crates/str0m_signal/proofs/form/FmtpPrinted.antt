@@ -9,12 +9,10 @@ use Rattle.str0m_signal.proofs.Common.{arith, lit<, lit≤, inl, inr, codes, All
 use Rattle.str0m_signal.proofs.Common.{digits_value, lt-ltb, decimal_is_IsNumeral, decimal_nonempty, append_assoc, append-nil, FirstFit}
 use Rattle.str0m_signal.proofs.Common.{Lacks, IsRest, IsNum, param_text, FormatParam, BareRange, BarePtList, Apt, pairs_read_is}
 use Rattle.str0m_signal.proofs.Common.{IsSolidPair, shown_joined_pair, media_attribute_text, is_fmtp_shown, shown_fmtp_line, attribute_line}
-use Rattle.str0m_signal.proofs.Common.{Fmtp}
-use Rattle.str0m_signal.proofs.Common.{address_lacks_both, shown_decimal_solid, printed_param_parsed}
+use Rattle.str0m_signal.proofs.Common.{Fmtp, address_lacks_both, shown_decimal_solid, printed_param_parsed}
 use Rattle.str0m_signal.proofs.form.FmtpLaws.{fmtp_key_starts}
 use Rattle.str0m_signal.proofs.session.AttributesPrinted.{HoldsNoEnd, attribute_no_ends, attribute_no_end, attribute_num_is}
-use Rattle.str0m_signal.proofs.session.AttributesPrinted.{attribute_decimal_lacks, attribute_decimal_no_end}
-use Rattle.str0m_signal.proofs.session.AttributesPrinted.{attribute_printed}
+use Rattle.str0m_signal.proofs.session.AttributesPrinted.{attribute_decimal_lacks, attribute_decimal_no_end, attribute_printed}
 use Rattle.str0m_signal.specs.back.Writable.{IsPrintedAs}
 use Rattle.str0m_signal.specs.form.Fmtp.{IsFmtpKey, IsFmtpValue, StartsUnblank, AreFmtpPairs, IsFmtpPairsForm, IsFmtpListForm}
 use Rattle.str0m_signal.specs.form.Fmtp.{IsFmtpRangeForm, IsFmtpAnything, IsFmtp}

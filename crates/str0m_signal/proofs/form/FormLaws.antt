@@ -1,7 +1,6 @@
 -- The pieces that forms share are read both ways.
 use Rattle.str0m_signal.proofs.Common.{◌≢◌, ◌≤◌, arith, cases_eq, eq-eqb, ne_eqb, num_digits_lack, digits_value, IsNumeral, ◌≡◌, ℕ, List}
-use Rattle.str0m_signal.proofs.Common.{[]}
-use Rattle.str0m_signal.proofs.Common.{◌∷◌, ◌++◌, length, Option, Some, None, refl, sym, ap, ◌∙◌, inl, inr, ltb-true, ◌>>=◌, cut, when}
+use Rattle.str0m_signal.proofs.Common.{[], ◌∷◌, ◌++◌, length, Option, Some, None, refl, sym, ap, ◌∙◌, inl, inr, ltb-true, ◌>>=◌, cut, when}
 use Rattle.str0m_signal.proofs.Common.{is_rest, num, IsNum, bind_some, some_is, cut_none, cut_none_lacks, cut_at, cut_found, strip_at}
 use Rattle.str0m_signal.proofs.Common.{strip_found, num_when_some, num_found, num_reads, num_rest_true, Reads, append-nil}
 use Rattle.str0m_signal.specs.form.FormReading.{behind_label_read, digits_read, text_piece_read, two_pieces_read, tailed_piece_after}

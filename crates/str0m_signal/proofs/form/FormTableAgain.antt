@@ -1,13 +1,11 @@
 -- The attributes of a table are printed as they were read: from the laws of each form.
 use Rattle.str0m_signal.proofs.Common.{candidate_num_both, ◌≡◌, ◌≤◌, ◌<◌, ◌^◌, ℕ, Bool, true, List, [], ◌∷◌, ◌++◌, map, refl, sym, subst}
-use Rattle.str0m_signal.proofs.Common.{lit≤, inl}
-use Rattle.str0m_signal.proofs.Common.{inr, digit_value, decimal, attribute_line}
+use Rattle.str0m_signal.proofs.Common.{lit≤, inl, inr, digit_value, decimal, attribute_line}
 use Rattle.str0m_signal.proofs.form.FormLaws.{form_text_both, form_two_both, form_tailed_both}
 use Rattle.str0m_signal.proofs.form.FormPiecesAgain.{PieceAgain, piece_text_again, piece_num_again, piece_two_again, piece_tailed_again}
 use Rattle.str0m_signal.proofs.form.FormPiecesAgain.{behind_again}
 use Rattle.str0m_signal.proofs.form.FormTableLaws.{ReadablePiece, LawfulForm, AllOfForms, form_labelled_lawful, form_words_lawful}
-use Rattle.str0m_signal.proofs.form.FormTableLaws.{form_all_labelled_lawful, forms_apart}
-use Rattle.str0m_signal.proofs.form.FormTableLaws.{form_heads_same, form_tail_is}
+use Rattle.str0m_signal.proofs.form.FormTableLaws.{form_all_labelled_lawful, forms_apart, form_heads_same, form_tail_is}
 use Rattle.str0m_signal.proofs.line.WordsCharacterStarts.{StartsWithin}
 use Rattle.str0m_signal.proofs.session.AttributesPrinted.{HoldsNoEnd}
 use Rattle.str0m_signal.specs.form.FormTable.{Piece, Form, word_form, word_forms_of, any_word_form, form_made_as, labelled_form}

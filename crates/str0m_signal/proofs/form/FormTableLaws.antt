@@ -7,8 +7,7 @@ use Rattle.str0m_signal.proofs.form.FormLaws.{form_behind_both}
 use Rattle.str0m_signal.specs.form.FormTable.{Piece, Form, own_form, form_made_as, labelled_form, word_form, AnyOf, labels_of_forms}
 use Rattle.str0m_signal.specs.form.FormTable.{first_form_read, any_form, word_forms_of}
 use Rattle.str0m_signal.specs.form.FormTable.{any_word_form, forms_labelled_by, IsUnusedForm, unused_form_read, first_byte, begins_with}
-use Rattle.str0m_signal.specs.form.FormTable.{forms_beginning, letter_forms_read}
-use Rattle.str0m_signal.specs.form.FormTable.{by_form_letter}
+use Rattle.str0m_signal.specs.form.FormTable.{forms_beginning, letter_forms_read, by_form_letter}
 
 abbrev pub ReadablePiece : {A : Type 0} → Piece A → Type 0
 ReadablePiece piece = Reads piece.Is piece.read

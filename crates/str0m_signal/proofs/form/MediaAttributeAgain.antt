@@ -10,10 +10,8 @@ use Rattle.str0m_signal.proofs.Common.{media_attribute_text, is_fmtp_shown, attr
 use Rattle.str0m_signal.proofs.Common.{RestrictionId, SimulcastLayer, candidate_text, candidate_both, IsCandidateText, Parted}
 use Rattle.str0m_signal.proofs.Common.{IsLongestBeginning, decimal, join_by, length, ltb-true, Lacks, IsNum, is_rest, beginning_of}
 use Rattle.str0m_signal.proofs.Common.{beginning_is, beginning_only, lacks_from, num_rest_true, num_when_some, num_when_true, IsReadAsCodec}
-use Rattle.str0m_signal.proofs.Common.{RtpMap}
-use Rattle.str0m_signal.proofs.Common.{Simulcast, filter, simulcast_sides_text, unless_munged, Fingerprint, Setup, Mid, Candidate}
-use Rattle.str0m_signal.proofs.Common.{SsrcGroup, Unused}
-use Rattle.str0m_signal.proofs.Common.{fingerprint_text, media_words, ActPass, SETUPS, reads_words}
+use Rattle.str0m_signal.proofs.Common.{RtpMap, Simulcast, filter, simulcast_sides_text, unless_munged, Fingerprint, Setup, Mid, Candidate}
+use Rattle.str0m_signal.proofs.Common.{SsrcGroup, Unused, fingerprint_text, media_words, ActPass, SETUPS, reads_words}
 use Rattle.str0m_signal.proofs.form.CandidateLineAgain.{candidate_again}
 use Rattle.str0m_signal.proofs.form.CandidateLineLaws.{candidate_begins}
 use Rattle.str0m_signal.proofs.form.FmtpAgain.{fmtp_again}
@@ -43,8 +41,7 @@ use Rattle.str0m_signal.specs.form.FormTable.{Form, any_form, led_by, two_pieces
 use Rattle.str0m_signal.specs.form.FormTransport.{candidate_form, fingerprint_form, role_piece}
 use Rattle.str0m_signal.specs.form.Forms.{BehindLabel, IsTextPiece, TwoParts}
 use Rattle.str0m_signal.specs.form.MediaAttribute.{media_texts, media_pairs, name_piece, media_mid, media_ssrc_group, media_rid}
-use Rattle.str0m_signal.specs.form.MediaAttribute.{media_simulcast, other_forms}
-use Rattle.str0m_signal.specs.form.MediaAttribute.{IsMediaLine, MediaForm}
+use Rattle.str0m_signal.specs.form.MediaAttribute.{media_simulcast, other_forms, IsMediaLine, MediaForm}
 use Rattle.str0m_signal.specs.form.MediaAttributeReading.{role_read}
 use Rattle.str0m_signal.specs.form.Rid.{IsRid}
 use Rattle.str0m_signal.specs.form.RidReading.{rid_fields_read}
@@ -213,11 +210,7 @@ media_untyped_rid text id fields (body, e, (front, rest, f, lacks, name, directe
 media_rid_form : (text : List ℕ) (id : RestrictionId) (fields : List ℕ × (List ℕ × List (List ℕ × List ℕ)))
     → BehindLabel label.RID.now IsUntypedRid text (id, fields)
     → BehindLabel label.RID.now IsRid text (id, fields)
-media_rid_form text id fields (body, e, (front, rest, f, lacks, name, directed)) = (
-  body,
-  e,
-  (front, rest, f, lacks, name, directed.0),
-)
+media_rid_form text id fields (body, e, (front, rest, f, lacks, name, directed)) = (body, e, (front, rest, f, lacks, name, directed.0))
 
 media_rid_comes_back : OtherMediaAgain media_rid
 media_rid_comes_back = form_made_again (led_by label.RID.now (record { Is = IsRid; read = rid_fields_read })) _ _

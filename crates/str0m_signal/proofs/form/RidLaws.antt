@@ -13,13 +13,11 @@ use Rattle.str0m_signal.proofs.line.PartLaws.{parted_both}
 use Rattle.str0m_signal.specs.form.Fmtp.{AreFmtpBlanks, IsFmtpKey, IsFmtpValue, OneByOne}
 use Rattle.str0m_signal.specs.form.FmtpReading.{fmtp_value_read, skip_blanks, fmtp_key_read, fmtp_pairs_at}
 use Rattle.str0m_signal.specs.form.Rid.{IsActiveRid, IsRestriction, AreRestrictions, AreTypedRidLists, AreRidLists, IsRidMore}
-use Rattle.str0m_signal.specs.form.Rid.{IsRidDirection, IsDirectedRid}
-use Rattle.str0m_signal.specs.form.Rid.{IsRid}
+use Rattle.str0m_signal.specs.form.Rid.{IsRidDirection, IsDirectedRid, IsRid}
 use Rattle.str0m_signal.specs.form.RidReading.{active_rid_read, rid_next_read, restriction_read, restrictions_read, restricted_read}
 use Rattle.str0m_signal.specs.form.RidReading.{rid_pts_read}
 use Rattle.str0m_signal.specs.form.RidReading.{typed_rid_lists_after, typed_rid_lists_read, rid_lists_after, rid_lists_read, rid_more_read}
-use Rattle.str0m_signal.specs.form.RidReading.{rid_direction_read, directed_rid_read}
-use Rattle.str0m_signal.specs.form.RidReading.{rid_fields_read}
+use Rattle.str0m_signal.specs.form.RidReading.{rid_direction_read, directed_rid_read, rid_fields_read}
 
 -- ---- one restriction
 

@@ -7,8 +7,7 @@ use Rattle.str0m_signal.proofs.Common.{◌≡◌, ◌<◌, ◌≤◌, ℕ, List,
 use Rattle.str0m_signal.proofs.Common.{codes, decimal, decimal_nonempty, Lacks, IsRest, IsPt, codec_printed_and_read, Codec, codec_read_as}
 use Rattle.str0m_signal.proofs.Common.{media_attribute_text, RtcpFb, channels_text, rtp_map_text, RtpMap, codec_text, IsReadAsCodec}
 use Rattle.str0m_signal.proofs.session.AttributesPrinted.{HoldsNoEnd, attribute_no_ends, attribute_no_end, attribute_num_is}
-use Rattle.str0m_signal.proofs.session.AttributesPrinted.{attribute_decimal_lacks, attribute_decimal_no_end}
-use Rattle.str0m_signal.proofs.session.AttributesPrinted.{attribute_printed}
+use Rattle.str0m_signal.proofs.session.AttributesPrinted.{attribute_decimal_lacks, attribute_decimal_no_end, attribute_printed}
 use Rattle.str0m_signal.specs.back.Writable.{IsPrintedAs}
 use Rattle.str0m_signal.specs.form.Forms.{BehindLabel, IsTextPiece, TwoParts}
 use Rattle.str0m_signal.specs.form.MediaAttribute.{IsMediaLine}

@@ -10,8 +10,7 @@ use Rattle.str0m_signal.proofs.form.FormTableAgain.{form_labelled_whole, form_wo
 use Rattle.str0m_signal.proofs.form.FormTableLaws.{LawfulForm, AllOfForms, ◌also◌, form_any_lawful, form_labelled_lawful, form_made_lawful}
 use Rattle.str0m_signal.proofs.form.FormTableLaws.{form_unused_reads}
 use Rattle.str0m_signal.proofs.form.MediaAttributeAgain.{media_role_kept, media_candidate_lawful, media_fingerprint_lawful}
-use Rattle.str0m_signal.proofs.form.MediaAttributeAgain.{media_candidate_back}
-use Rattle.str0m_signal.proofs.form.MediaAttributeAgain.{media_printed_fingerprint}
+use Rattle.str0m_signal.proofs.form.MediaAttributeAgain.{media_candidate_back, media_printed_fingerprint}
 use Rattle.str0m_signal.proofs.line.LinesLaws.{attribute_line_both}
 use Rattle.str0m_signal.proofs.line.WordsAgain.{IsFilledGroup, group_again, word_group_filled, word_meaning_again, word_meaning_text}
 use Rattle.str0m_signal.proofs.line.WordsAgain.{word_names_text}

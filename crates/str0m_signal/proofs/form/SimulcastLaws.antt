@@ -4,8 +4,7 @@ use Rattle.str0m_signal.proofs.Common.{rules, ◌≡◌, ◌≢◌, ℕ, Bool, t
 use Rattle.str0m_signal.proofs.Common.{arith, inl, inr, codes, is_some, ltb-true, and_parts, and_from, RestrictionId, SimulcastLayer}
 use Rattle.str0m_signal.proofs.Common.{layer_name_text, ◌>>=◌, cut, strip, when, lacks, Parted, Lacks, IsRest, Sound, bind_some, some_is}
 use Rattle.str0m_signal.proofs.Common.{sound_or, cut_none, cut_at, cut_found, strip_found, lacks_true, lacks_from, num_when_some}
-use Rattle.str0m_signal.proofs.Common.{num_when_true}
-use Rattle.str0m_signal.proofs.Common.{num_rest_true, Reads, chars}
+use Rattle.str0m_signal.proofs.Common.{num_when_true, num_rest_true, Reads, chars}
 use Rattle.str0m_signal.proofs.form.FormLaws.{form_behind_both}
 use Rattle.str0m_signal.proofs.line.PartLaws.{parted_both}
 use Rattle.str0m_signal.specs.form.FormReading.{behind_label_read, parted_piece_read}
@@ -13,8 +12,7 @@ use Rattle.str0m_signal.specs.form.Forms.{BehindLabel, TwoParts}
 use Rattle.str0m_signal.specs.form.RidStreamName.{is_name_character, IsStreamName, is_stream_name}
 use Rattle.str0m_signal.specs.form.Simulcast.{IsAlternative, IsLayer, IsSide, AreSides, IsSimulcast}
 use Rattle.str0m_signal.specs.form.SimulcastReading.{alternative_after, alternative_read, first_layer_name_after, layer_read, side_read}
-use Rattle.str0m_signal.specs.form.SimulcastReading.{sides_after}
-use Rattle.str0m_signal.specs.form.SimulcastReading.{sides_read, simulcast_of_layers, simulcast_fields_read}
+use Rattle.str0m_signal.specs.form.SimulcastReading.{sides_after, sides_read, simulcast_of_layers, simulcast_fields_read}
 
 -- ---- names
 

@@ -3,8 +3,7 @@ use Rattle.str0m_signal.proofs.Common.{rules, ◌≡◌, ◌≢◌, ◌⊎◌, �
 use Rattle.str0m_signal.proofs.Common.{arith, inl, inr, codes, digit_value, lt-ltb, eq-eqb, ne_eqb, cases_eq, ◌>>=◌, cut, strip, lacks, num}
 use Rattle.str0m_signal.proofs.Common.{Parted, Lacks, IsRest, IsNum, beginning_is, beginning_only, bind_some, if_some, some_is, cut_none}
 use Rattle.str0m_signal.proofs.Common.{cut_none_lacks, cut_at, cut_found, strip_found, lacks_true, lacks_from, num_number_lacks}
-use Rattle.str0m_signal.proofs.Common.{candidate_num_both}
-use Rattle.str0m_signal.proofs.Common.{Reads, append-nil}
+use Rattle.str0m_signal.proofs.Common.{candidate_num_both, Reads, append-nil}
 use Rattle.str0m_signal.proofs.form.FormLaws.{form_text_both, form_two_both}
 use Rattle.str0m_signal.proofs.line.PartLaws.{parted_both}
 use Rattle.str0m_signal.specs.form.FormReading.{text_piece_read, two_pieces_read, parted_piece_read}

@@ -3,8 +3,7 @@ use Rattle.std.proofs.Math.Seq.{drop-append_seam}
 use Rattle.str0m_signal.proofs.Common.{rules, ◌≡◌, ℕ, List, [], ◌∷◌, ◌++◌, length, Some, refl, sym, ap, subst, ◌∙◌, arith, inl, inr, codes}
 use Rattle.str0m_signal.proofs.Common.{ltb-true, bytes_eq-Decides, some_pair_parts, Lacks, ◌>>=◌, cut, strip, when, is_rest, cut_at}
 use Rattle.str0m_signal.proofs.Common.{cut_found, strip_found, num_when_some, num_when_true, bind_some, some_is, AllByRecursion, drop}
-use Rattle.str0m_signal.proofs.Common.{num_digits_lack}
-use Rattle.str0m_signal.proofs.Common.{num_rest_true, reads_either, Reads}
+use Rattle.str0m_signal.proofs.Common.{num_digits_lack, num_rest_true, reads_either, Reads}
 use Rattle.str0m_signal.proofs.form.FormLaws.{form_digits_both}
 use Rattle.str0m_signal.proofs.line.LinesLaws.{line_found, line_given}
 use Rattle.str0m_signal.proofs.session.SectionLaws.{section_field_both}

@@ -5,8 +5,7 @@ use Rattle.str0m_sdp.proofs.{rows_bounded}
 use Rattle.str0m_signal.proofs.Common.{rules, ◌≡◌, ◌⊎◌, arith, param_text, ℕ, Bool, List, [], ◌∷◌, get_or, Option, Result, Ok, Err, All}
 use Rattle.str0m_signal.proofs.Common.{IfOk, inl, inr, subst, sym, MatchBool, Bor, cons_option, All-nil, FormatParam, KeepsToLine}
 use Rattle.str0m_signal.proofs.Common.{HasBoundedRows, MediaAttribute, SdpError, MediaLine, Sdp, FirstFit, IsParsedParam, AreParsedParams}
-use Rattle.str0m_signal.proofs.Common.{AreJoinedPairs}
-use Rattle.str0m_signal.proofs.Common.{merged, IsInBounds, KeepsToLines}
+use Rattle.str0m_signal.proofs.Common.{AreJoinedPairs, merged, IsInBounds, KeepsToLines}
 use Rattle.str0m_signal.proofs.form.MediaAttributeAgain.{media_other_whole, media_other_again}
 use Rattle.str0m_signal.specs.form.Fmtp.{IsFmtpPairsForm, IsFmtpListForm, IsFmtpRangeForm, IsFmtpAnything}
 use Rattle.str0m_signal.specs.form.FormTable.{any_form}

@@ -6,14 +6,12 @@ use Rattle.str0m_signal.proofs.Common.{rules, ◌≡◌, ℕ, Bool, false, cond,
 use Rattle.str0m_signal.proofs.Common.{subst, ◌∙◌, arith, codes, is_some, bytes_eq, ltb-true, both_ways, append-nil, Parted}
 use Rattle.str0m_signal.proofs.Common.{bytes_eq-Decides, Bandwidth, AUDIO, VIDEO, MediaType, Proto, IsRest, IsNum, FirstFit, ◌>>=◌, cut}
 use Rattle.str0m_signal.proofs.Common.{strip, when, is_rest, cut_at, cut_found, strip_at, strip_found, num_when_some, Sound, bind_some}
-use Rattle.str0m_signal.proofs.Common.{some_is}
-use Rattle.str0m_signal.proofs.Common.{sound_or, reads_first, num_number_lacks, num_rest_true, candidate_num_both, Reads}
+use Rattle.str0m_signal.proofs.Common.{some_is, sound_or, reads_first, num_number_lacks, num_rest_true, candidate_num_both, Reads}
 use Rattle.str0m_signal.proofs.Common.{false_from_ne_true, APPLICATION}
 use Rattle.str0m_signal.proofs.line.PartLaws.{parted_both}
 use Rattle.str0m_signal.specs.session.Section.{IsField, IsBandwidth, TextBegins, IsMediaKindText, IsProtoText, IsNoTypes, Head, IsHead}
 use Rattle.str0m_signal.specs.session.SectionReading.{field_read, bandwidth_read, unknown_kind_read, media_kind_read, proto_read}
-use Rattle.str0m_signal.specs.session.SectionReading.{numbers_read}
-use Rattle.str0m_signal.specs.session.SectionReading.{no_types_read, types_read, head_read}
+use Rattle.str0m_signal.specs.session.SectionReading.{numbers_read, no_types_read, types_read, head_read}
 use Rattle.str0m_values.proofs.WordLaws.{word_sound}
 
 pub section_field_both : (letter : List ℕ) → Reads (IsField letter) (field_read letter)

@@ -7,7 +7,8 @@ returns-in-Some-clause-said c = λ none one reads.
     let reading = rw c.in-Some.is at reads in
     on_ok_weaker c.note_against_outcomes.result
     (fate_says_read c.args.text.now c.args.ours.now.params.items c.in-Some.sdp _ c.args.notes.now c.note_against_outcomes.new.notes reading
-    one none)
+    one
+    none)
     c.note_against_outcomes.ensures.said
 
 pub returns-in-None-clause-said : goal.returns-in-None-clause-said

@@ -17,8 +17,9 @@ loop-attr-preserved c =
     let is = c.attr-item.is in
     elim c.match-attr.branch [
       | goal.in-RtcpFb w ↦
-          rw (w.of_types-is, w.of_all-is, w.add_words.ensures.added, w.as_str.ensures.value)
-          (feedback_typed_more attrs of_types of_all i w.in-RtcpFb.pt w.in-RtcpFb.value attr lt is w.in-RtcpFb.is w.add_words.ensures.within
+          rw (w.of_types-is, w.of_all-is, w.add_feedback_value.ensures.added, w.as_str.ensures.value)
+          (feedback_typed_more attrs of_types of_all i w.in-RtcpFb.pt w.in-RtcpFb.value attr lt is w.in-RtcpFb.is
+          w.add_feedback_value.ensures.within
           c.loop-attr.invariant)
       | goal.in_default w ↦
           rw (w.of_types-is, w.of_all-is, w.with_line-of_all.ensures)

@@ -1,5 +1,5 @@
 use Rattle.exchange.proofs.answer.RowLaws.{answered_rows_say, answered_rows_stand, answered_rows_once}
-use Rattle.exchange.proofs.answer.RowTypes.{answered_rows_apart}
+use Rattle.exchange.proofs.answer.RowsApart.{answered_rows_apart}
 use Rattle.exchange.proofs.answer.RowsPlain.{answered_rows_plain}
 use Rattle.exchange.proofs.answer.rows.rows_for.Goals as goal
 

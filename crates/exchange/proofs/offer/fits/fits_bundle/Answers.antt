@@ -1,6 +1,6 @@
 use Rattle.exchange.proofs.Common.{◌∙◌, All, subst, refl, take_all}
 use Rattle.exchange.proofs.offer.fits.fits_bundle.Goals as goal
-use Rattle.exchange.specs.answer.InBundle.{bundle_names}
+use Rattle.exchange.specs.answer.Bundle.{bundle_names}
 use Rattle.exchange.specs.offer.Fits.{FitsBundledName}
 
 pub returns : goal.returns

@@ -1,7 +1,7 @@
 use Rattle.exchange.proofs.Common.{ap, ◌∙◌, is_listed}
 use Rattle.exchange.proofs.section.StoppedLaws.{stopped_bundled_so}
 use Rattle.exchange.proofs.section.stopped.is_bundled_in.Goals as goal
-use Rattle.exchange.specs.answer.InBundle.{bundle_names}
+use Rattle.exchange.specs.answer.Bundle.{bundle_names}
 
 pub returns : goal.returns
 returns c =

@@ -1,7 +1,6 @@
 use Rattle.str0m_formats.proofs.Common.{refl, sym, ◌∙◌, arith, bytes_eq}
 use Rattle.str0m_formats.proofs.format.MergedPairsLaws.{as_many_pairs, merged_entry_there, merged_entry_new, merged_place_index_within}
-use Rattle.str0m_formats.proofs.format.MergedPairsLaws.{merged_placed_alike, merged_places_grow}
-use Rattle.str0m_formats.proofs.format.MergedPairsLaws.{merged_places_stay, pair_pushed}
+use Rattle.str0m_formats.proofs.format.MergedPairsLaws.{merged_placed_alike, merged_places_grow, merged_places_stay, pair_pushed}
 use Rattle.str0m_formats.proofs.format.merged_pairs.put_pair_ordered.Goals as goal
 use Rattle.str0m_formats.specs.format.FormatParam.{pair_texts}
 

@@ -1,5 +1,5 @@
 use Rattle.exchange.proofs.Common.{Some, ◌∙◌}
-use Rattle.exchange.proofs.answer.bundle.is_bundle_listed.Goals as goal
+use Rattle.exchange.proofs.answer.answered_bundle.is_bundle_listed.Goals as goal
 
 pub returns : goal.returns
 returns c = c.is_name_held.ensures ∙ c.requires (Some c.args.mid)

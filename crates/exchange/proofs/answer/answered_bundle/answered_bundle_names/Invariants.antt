@@ -1,6 +1,6 @@
 use Rattle.exchange.proofs.Common.{◌≡◌, ◌++◌, filter_map, length, zip}
-use Rattle.exchange.proofs.answer.bundle.answered_bundle_names.Given as goal
-use Rattle.exchange.specs.answer.Bundle.{answered_bundle_name}
+use Rattle.exchange.proofs.answer.answered_bundle.answered_bundle_names.Given as goal
+use Rattle.exchange.specs.answer.AnsweredBundle.{answered_bundle_name}
 
 -- the names so far, then those of what is left
 abbrev pub invariant-loop-section : goal.invariant-loop-section

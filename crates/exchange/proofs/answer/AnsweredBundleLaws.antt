@@ -1,10 +1,10 @@
 -- The group of an answer.
 use Rattle.exchange.proofs.Common.{◌≡◌, ◌++◌, ℕ, Bool, true, false, cond, List, [], ◌∷◌, Option, None, filter_map, map, refl, sym, ap, ◌∙◌}
 use Rattle.exchange.proofs.Common.{list_any, first, SessionAttribute, Sdp, Session, bundled_mids_of}
+use Rattle.exchange.specs.answer.AnsweredBundle.{answered_bundle}
 use Rattle.exchange.specs.answer.AnsweredSession.{BundlesAccepted, session_allows_mixed, answered_session, session_group_lines, is_accepted}
 use Rattle.exchange.specs.answer.AnsweredSession.{session_mixed_lines}
-use Rattle.exchange.specs.answer.Bundle.{answered_bundle}
-use Rattle.exchange.specs.answer.InBundle.{bundle_names_or_none}
+use Rattle.exchange.specs.answer.Bundle.{bundle_names_or_none}
 use Rattle.exchange.specs.declared.state.own_side.OwnSide.{OwnSide}
 use Rattle.str0m_sdp.specs.declared.attribute.SessionAttribute.TheVariants.{AllowMixedExts}
 

@@ -4,7 +4,7 @@ use Rattle.exchange.proofs.Common.{IfSome, if◌then◌else◌, find, option_map
 use Rattle.exchange.proofs.Common.{Contains, times-append, PayloadParams, AllDistinct, has, times, locked_types, types, types_of, distinct}
 use Rattle.exchange.proofs.Common.{MediaLine, rows, ◌>>=◌}
 use Rattle.exchange.proofs.answer.RowsListLaws.{distinct-once, list_found}
-use Rattle.exchange.proofs.answer.RowsTypeLaws.{weight_no_more, weight_found}
+use Rattle.exchange.proofs.answer.RowsWeightLaws.{weight_no_more, weight_found}
 use Rattle.exchange.specs.answer.Rows.{row_agreed_type, answer_to_row, answer_under_type, answered_rows, row_as_answered, row_matches}
 
 -- a type that is agreed on is ours

@@ -1,6 +1,6 @@
 -- The rules that each section of an answer keeps, beside the section that it answers.
 use Rattle.exchange.specs.Prelude.{AnswersDirection, AnswersRole, MediaAttribute, MediaLine, MediaType, PayloadParams, Proto, Sdp, Setup, first, is_media, media_creds, media_fingerprint, media_setup, section_direction, types}
-use Rattle.exchange.specs.answer.Accepted.{setup_in_force}
+use Rattle.exchange.specs.answer.InForce.{setup_in_force}
 use Rattle.exchange.specs.answer.Rows.{answered_rows}
 use Rattle.exchange.specs.declared.state.own_side.OwnSide.{OwnSide}
 use Rattle.exchange.specs.section.Stopped.{IsStopped, name_of}

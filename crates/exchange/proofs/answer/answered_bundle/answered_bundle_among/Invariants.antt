@@ -1,5 +1,5 @@
 use Rattle.exchange.proofs.Common.{◌≡◌, Some, filter, take, is_listed}
-use Rattle.exchange.proofs.answer.bundle.answered_bundle_among.Given as goal
+use Rattle.exchange.proofs.answer.answered_bundle.answered_bundle_among.Given as goal
 
 -- those so far that are listed
 abbrev pub invariant-loop-mid : goal.invariant-loop-mid

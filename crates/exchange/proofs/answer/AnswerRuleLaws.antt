@@ -3,12 +3,11 @@ use Rattle.exchange.proofs.Common.{◌≡◌, ◌≢◌, ℕ, Bool, true, false,
 use Rattle.exchange.proofs.Common.{map, find, option_to_list, refl, subst, sym, ap, ◌∙◌, append-nil, filter_map-append, AllZip, flat_map}
 use Rattle.exchange.proofs.Common.{PayloadParams, types, first, direction_attribute, is_media, MediaAttribute, MediaType, Audio, Video}
 use Rattle.exchange.proofs.Common.{Application, Unknown, Proto, Srtp, Sctp, Setup, MediaLine, Sdp, is_mid, mid_of, maps_type, is_of_type}
-use Rattle.exchange.proofs.Common.{made}
-use Rattle.exchange.proofs.Common.{row_attrs, section_direction, AnswersDirection, Direction}
+use Rattle.exchange.proofs.Common.{made, row_attrs, section_direction, AnswersDirection, Direction}
 use Rattle.exchange.proofs.answer.OfferedLaws.{accepted_channels_offered, accepted_media_offered}
 use Rattle.exchange.specs.answer.Accepted.{AcceptsChannels, AcceptsMedia, accepted_candidate_line, first_accepted_lines, accepted_frame}
-use Rattle.exchange.specs.answer.Accepted.{accepted_layer_lines, accepted_media_lines}
-use Rattle.exchange.specs.answer.Accepted.{accepted_msid_lines}
+use Rattle.exchange.specs.answer.Accepted.{accepted_layer_lines, accepted_media_lines, accepted_msid_lines}
+use Rattle.exchange.specs.answer.AnswerRules.{HasAnswerFor, HasShapeOf, IsAcceptedExactly, IsReachableAnswer, KeepsRules, SaysOnlyOffered}
 use Rattle.exchange.specs.answer.AnsweredSection.{AnswersSection, SaysChoice}
 use Rattle.exchange.specs.answer.Choice.{IsSectionChoice, choice_by_kind, choice_by_name, channels_choice, rows_choice}
 use Rattle.exchange.specs.answer.RejectedSection.{rejected_direction, first_rejected_type, first_rejected_line, rejecting_section}
@@ -17,7 +16,6 @@ use Rattle.exchange.specs.declared.answer.choice.Choice.{Choice}
 use Rattle.exchange.specs.declared.answer.choice.Choice.TheVariants.{Rejected, Media, Channels}
 use Rattle.exchange.specs.declared.state.own_side.DataChannels.{DataChannels}
 use Rattle.exchange.specs.declared.state.own_side.OwnSide.{OwnSide}
-use Rattle.exchange.specs.offer.Rules.{HasAnswerFor, HasShapeOf, IsAcceptedExactly, IsReachableAnswer, KeepsRules, SaysOnlyOffered}
 use Rattle.exchange.specs.section.RepeatedLines.{repeated_lines}
 use Rattle.exchange.specs.section.Stopped.{IsStopped, name_of}
 use Rattle.exchange.specs.state.OwnSide.{own_direction}
