@@ -43,6 +43,8 @@
 //!   - `copied_over`: Descriptions that were read back, made equal to those that were said.
 //!   - `exchange`: Exchanges of offers and answers.
 //!   - `exchange_error`: Why a call of an exchange is refused.
+//!   - `known_lines`: What lines are read as that were never printed: of the commonest a law says it, the others are printed and read one by one.
+//!   - `known_reading`: What a description is read as that was never printed.
 //!   - `own_side`: What this side says of itself.
 //!   - `read_back`: A description whose text is read again.
 //!   - `signaling_state`: Where an exchange of offers and answers stands.

@@ -3,6 +3,8 @@
 pub(crate) mod copied_over;
 pub(crate) mod exchange;
 pub(crate) mod exchange_error;
+pub(crate) mod known_lines;
+pub(crate) mod known_reading;
 pub(crate) mod own_side;
 pub(crate) mod read_back;
 pub(crate) mod signaling_state;

@@ -24,13 +24,11 @@ use crate::offer::pending::Pending;
 use crate::section::places::sections_of;
 use crate::state::copied_over::copy_over;
 use crate::state::exchange_error::ExchangeError;
+use crate::state::known_reading::reading_of;
 use crate::state::own_side::{OwnSide, with_entry};
-use crate::state::read_back::read_back;
 use crate::state::signaling_state::SignalingState;
 use std::alloc::{AllocError, Global};
-use str0m_signal::{
-    CodecConfig, Direction, IceCreds, Items, MediaKind, Mid, Round, Sdp, VersionedSdp,
-};
+use str0m_signal::{CodecConfig, Direction, IceCreds, Items, MediaKind, Mid, Round, Sdp};
 
 /// One side of an exchange of offers and answers (RFC 3264; RFC 8829).
 #[derive(Drop)]
@@ -55,9 +53,6 @@ struct Offering {
     pending: Pending,
 }
 
-/// The room that most printed descriptions fit in, in bytes: no answer depends on it.
-const USUAL_ROOM: usize = 4096;
-
 /// A copy of a description, where the other side reads the text that it prints with this version as what it says.
 pub(crate) fn printable_copy(
     alloc: Global,
@@ -68,10 +63,7 @@ pub(crate) fn printable_copy(
         (IsReadBack sdp.now (versioned_text version sdp.now) → ⊥)
         (λ copy. (copy ≡ sdp.now) × IsReadBack sdp.now (versioned_text version sdp.now))) }
 {
-    let printed = VersionedSdp { sdp, version };
-    let mut text = String::with_capacity(alloc, USUAL_ROOM)?;
-    write!(text, "{printed}")?;
-    let Some(mut copy) = read_back(alloc, sdp, text.as_str())? else {
+    let Some(mut copy) = reading_of(alloc, sdp, version)? else {
         return Ok(None);
     };
     copy_over(sdp, &mut copy)?;

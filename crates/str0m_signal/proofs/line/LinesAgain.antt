@@ -54,7 +54,7 @@ pub bandwidth_again : (bw : Option Bandwidth) → IfSome bw (IsOnLine IsBandwidt
 bandwidth_again bw h = grind (arith, append_assoc)
 
 -- the formats of an m-line
-abbrev AreFormats : List ℕ → List ℕ → Type 0
+abbrev pub AreFormats : List ℕ → List ℕ → Type 0
 AreFormats = FirstFit (Parted 32 (IsNum 255)) NoTypes
 
 types_again : (types pts : List ℕ) → AreFormats types pts → pts ≢ [] → HoldsNoEnd types
@@ -68,7 +68,7 @@ types_again types (pt ∷ pts) (inl are) some quiet =
     )
 
 -- what a channel prints is no type
-channel_is : AreFormats (codes "webrtc-datachannel") []
+pub channel_is : AreFormats (codes "webrtc-datachannel") []
 channel_is = grind (arith, none_reads, numbers_both)
 
 -- the formats as they print, and the types that they are read as
