@@ -14,7 +14,7 @@ glyph_other : (c d : ℕ) → digit_value c ≡ 36 → d < 16 → digit_glyph tr
 glyph_other c d far lt = grind arith
 
 -- two digits read as the byte that they write
-two_digits_read : (a b m n byte : ℕ) → a ≢ 43 → digit_value a ≡ m → digit_value b ≡ n → m < 16 → n < 16 → m * 16 + n ≡ byte
+pub two_digits_read : (a b m n byte : ℕ) → a ≢ 43 → digit_value a ≡ m → digit_value b ≡ n → m < 16 → n < 16 → m * 16 + n ≡ byte
     → IsHexByte (a ∷ b ∷ []) byte
 two_digits_read a b m n byte plus am bn small low sum = grind arith
 

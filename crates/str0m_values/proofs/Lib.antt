@@ -14,6 +14,7 @@ pub mod CutsNumLaws
 pub mod CutsOnlyLaws
 pub mod FingerprintLaws
 pub mod FingerprintPairs
+pub mod FingerprintPieces
 pub mod FingerprintZipLaws
 pub mod H264Patterns
 pub mod IdentifierBeginnings

@@ -1,7 +1,8 @@
 -- Fingerprints of certificates in texts (RFC 8122, section 5).
+use Rattle.std.specs.Char.{digit_value}
 use Rattle.std.specs.Fmt.{digit_glyph}
 use Rattle.std.specs.List.{AllZip, slice_split}
-use Rattle.std.specs.Prelude.{◌≡◌, ◌<◌, ◌==◌, ◌/◌, ◌%◌, ⊤, ℕ, true, List, [], ◌∷◌, ◌++◌, length, All, Any, Result, Ok, Err, codes, if◌then◌else◌, flat_map}
+use Rattle.std.specs.Prelude.{◌≡◌, ◌<◌, ◌==◌, ◌+◌, ◌*◌, ◌/◌, ◌%◌, ⊤, ℕ, true, List, [], ◌∷◌, ◌++◌, length, All, Any, Result, Ok, Err, codes, if◌then◌else◌, flat_map}
 use Rattle.std.specs.Str.{str_eq_ignore_ascii_case}
 use Rattle.str0m_values.specs.CutsParts.{Lacks, IsNumber}
 use Rattle.str0m_values.specs.declared.fingerprint.Fingerprint.{Fingerprint}
@@ -37,6 +38,10 @@ pieces_of text = slice_split (λ b. b == 58) text
 -- the piece is the byte, in hexadecimal as std reads it
 abbrev pub IsHexByte : List ℕ → ℕ → Type 0
 IsHexByte piece byte = IsNumber 16 255 piece byte
+
+-- the two characters are hex digits that write the byte
+abbrev pub IsWrittenBy : ℕ → ℕ → ℕ → Type 0
+IsWrittenBy high low byte = (digit_value high < 16) × (digit_value low < 16) × (byte ≡ digit_value high * 16 + digit_value low)
 
 -- the text is read as this fingerprint
 abbrev pub IsFingerprint : List ℕ → Fingerprint → Type 0

@@ -1,8 +1,9 @@
 //! Fingerprints of certificates.
 ghost use Rattle.std.specs.Fmt.{digit_glyph};
-ghost use Rattle.std.specs.Prelude.{◌≡◌, ◌<◌, ◌∷◌, ◌↔◌, IfOk, IsErr, IsErrOf, IsTrue, Some, true, flat_map};
+ghost use Rattle.std.specs.List.{AllZip};
+ghost use Rattle.std.specs.Prelude.{◌≡◌, ◌<◌, ◌∷◌, ◌↔◌, IfOk, IfSome, IsErr, IsErrOf, IsTrue, Some, true, flat_map};
 ghost use Rattle.str0m_values.specs.CutsParts.{Lacks};
-ghost use Rattle.str0m_values.specs.Fingerprint.{IsFingerprint, HasBadByte, IsBytesReading, IsFingerprintReading, Gives, CanBeReadBack, fingerprint_text, hex_pair, pairs_text, preference_of};
+ghost use Rattle.str0m_values.specs.Fingerprint.{IsFingerprint, IsHexByte, IsWrittenBy, HasBadByte, IsBytesReading, IsFingerprintReading, Gives, CanBeReadBack, fingerprint_text, hex_pair, pairs_text, pieces_of, preference_of};
 ghost use Rattle.str0m_values.specs.declared.fingerprint.Fingerprint.{Fingerprint};
 ghost use Rattle.str0m_values.specs.declared.fingerprint.FingerprintError.TheVariants.{NoSpace, BadByte, Memory};
 
@@ -60,7 +61,7 @@ impl Fingerprint {
     /// The name reaches to the first space. Each byte is in hexadecimal as std reads a `u8`, so one
     /// digit is enough, and a leading plus and leading zeros are allowed; an empty one is no byte.
     /// `NoSpace` where there is no space, `BadByte` where a byte can't be read, and `Memory` where
-    /// there is no room for what was read so far.
+    /// there is no room for the name or the bytes.
     pub fn from_str(alloc: Global, text: &str) -> Result<Fingerprint, FingerprintError>
         ensures reads { IfOk result (IsFingerprint text.now) }
         ensures only { (f : Fingerprint) → IsFingerprint text.now f → Gives f result }
@@ -113,6 +114,52 @@ fn read(alloc: Global, text: &str) -> Result<Fingerprint, FingerprintError>
 }
 
 fn read_bytes(alloc: Global, text: &str) -> Result<Items<u8>, FingerprintError>
+    ensures { IsBytesReading text.now result }
+{
+    match read_pairs(alloc, text.as_bytes())? {
+        Some(bytes) => Ok(bytes),
+        None => read_pieces(alloc, text),
+    }
+}
+
+/// The byte that two hex digits write.
+#[inline(always)]
+fn pair_byte(high: u8, low: u8) -> Option<u8>
+    ensures { IfSome result (IsWrittenBy high low) }
+{
+    let high = (high as char).to_digit(16)?;
+    let low = (low as char).to_digit(16)?;
+    Some((high * 16 + low) as u8)
+}
+
+/// The bytes of a text that is two hex digits for each, as nearly all are: these are read in place. `None` where it is
+/// another text, which may hold bytes nevertheless.
+fn read_pairs(alloc: Global, text: &[u8]) -> Result<Option<Items<u8>>, AllocError>
+    ensures { IfOk result (λ found. IfSome found (AllZip IsHexByte (pieces_of text.now))) }
+{
+    if text.len() % 3 != 2 {
+        return Ok(None);
+    }
+    let last = text.len() / 3;
+    let mut bytes = Vec::with_capacity(alloc, last + 1)?;
+    for i in 0..last {
+        let Some(byte) = pair_byte(text[3 * i], text[3 * i + 1]) else {
+            return Ok(None);
+        };
+        if text[3 * i + 2] != b':' {
+            return Ok(None);
+        }
+        bytes.push(byte)?;
+    }
+    let Some(byte) = pair_byte(text[3 * last], text[3 * last + 1]) else {
+        return Ok(None);
+    };
+    bytes.push(byte)?;
+    Ok(Some(Items(bytes)))
+}
+
+/// The bytes of the pieces, each as std reads it.
+fn read_pieces(alloc: Global, text: &str) -> Result<Items<u8>, FingerprintError>
     ensures { IsBytesReading text.now result }
 {
     let mut bytes = Items::empty(alloc);

@@ -1,5 +1,5 @@
 use Rattle.str0m_values.proofs.Common.{length, take, AllZip}
-use Rattle.str0m_values.proofs.fingerprint.read_bytes.Given as goal
+use Rattle.str0m_values.proofs.fingerprint.read_pieces.Given as goal
 use Rattle.str0m_values.specs.Fingerprint.{IsHexByte, pieces_of}
 
 abbrev pub invariant-loop-piece : goal.invariant-loop-piece

@@ -3,7 +3,7 @@ use Rattle.std.proofs.lemmas.Iterator.Splits.{YieldsList-from_str_split}
 use Rattle.str0m_values.proofs.Common.{◌≡◌, ℕ, List, ◌∷◌, [], ◌++◌, length, take, lit<, sym, ap, ◌∙◌, arith, subst, AllZip, take_more}
 use Rattle.str0m_values.proofs.Common.{length_push, take_all}
 use Rattle.str0m_values.proofs.FingerprintZipLaws.{AllZip-push}
-use Rattle.str0m_values.proofs.fingerprint.read_bytes.Goals as goal
+use Rattle.str0m_values.proofs.fingerprint.read_pieces.Goals as goal
 use Rattle.str0m_values.specs.Fingerprint.{IsHexByte, pieces_of}
 
 pub returns-in_default : goal.returns-in_default
