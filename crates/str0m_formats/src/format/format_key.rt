@@ -1,5 +1,5 @@
 //! The keys of format parameters, and their texts.
-ghost use Rattle.std.specs.Prelude.{◌≡◌, IfSome};
+ghost use Rattle.std.specs.Prelude.{◌≡◌, IfSome, length};
 ghost use Rattle.str0m_formats.specs.format.FormatKey.{key_text};
 ghost use Rattle.str0m_formats.specs.format.FormatParamReading.{key_read};
 
@@ -72,18 +72,49 @@ impl FormatKey {
         KEYS[self as usize].1
     }
 
+    /// A key whose text has so many bytes: of several the one that ends in this letter, by which they are told apart.
+    #[tactic(auto, unfolding(crate::specs::format::FormatKey::key_text))]
+    fn as_long(len: usize, last: u8) -> Option<FormatKey>
+        ensures { IfSome result (λ key. length (key_text key) ≡ len) }
+    {
+        match (len, last) {
+            (3, b't') => Some(FormatKey::Apt),
+            (3, _) => Some(FormatKey::Crc),
+            (4, _) => Some(FormatKey::Tier),
+            (6, b'o') => Some(FormatKey::Stereo),
+            (6, _) => Some(FormatKey::UseDtx),
+            (7, _) => Some(FormatKey::Profile),
+            (8, b'e') => Some(FormatKey::MinPTime),
+            (8, _) => Some(FormatKey::ModeSet),
+            (9, _) => Some(FormatKey::LevelIdx),
+            (10, _) => Some(FormatKey::ProfileId),
+            (11, _) => Some(FormatKey::OctetAlign),
+            (12, b'c') => Some(FormatKey::UseInbandFec),
+            (12, b'o') => Some(FormatKey::SpropStereo),
+            (12, _) => Some(FormatKey::Interleaving),
+            (14, _) => Some(FormatKey::RobustSorting),
+            (16, _) => Some(FormatKey::ProfileLevelId),
+            (18, b'e') => Some(FormatKey::PacketizationMode),
+            (18, b'f') => Some(FormatKey::SpropMaxDonDiff),
+            (18, _) => Some(FormatKey::ModeChangePeriod),
+            (23, _) => Some(FormatKey::LevelAsymmetryAllowed),
+            _ => None,
+        }
+    }
+
     /// The key of this very text.
     fn written(text: &str) -> Option<FormatKey>
         ensures { IfSome result (λ key. text.now ≡ key_text key) }
     {
-        KEYS.iter().map(|row| row.0).find(|key| text == key.text())
+        let key = FormatKey::as_long(text.len(), *text.as_bytes().last()?)?;
+        if text == key.text() { Some(key) } else { None }
     }
 
     /// The key of this text, without regard to ASCII case.
     pub(crate) fn named(text: &str) -> Option<FormatKey>
         ensures { result ≡ key_read text.now }
     {
-        // Nearly all keys stand in their own case, and texts are compared faster with it than without.
+        // Nearly all keys stand in their own case, and then one comparison is enough.
         match FormatKey::written(text) {
             Some(key) => Some(key),
             None => FormatKey::same(text),
