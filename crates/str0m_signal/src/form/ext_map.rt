@@ -49,6 +49,7 @@ fn uri(text: &str) -> Option<&str>
 }
 
 /// The extmap line of the text after `a=`.
+#[inline(always)]
 pub(crate) fn ext_map(alloc: Global, text: &str) -> Result<Option<MediaAttribute>, AllocError>
     ensures { IfOk result (λ found. found ≡ ext_map.read text.now) }
 {

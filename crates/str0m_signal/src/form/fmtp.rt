@@ -41,6 +41,7 @@ fn values(alloc: Global, more: &str) -> Result<Items<FormatParam>, AllocError>
 }
 
 /// The fmtp line of the text after `a=`.
+#[inline(always)]
 pub(crate) fn fmtp(alloc: Global, text: &str) -> Result<Option<MediaAttribute>, AllocError>
     ensures { IfOk result (λ found. found ≡ fmtp.read text.now) }
 {

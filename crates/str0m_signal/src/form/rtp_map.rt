@@ -48,6 +48,7 @@ fn mapping(text: &str) -> Option<RtpMap>
 }
 
 /// The rtpmap line of the text after `a=`.
+#[inline(always)]
 pub(crate) fn rtp_map(text: &str) -> Option<MediaAttribute>
     ensures { result ≡ rtpmap.read text.now }
 {

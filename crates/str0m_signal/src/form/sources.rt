@@ -10,6 +10,7 @@ use str0m_values::cuts::{cut, num_u8, num_u32, strip};
 use str0m_values::{Pt, Separator, Ssrc, Text};
 
 /// The rtcp-fb line of the text after `a=`.
+#[inline(always)]
 pub(crate) fn rtcp_fb(alloc: Global, text: &str) -> Result<Option<MediaAttribute>, AllocError>
     ensures { IfOk result (λ found. found ≡ rtcp_fb.read text.now) }
 {
