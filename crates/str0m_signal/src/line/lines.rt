@@ -8,6 +8,9 @@ ghost use Rattle.str0m_signal.specs.line.LinesReading.{lines_of, clean_line, beh
 use memchr::memchr2;
 use str0m_values::cuts::strip;
 
+/// How many bytes of text a line takes, as a guess that most lines don't pass.
+pub(crate) const BYTES_OF_A_LINE: usize = 48;
+
 /// How many bytes a line's end is first looked for in. The search takes least time where it is given fewer than 64, and several
 /// times as long where it is given more than 191 and the end isn't among the first 64; most lines are shorter.
 const NEAR: [usize; 2] = [63, 191];

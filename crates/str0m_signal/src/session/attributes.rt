@@ -4,7 +4,7 @@ ghost use Rattle.std.specs.Prelude.{◌≡◌, ◌∷◌, ◌++◌, [], ℕ, Lis
 ghost use Rattle.str0m_signal.specs.line.Lines.{Run};
 ghost use Rattle.str0m_signal.specs.line.LinesReading.{lines_of, line_read, read_attribute, left, ReadsTo, Takes, TakesLine};
 
-use crate::line::lines::clean_line;
+use crate::line::lines::{BYTES_OF_A_LINE, clean_line};
 use std::alloc::{AllocError, Global};
 use str0m_values::Items;
 use str0m_values::cuts::strip;
@@ -138,6 +138,9 @@ fn take_line<'a, A: Attribute>(
     }
 }
 
+/// How many lines a list of attributes has room for at first, where the text may have so many: no answer depends on it.
+const FIRST_LINES: usize = 32;
+
 /// How many further lines a list of attributes may keep room for.
 const SPARE_LINES: usize = 8;
 
@@ -158,7 +161,8 @@ pub(crate) fn attribute_run<A: Attribute>(
 ) -> Result<(Items<A>, &str), AllocError>
     ensures { IfOk result (λ found. Run (ReadsTo (read_attribute A.reading)) (lines_of text.now) found.0 (lines_of found.1.now)) }
 {
-    let mut attributes = Vec::new(alloc);
+    let likely = text.len() / BYTES_OF_A_LINE;
+    let mut attributes = Vec::with_capacity(alloc, likely.min(FIRST_LINES))?;
     let mut rest = text;
     while let Some(after) = take_line(alloc, rest, &mut attributes)? {
         rest = after;

@@ -6,6 +6,7 @@ ghost use Rattle.str0m_signal.specs.Prelude.{HasBoundedRows, sdp_text};
 ghost use Rattle.str0m_signal.specs.session.Reader.{Described};
 ghost use Rattle.str0m_signal.specs.session.ReaderAnswers.{Answers, AtMostOne};
 
+use crate::line::lines::BYTES_OF_A_LINE;
 use crate::session::reader::sdp_parser;
 use std::alloc::{AllocError, Global};
 use std::fmt;
@@ -32,9 +33,6 @@ pub(crate) fn described(alloc: Global, text: &str) -> Result<Sdp, SdpError>
         Err(error) => Err(error),
     }
 }
-
-/// How many bytes of text a line takes, as a guess that most lines don't pass.
-const BYTES_OF_A_LINE: usize = 48;
 
 /// How many bytes the description takes where it is printed, as a guess: no answer depends on it.
 fn likely_length(sdp: &Sdp) -> usize {
