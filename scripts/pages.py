@@ -1,13 +1,17 @@
 """What the pages say of the code: whether the code that README.md shows is that of `crates/uses`, that of CALLING.md there or in
 `crates/tests`, and that of docs/EXCHANGE.md in `crates/sdpexchange`; whether `str0m_signal` passes on all but what CALLING.md says; whether
-README.md is short, and all pages together are, the generated ones aside; and whether each link of a page leads to a file and a heading that
-are there.
+README.md is short, and all pages together are; and whether each link of a page leads to a file and a heading that are there.
+
+Words are what white space parts. All pages are every tracked `*.md` but docs/API.md, and of docs/LINT.md its head, down to the line
+`<!-- codes -->`: the rest of both is generated.
 
 A block of code stands in one of those files word for word, but for contracts and comments. One that has `use` lines is to compile as it
 stands: so its items stand in one file, each of them, and what they use of what that file imports or has is imported or stands in the
 block."""
 import re
+import subprocess
 
+import lint_page
 from proved import TOP
 
 BLOCK = re.compile(r"^```rust\n(.*?)^```$", re.MULTILINE | re.DOTALL)
@@ -18,8 +22,8 @@ ITEM = re.compile(r"(?:pub(?:\(crate\))? )?(?:const )?(?:fn|struct|enum|const|tr
 LOWER, TOPMOST = ("str0m_values", "str0m_formats", "str0m_sdp"), "str0m_signal"
 CODE = {"README.md": ("uses",), "CALLING.md": ("uses", "tests"), "docs/EXCHANGE.md": ("sdpexchange",)}  # of each page, where its code stands
 PAGES = tuple(CODE)
-MOST_WORDS, MOST_WORDS_OF_ALL = 900, 24_000  # of README.md, and of all pages
-GENERATED = ("docs/API.md", "docs/LINT.md")
+MOST_WORDS, MOST_WORDS_OF_ALL = 900, 24_000  # of README.md, and of all pages that are written by hand
+GENERATED = TOP / "docs" / "API.md"
 LINK = re.compile(r"\]\(([^)#\s]*)(?:#([^)\s]*))?\)")
 HEADING = re.compile(r"^#+ (.*)$", re.M)
 
@@ -128,13 +132,29 @@ def link_faults(page):
             yield f"{page.relative_to(TOP)}: {path or 'this page'} has no heading #{anchor}"
 
 
+def tracked():
+    """Every page that git knows and that is there."""
+    told = subprocess.run(["git", "ls-files", "-z", "*.md"], cwd=TOP, capture_output=True, text=True)
+    return [page for it in told.stdout.split("\0") if it for page in [TOP / it] if page.is_file()]
+
+
+def written(page):
+    """What is written by hand of a page."""
+    text = page.read_text("utf-8")
+    if page == GENERATED:
+        return ""
+    return text.split(lint_page.MARK, 1)[0] if page == lint_page.PAGE else text
+
+
 def common_faults():
     """What is wrong with the pages together."""
-    top = [*(TOP / it for it in ("README.md", "CALLING.md", "CHANGELOG.md")), *sorted((TOP / "docs").glob("*.md"))]
-    words = sum(len(it.read_text("utf-8").split()) for it in top if str(it.relative_to(TOP)) not in GENERATED)
+    all_pages = tracked()
+    words = sum(len(written(it).split()) for it in all_pages)
     if words > MOST_WORDS_OF_ALL:
         yield f"{words} words, {MOST_WORDS_OF_ALL} at most"
-    for page in [*top, *sorted(it for name in ("scripts", "cases", "data", "examples", "bindings") for it in (TOP / name).rglob("*.md"))]:
+    if not all_pages:
+        yield "git ls-files tells of no page"
+    for page in all_pages:
         yield from link_faults(page)
 
 

@@ -11,7 +11,7 @@ PAGE = FOLDER / "README.md"
 PROGRAMS = ("run", "lint", "bench", "install")
 IMPORT = re.compile(r"(?:^ *|; )(?:from|import) (\w+)", re.M)
 NAMED = re.compile(r'\bscripts/([\w.]+)|"scripts" / "([\w.]+)"|with_name\("([\w.]+)"\)')
-ROW = re.compile(r"^\| `([^`]+)` \| .+ \| (.+) \|$", re.M)
+ROW = re.compile(r"^`([^`]+)` \| .+ \| (.+)$", re.M)
 
 
 def scripts():
