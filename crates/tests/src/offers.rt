@@ -48,8 +48,8 @@ fn is_own_offer(alloc: Global) -> Result<bool, Fail> {
 
 #[test]
 fn an_offer_holds_the_rows_of_its_section(rt: HostRuntime) -> Result<(), Fail> {
-    for (at, is_opus) in &OFFERED {
-        assert_eq!(rt; offered(rt.alloc(), *at)?, (1, *is_opus), "{at}");
+    for (at, rows) in &OFFERED {
+        assert_eq!(rt; offered(rt.alloc(), *at)?, (1, *rows), "{at}");
     }
     assert!(rt; is_own_offer(rt.alloc())?);
     Ok(())
