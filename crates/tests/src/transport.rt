@@ -69,14 +69,14 @@ fn values_of_the_transport_are_copied_compared_and_printed(rt: HostRuntime) -> R
 fn are_roles_in_force(offer: &Sdp) -> bool {
     setup_at(offer, 0) == Some(Setup::Passive)
         && setup_at(offer, 1) == Some(Setup::ActPass)
-        && setup_at(offer, 4) == None
+        && setup_at(offer, 4).is_none()
 }
 
-/// Whether the credentials are this user's fragment, and where one is given, this password.
-fn is_of_user(creds: &Option<IceCreds>, ufrag: &str, pass: Option<&str>) -> bool {
+/// Whether the credentials are this user's fragment with the password of the session.
+fn is_of_user(creds: &Option<IceCreds>, ufrag: &str) -> bool {
     match creds {
         Some(found) => {
-            found.ufrag.as_str() == ufrag && pass.is_none_or(|it| found.pass.as_str() == it)
+            found.ufrag.as_str() == ufrag && found.pass.as_str() == "session-password-of-22"
         }
         None => false,
     }
@@ -84,8 +84,8 @@ fn is_of_user(creds: &Option<IceCreds>, ufrag: &str, pass: Option<&str>) -> bool
 
 /// Each credential is that of the section before that of the session.
 fn are_credentials_in_force(offer: &Sdp) -> Result<bool, AllocError> {
-    let own = is_of_user(&creds_at(offer, 0)?, "own1", Some("session-password-of-22"));
-    let theirs = is_of_user(&creds_at(offer, 1)?, "sess", None);
+    let own = is_of_user(&creds_at(offer, 0)?, "own1");
+    let theirs = is_of_user(&creds_at(offer, 1)?, "sess");
     Ok(own && theirs && creds_at(offer, 4)?.is_none())
 }
 
