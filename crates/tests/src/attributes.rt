@@ -1,16 +1,12 @@
 //! Attributes that print no line, though a description holds them.
 
+use crate::texts::prints;
 use std::alloc::{AllocError, Global};
 use std::test::Fail;
 use str0m_signal::{
     Extension, Items, MediaAttribute, RestrictionId, Simulcast, SimulcastGroups, SimulcastLayer,
     Text,
 };
-
-/// What the attribute prints.
-fn printed(alloc: Global, attribute: MediaAttribute) -> Result<String, AllocError> {
-    attribute.to_string(alloc)
-}
 
 /// One active layer of this name.
 fn layers(alloc: Global, name: &str) -> Result<SimulcastGroups, AllocError> {
@@ -22,13 +18,13 @@ fn layers(alloc: Global, name: &str) -> Result<SimulcastGroups, AllocError> {
     Ok(SimulcastGroups(Items::from(layers)))
 }
 
-/// A simulcast that sends one layer.
-fn simulcast(alloc: Global, is_munged: bool) -> Result<MediaAttribute, AllocError> {
-    Ok(MediaAttribute::Simulcast(Simulcast {
-        send: layers(alloc, "hi")?,
+/// A simulcast that sends these layers, and receives none.
+fn simulcast(alloc: Global, send: SimulcastGroups, is_munged: bool) -> MediaAttribute {
+    MediaAttribute::Simulcast(Simulcast {
+        send,
         recv: SimulcastGroups(Items::empty(alloc)),
         is_munged,
-    }))
+    })
 }
 
 /// An extension with the number 2.
@@ -39,43 +35,48 @@ fn extension(alloc: Global, serialized: bool) -> Result<MediaAttribute, AllocErr
     })
 }
 
-#[test]
-fn a_group_without_sources_prints_nothing(rt: HostRuntime) -> Result<(), Fail> {
-    let attribute = MediaAttribute::SsrcGroup {
-        semantics: Text::from_str(rt.alloc(), "FID")?,
-        ssrcs: Items::empty(rt.alloc()),
-    };
-    let found = printed(rt.alloc(), attribute)?;
-    assert_eq!(rt; found.as_str(), "");
-    Ok(())
+fn group_without_sources(alloc: Global) -> Result<MediaAttribute, AllocError> {
+    Ok(MediaAttribute::SsrcGroup {
+        semantics: Text::from_str(alloc, "FID")?,
+        ssrcs: Items::empty(alloc),
+    })
+}
+
+/// The attribute of this name in the table below; another, which prints a line, where there is none.
+fn made(alloc: Global, name: &str) -> Result<MediaAttribute, AllocError> {
+    match name {
+        "group without sources" => group_without_sources(alloc),
+        "simulcast without layers" => {
+            let none = SimulcastGroups(Items::empty(alloc));
+            Ok(simulcast(alloc, none, false))
+        }
+        "munged simulcast" => Ok(simulcast(alloc, layers(alloc, "hi")?, true)),
+        "simulcast" => Ok(simulcast(alloc, layers(alloc, "hi")?, false)),
+        "extension that is not listed" => extension(alloc, false),
+        "extension" => extension(alloc, true),
+        _ => Ok(MediaAttribute::SendRecv),
+    }
+}
+
+/// Attributes, and what each prints.
+static LINES: [(&str, &str); 6] = [
+    ("group without sources", ""),
+    ("simulcast without layers", ""),
+    ("munged simulcast", ""),
+    ("simulcast", "a=simulcast:send hi\r\n"),
+    ("extension that is not listed", ""),
+    ("extension", "a=extmap:2 urn:x\r\n"),
+];
+
+fn is_printed(alloc: Global, name: &str, line: &str) -> Result<bool, AllocError> {
+    let attribute = made(alloc, name)?;
+    prints(alloc, &attribute, line)
 }
 
 #[test]
-fn a_simulcast_without_layers_prints_nothing(rt: HostRuntime) -> Result<(), Fail> {
-    let attribute = MediaAttribute::Simulcast(Simulcast {
-        send: SimulcastGroups(Items::empty(rt.alloc())),
-        recv: SimulcastGroups(Items::empty(rt.alloc())),
-        is_munged: false,
-    });
-    let found = printed(rt.alloc(), attribute)?;
-    assert_eq!(rt; found.as_str(), "");
-    Ok(())
-}
-
-#[test]
-fn a_munged_simulcast_prints_nothing(rt: HostRuntime) -> Result<(), Fail> {
-    let found = printed(rt.alloc(), simulcast(rt.alloc(), true)?)?;
-    assert_eq!(rt; found.as_str(), "");
-    let found = printed(rt.alloc(), simulcast(rt.alloc(), false)?)?;
-    assert_eq!(rt; found.as_str(), "a=simulcast:send hi\r\n");
-    Ok(())
-}
-
-#[test]
-fn an_extension_that_is_not_listed_prints_nothing(rt: HostRuntime) -> Result<(), Fail> {
-    let found = printed(rt.alloc(), extension(rt.alloc(), false)?)?;
-    assert_eq!(rt; found.as_str(), "");
-    let found = printed(rt.alloc(), extension(rt.alloc(), true)?)?;
-    assert_eq!(rt; found.as_str(), "a=extmap:2 urn:x\r\n");
+fn attributes_that_no_line_says_print_nothing(rt: HostRuntime) -> Result<(), Fail> {
+    for (name, line) in &LINES {
+        assert!(rt; is_printed(rt.alloc(), name, line)?, "{name}");
+    }
     Ok(())
 }

@@ -46,41 +46,57 @@ fn is_candidate_copied(candidate: &Candidate) -> Result<bool, AllocError> {
     Ok(copy == *candidate)
 }
 
+fn is_candidate_printed(alloc: Global, candidate: &Candidate) -> Result<bool, AllocError> {
+    let line = candidate.to_sdp_string(alloc)?;
+    Ok(line.as_str() == RELAYED)
+}
+
+/// Every part of it is printed.
 #[test]
 fn a_candidate_of_its_parts_is_the_one_that_is_read(rt: HostRuntime) -> Result<(), Fail> {
     let made = relayed(rt.alloc())?;
     assert!(rt; is_read(rt.alloc(), &made)?);
     assert!(rt; is_candidate_copied(&made)?);
+    assert!(rt; is_candidate_printed(rt.alloc(), &made)?);
     Ok(())
 }
 
-#[test]
-fn every_part_of_a_candidate_is_printed(rt: HostRuntime) -> Result<(), Fail> {
-    let made = relayed(rt.alloc())?;
-    let line = made.to_sdp_string(rt.alloc())?;
-    assert_eq!(rt; line.as_str(), RELAYED);
-    Ok(())
+/// Texts as they are trickled, and the component of the candidate, where there is one.
+static TRICKLED: [(&str, Option<u16>); 9] = [
+    (
+        "candidate:1 1 udp 2122260223 192.0.2.1 5000 typ host",
+        Some(1),
+    ),
+    (
+        "a=candidate:1 1 udp 2122260223 192.0.2.1 5000 typ host",
+        Some(1),
+    ),
+    (
+        "candidate:1 1 udp 2122260223 192.0.2.1 5000 typ host\r\n",
+        Some(1),
+    ),
+    (
+        "a=candidate:1 1 udp 2122260223 192.0.2.1 5000 typ host\n",
+        Some(1),
+    ),
+    ("", None),
+    ("a=", None),
+    ("candidate:1", None),
+    ("candidate:1 1 udp 1 192.0.2.1 5000 typ host\r\nx", None),
+    ("a=a=candidate:1 1 udp 1 192.0.2.1 5000 typ host", None),
+];
+
+fn component_of(alloc: Global, text: &str) -> Option<u16> {
+    match &trickled_candidate(alloc, text) {
+        Ok(candidate) => Some(candidate.component_id()),
+        Err(_) => None,
+    }
 }
 
 #[test]
 fn candidates_are_read_as_browsers_trickle_them(rt: HostRuntime) -> Result<(), Fail> {
-    for text in [
-        "candidate:1 1 udp 2122260223 192.0.2.1 5000 typ host",
-        "a=candidate:1 1 udp 2122260223 192.0.2.1 5000 typ host",
-        "candidate:1 1 udp 2122260223 192.0.2.1 5000 typ host\r\n",
-        "a=candidate:1 1 udp 2122260223 192.0.2.1 5000 typ host\n",
-    ] {
-        let candidate = trickled_candidate(rt.alloc(), text)?;
-        assert_eq!(rt; candidate.component_id(), 1);
-    }
-    for text in [
-        "",
-        "a=",
-        "candidate:1",
-        "candidate:1 1 udp 1 192.0.2.1 5000 typ host\r\nx",
-        "a=a=candidate:1 1 udp 1 192.0.2.1 5000 typ host",
-    ] {
-        assert!(rt; trickled_candidate(rt.alloc(), text).is_err());
+    for (text, component) in &TRICKLED {
+        assert_eq!(rt; component_of(rt.alloc(), text), *component, "{text:?}");
     }
     Ok(())
 }

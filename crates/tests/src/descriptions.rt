@@ -22,13 +22,10 @@ fn is_offer_of(offer: &SdpOffer, sdp: Sdp) -> bool {
     is_held && *offer == made
 }
 
-#[test]
-fn an_offer_holds_what_was_read(rt: HostRuntime) -> Result<(), Fail> {
-    let text = twice(rt.alloc())?;
-    let offer = SdpOffer::from_sdp_string(rt.alloc(), text.as_str())?;
-    let is_so = is_offer_of(&offer, read(rt.alloc(), text.as_str())?);
-    assert!(rt; is_so);
-    Ok(())
+/// Whether an offer holds what is read of its text.
+fn is_offer_read(alloc: Global, text: &str) -> Result<bool, SdpError> {
+    let offer = SdpOffer::from_sdp_string(alloc, text)?;
+    Ok(is_offer_of(&offer, read(alloc, text)?))
 }
 
 /// Whether the answer holds this description, and equals the one that is made of it.
@@ -38,13 +35,16 @@ fn is_answer_of(answer: &SdpAnswer, sdp: Sdp) -> bool {
     is_held && *answer == made
 }
 
-#[test]
-fn an_answer_holds_what_was_read(rt: HostRuntime) -> Result<(), Fail> {
-    let text = twice(rt.alloc())?;
-    let answer = SdpAnswer::from_sdp_string(rt.alloc(), text.as_str())?;
-    let is_so = is_answer_of(&answer, read(rt.alloc(), text.as_str())?);
-    assert!(rt; is_so);
-    Ok(())
+/// Whether an answer holds what is read of its text.
+fn is_answer_read(alloc: Global, text: &str) -> Result<bool, SdpError> {
+    let answer = SdpAnswer::from_sdp_string(alloc, text)?;
+    Ok(is_answer_of(&answer, read(alloc, text)?))
+}
+
+/// Whether an offer and an answer hold what is read of their text.
+fn are_both_read(alloc: Global) -> Result<bool, SdpError> {
+    let text = twice(alloc)?;
+    Ok(is_offer_read(alloc, text.as_str())? && is_answer_read(alloc, text.as_str())?)
 }
 
 /// What the offer prints; `None` where Display prints something else.
@@ -69,12 +69,18 @@ fn answer_shown(alloc: Global) -> Result<Option<String>, SdpError> {
     Ok(shown_by_answer(alloc, &answer)?)
 }
 
-/// An offer and an answer of one text print the same.
+/// Whether an offer and an answer of one text print the same.
+fn are_shown_alike(alloc: Global) -> Result<bool, SdpError> {
+    let offer = offer_shown(alloc)?;
+    let answer = answer_shown(alloc)?;
+    Ok(offer.is_some() && answer.as_deref() == offer.as_deref())
+}
+
+/// Display prints what `to_sdp_string` answers.
 #[test]
-fn display_prints_what_to_sdp_string_answers(rt: HostRuntime) -> Result<(), Fail> {
-    let offer = offer_shown(rt.alloc())?.ok_or("another text")?;
-    let answer = answer_shown(rt.alloc())?.ok_or("another text")?;
-    assert_eq!(rt; answer.as_str(), offer.as_str());
+fn offers_and_answers_hold_and_print_what_was_read(rt: HostRuntime) -> Result<(), Fail> {
+    assert!(rt; are_both_read(rt.alloc())?);
+    assert!(rt; are_shown_alike(rt.alloc())?);
     Ok(())
 }
 
@@ -99,13 +105,6 @@ fn all_copied(sdp: &Sdp) -> Result<bool, AllocError> {
     Ok(whole && session && are_sections_copied(&sdp.media_lines)?)
 }
 
-#[test]
-fn a_copy_equals_its_source(rt: HostRuntime) -> Result<(), Fail> {
-    let sdp = read(rt.alloc(), OPUS)?;
-    assert!(rt; all_copied(&sdp)?);
-    Ok(())
-}
-
 /// Whether the text is read as another description.
 fn is_another(alloc: Global, text: &str, sdp: &Sdp) -> Result<bool, SdpError> {
     let other = read(alloc, text)?;
@@ -127,10 +126,11 @@ fn differs_by_an_attribute(sdp: &Sdp) -> Result<bool, AllocError> {
     Ok(other != *sdp)
 }
 
-/// Each part of a description tells it from another.
+/// A copy equals its source, and each part of a description tells it from another.
 #[test]
 fn descriptions_differ_by_their_parts(rt: HostRuntime) -> Result<(), Fail> {
     let sdp = read(rt.alloc(), OPUS)?;
+    assert!(rt; all_copied(&sdp)?);
     assert!(rt; is_another(rt.alloc(), BARE_HEADER, &sdp)?);
     assert!(rt; differs_by_an_attribute(&sdp)?);
     Ok(())

@@ -83,27 +83,33 @@ fn first_not_held(config: &mut CodecConfig, direction: Direction) -> Option<u8> 
     None
 }
 
-/// In the first forty rounds each row meets a remote row whose types no locked row has.
-#[test]
-fn one_configuration_meets_every_type(rt: HostRuntime) -> Result<(), Fail> {
-    for direction in &DIRECTIONS {
-        let mut config = fourteen(rt.alloc())?;
-        let not_held = first_not_held(&mut config, *direction);
-        assert_eq!(rt; not_held, None, "{direction:?}");
-        let are_locked = config.params().iter().all(|row| row.locked());
-        assert!(rt; are_locked, "{direction:?}");
-    }
-    Ok(())
+/// The first of those rounds that isn't held, and whether all rows are locked then. In the first forty rounds each row meets a
+/// remote row whose types no locked row has.
+fn meet_every_type(alloc: Global, direction: Direction) -> Result<(Option<u8>, bool), AllocError> {
+    let mut config = fourteen(alloc)?;
+    let not_held = first_not_held(&mut config, direction);
+    let are_locked = config.params().iter().all(|row| row.locked());
+    Ok((not_held, are_locked))
 }
 
-/// The rounds begin at each of the 128 types, and in turn demand types that are none, one, two or three apart.
+/// The rounds begin at each of the 128 types, and in turn demand types that are none, one, two or three apart: where the first that
+/// aren't held begin.
+fn first_exhausted(alloc: Global, direction: Direction) -> Result<Option<u8>, AllocError> {
+    for first in 0_u8..128 {
+        if !are_held(alloc, first, first % 4, direction)? {
+            return Ok(Some(first));
+        }
+    }
+    Ok(None)
+}
+
 #[test]
 fn fourteen_rows_are_never_exhausted(rt: HostRuntime) -> Result<(), Fail> {
     for direction in &DIRECTIONS {
-        for first in 0_u8..128 {
-            let held = are_held(rt.alloc(), first, first % 4, *direction)?;
-            assert!(rt; held, "{direction:?} {first}");
-        }
+        let met = meet_every_type(rt.alloc(), *direction)?;
+        assert_eq!(rt; met, (None, true), "{direction:?}");
+        let exhausted = first_exhausted(rt.alloc(), *direction)?;
+        assert_eq!(rt; exhausted, None, "{direction:?}");
     }
     Ok(())
 }

@@ -25,7 +25,7 @@
 //! - `rounds`: Rounds that no text writes: a locked row that stands twice, hundreds of rows.
 //! - `rows`: Rows that tests make and ask, and how a configuration finds one.
 //! - `sections`: Sections, and what stands in them, before anything is said: what no text makes.
-//! - `texts`: Texts that several files read, and the description that a text begins with.
+//! - `texts`: Texts that several files read, the description that a text begins with, and what values print.
 //! - `transport`: Credentials, fingerprints and roles: copied, compared and printed as no line says them.
 #![tactic(auto)]
 

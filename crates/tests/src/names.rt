@@ -4,23 +4,29 @@ use std::alloc::{AllocError, Global};
 use std::test::Fail;
 use str0m_values::{Extension, Mid, Rid, Text};
 
-/// A text of more than sixteen bytes lies elsewhere than a shorter one.
-#[test]
-fn a_text_is_asked_and_shows_itself_as_a_str(rt: HostRuntime) -> Result<(), Fail> {
-    let short = Text::from_str(rt.alloc(), "BUNDLE")?;
-    let long = Text::from_str(rt.alloc(), "webrtc-datachannel")?;
-    assert!(rt; short.starts_with("BUN") && long.starts_with("webrtc"));
-    let shown = format!(in rt.alloc(); "{short:?} {long:?}")?;
-    assert_eq!(rt; shown.as_str(), "\"BUNDLE\" \"webrtc-datachannel\"");
-    assert_eq!(rt; Some(long).as_deref(), Some("webrtc-datachannel"));
-    Ok(())
+/// What a text is made of, what that begins with, and how the text shows itself. One of more than sixteen bytes lies elsewhere
+/// than a shorter one.
+static TEXTS: [(&str, &str, &str); 2] = [
+    ("BUNDLE", "BUN", "\"BUNDLE\""),
+    ("webrtc-datachannel", "webrtc", "\"webrtc-datachannel\""),
+];
+
+/// Whether the text shows itself so.
+fn is_shown_so(alloc: Global, text: &Text, wanted: &str) -> Result<bool, AllocError> {
+    let shown = format!(in alloc; "{text:?}")?;
+    Ok(shown.as_str() == wanted)
 }
 
-#[test]
-fn names_are_equal_by_what_they_keep(rt: HostRuntime) {
-    assert!(rt; Mid::from("0123456789abcdefg") == Mid::from("0123456789abcdef"));
-    assert!(rt; Mid::from("0") != Mid::from("00"));
-    assert!(rt; Rid::from("hi") == Rid::from("hi"));
+/// Whether the text that may be there is this one.
+fn is_text_held(text: &Option<Text>, held: &str) -> bool {
+    text.as_deref() == Some(held)
+}
+
+/// Whether a text that is made of this str begins so, shows itself so, and is the str again.
+fn is_as_str(alloc: Global, held: &str, begin: &str, shown: &str) -> Result<bool, AllocError> {
+    let text = Text::from_str(alloc, held)?;
+    let is_so = text.starts_with(begin) && is_shown_so(alloc, &text, shown)?;
+    Ok(is_so && is_text_held(&Some(text), held))
 }
 
 const MID_URI: &str = "urn:ietf:params:rtp-hdrext:sdes:mid";
@@ -36,11 +42,22 @@ fn is_extension_copied(read: &Extension) -> Result<bool, AllocError> {
     Ok(copy == *read)
 }
 
+/// Whether an extension that is read equals its copy, the one of a program's own, and the one that descriptions list.
+fn extension_equals(alloc: Global) -> Result<(bool, bool, bool), AllocError> {
+    let read = Extension::from_sdp_uri(alloc, MID_URI)?;
+    let copy = is_extension_copied(&read)?;
+    let own = is_made(alloc, &read, false)?;
+    Ok((copy, own, is_made(alloc, &read, true)?))
+}
+
 #[test]
-fn an_extension_of_ones_own_is_another(rt: HostRuntime) -> Result<(), Fail> {
-    let read = Extension::from_sdp_uri(rt.alloc(), MID_URI)?;
-    assert!(rt; is_extension_copied(&read)?);
-    assert!(rt; !is_made(rt.alloc(), &read, false)?);
-    assert!(rt; is_made(rt.alloc(), &read, true)?);
+fn texts_and_names_compare_by_what_they_keep(rt: HostRuntime) -> Result<(), Fail> {
+    for (held, begin, shown) in &TEXTS {
+        assert!(rt; is_as_str(rt.alloc(), held, begin, shown)?, "{held}");
+    }
+    assert!(rt; Mid::from("0123456789abcdefg") == Mid::from("0123456789abcdef"));
+    assert!(rt; Mid::from("0") != Mid::from("00"));
+    assert!(rt; Rid::from("hi") == Rid::from("hi"));
+    assert_eq!(rt; extension_equals(rt.alloc())?, (true, false, true));
     Ok(())
 }

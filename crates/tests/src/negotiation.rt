@@ -2,49 +2,60 @@
 //! docs/SECTIONS.md and docs/ROUNDS.md.
 
 use crate::rows::{is_opus_at_109, locked_count};
-use crate::texts::{CALL, OFFER, OPUS, read};
+use crate::texts::{CALL, OFFER, OPUS, prints, read};
 use exchange::negotiated_names;
 use std::alloc::{AllocError, Global};
 use std::test::Fail;
-use str0m_signal::{Codec, CodecConfig, MediaKind, PayloadParams, Pt, locked_rows, negotiate_text};
+use str0m_signal::{
+    CodecConfig, MediaKind, Mid, PayloadParams, SdpError, locked_rows, negotiate_text,
+};
 use uses::{agreed_codecs, negotiate_again};
 
 fn are_plain(rows: &[PayloadParams]) -> bool {
     rows.iter().all(|row| row.is_plain())
 }
 
-#[test]
-fn a_round_locks_the_row_of_opus_and_leaves_all_rows_plain(rt: HostRuntime) -> Result<(), Fail> {
-    let mut config = CodecConfig::new_with_defaults(rt.alloc())?;
+/// How many rounds the text of Opus has, how many rows they lock, and whether they leave all rows plain.
+fn opus_negotiated(alloc: Global) -> Result<(usize, usize, bool), SdpError> {
+    let mut config = CodecConfig::new_with_defaults(alloc)?;
     let outcomes = negotiate_text(&mut config, OPUS)?;
-    assert_eq!(rt; outcomes.len(), 1);
-    assert_eq!(rt; locked_count(config.params()), 1);
-    assert!(rt; are_plain(config.params()));
-    Ok(())
+    let rows = config.params();
+    Ok((outcomes.len(), locked_count(rows), are_plain(rows)))
 }
 
-#[test]
-fn each_outcome_has_the_name_of_its_section(rt: HostRuntime) -> Result<(), Fail> {
-    let call = read(rt.alloc(), CALL)?;
-    let names = negotiated_names(rt.alloc(), &call)?;
-    let mut config = CodecConfig::new_with_defaults(rt.alloc())?;
+/// How many rounds the text of a call has.
+fn count_of_call(alloc: Global) -> Result<usize, SdpError> {
+    let mut config = CodecConfig::new_with_defaults(alloc)?;
     let outcomes = negotiate_text(&mut config, CALL)?;
-    assert_eq!(rt; names.len(), outcomes.len());
-    let audio = names.get(0).ok_or("audio")?.ok_or("name")?;
-    assert_eq!(rt; audio.as_str(), "audio");
-    let video = names.get(1).ok_or("video")?.ok_or("name")?;
-    assert_eq!(rt; video.as_str(), "video");
-    Ok(())
+    Ok(outcomes.len())
+}
+
+fn are_audio_and_video(names: &[Option<Mid>]) -> bool {
+    match names {
+        [Some(audio), Some(video)] => audio.as_str() == "audio" && video.as_str() == "video",
+        _ => false,
+    }
+}
+
+/// Whether each outcome of the call has the name of its section.
+fn are_named(alloc: Global) -> Result<bool, SdpError> {
+    let call = read(alloc, CALL)?;
+    let names = negotiated_names(alloc, &call)?;
+    Ok(are_audio_and_video(names.as_slice()) && names.len() == count_of_call(alloc)?)
+}
+
+/// Whether the codec of both sides is agreed on, and no other.
+fn is_agreed(alloc: Global) -> Result<bool, SdpError> {
+    let audio = agreed_codecs(alloc, OFFER, MediaKind::Audio)?;
+    let video = agreed_codecs(alloc, OFFER, MediaKind::Video)?;
+    Ok(is_opus_at_109(audio.as_slice()) && video.is_empty())
 }
 
 #[test]
-fn the_codec_of_both_sides_is_agreed_on(rt: HostRuntime) -> Result<(), Fail> {
-    let codecs = agreed_codecs(rt.alloc(), OFFER, MediaKind::Audio)?;
-    assert_eq!(rt; codecs.len(), 1);
-    assert_eq!(rt; codecs[0].spec().codec, Codec::Opus);
-    assert_eq!(rt; codecs[0].pt(), Pt::new_with_value(109));
-    let codecs = agreed_codecs(rt.alloc(), OFFER, MediaKind::Video)?;
-    assert!(rt; codecs.is_empty());
+fn a_text_is_a_round_for_each_section(rt: HostRuntime) -> Result<(), Fail> {
+    assert_eq!(rt; opus_negotiated(rt.alloc())?, (1, 1, true));
+    assert!(rt; are_named(rt.alloc())?);
+    assert!(rt; is_agreed(rt.alloc())?);
     Ok(())
 }
 
@@ -59,22 +70,19 @@ fn negotiated(alloc: Global) -> Result<CodecConfig, Fail> {
     Ok(config)
 }
 
-/// What negotiating with the later offer tells; nothing where each round is accepted.
-fn told_of_later(alloc: Global, config: &mut CodecConfig) -> Result<String, AllocError> {
-    match negotiate_again(config, LATER_OFFER) {
-        Ok(()) => Ok(String::new(alloc)),
-        Err(error) => error.to_string(alloc),
+/// Whether negotiating with the later offer is refused so.
+fn is_refused(alloc: Global, config: &mut CodecConfig, cause: &str) -> Result<bool, AllocError> {
+    match &negotiate_again(config, LATER_OFFER) {
+        Ok(()) => Ok(false),
+        Err(error) => prints(alloc, error, cause),
     }
 }
 
 #[test]
 fn a_locked_type_is_not_given_to_another_codec(rt: HostRuntime) -> Result<(), Fail> {
     let mut config = negotiated(rt.alloc())?;
-    let told = told_of_later(rt.alloc(), &mut config)?;
-    assert_eq!(rt;
-        told.as_str(),
-        "round refused: payload type 109 is claimed twice"
-    );
+    let cause = "round refused: payload type 109 is claimed twice";
+    assert!(rt; is_refused(rt.alloc(), &mut config, cause)?);
     let rows = locked_rows(&config, MediaKind::Audio)?;
     assert!(rt; is_opus_at_109(rows.as_slice()), "{rows:?}");
     Ok(())

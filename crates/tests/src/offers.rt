@@ -4,23 +4,23 @@ use crate::rows::is_opus_at_109;
 use crate::texts::{OFFER, OWN_OFFER};
 use std::alloc::{AllocError, Global};
 use std::test::Fail;
-use str0m_signal::{CodecConfig, Fingerprint, IceCreds, Mid, Sdp, Text};
+use str0m_signal::{CodecConfig, Fingerprint, IceCreds, Mid, PayloadParams, Sdp, SdpError, Text};
 use uses::{offered_rows, own_frame, own_offer, own_sdp};
 
-#[test]
-fn an_offer_holds_the_rows_of_its_section(rt: HostRuntime) -> Result<(), Fail> {
-    let (_, found) = offered_rows(rt.alloc(), OFFER, 0)?;
-    let rows = found.ok_or("a section")?;
-    assert!(rt; is_opus_at_109(rows.as_slice()), "{rows:?}");
-    Ok(())
+/// A section of an offer, and whether its row is that of Opus; none where there is no such section.
+static OFFERED: [(usize, Option<bool>); 2] = [(0, Some(true)), (1, None)];
+
+fn is_opus(found: &Option<Vec<PayloadParams>>) -> Option<bool> {
+    match found {
+        Some(rows) => Some(is_opus_at_109(rows.as_slice())),
+        None => None,
+    }
 }
 
-#[test]
-fn a_section_that_is_not_there_has_no_rows(rt: HostRuntime) -> Result<(), Fail> {
-    let (offer, found) = offered_rows(rt.alloc(), OFFER, 1)?;
-    assert_eq!(rt; offer.media_lines.len(), 1);
-    assert!(rt; found.is_none());
-    Ok(())
+/// How many sections the offer has, and whether the row of one is that of Opus.
+fn offered(alloc: Global, at: usize) -> Result<(usize, Option<bool>), SdpError> {
+    let (offer, found) = offered_rows(alloc, OFFER, at)?;
+    Ok((offer.media_lines.len(), is_opus(&found)))
 }
 
 fn credentials(alloc: Global) -> Result<IceCreds, AllocError> {
@@ -38,12 +38,19 @@ fn described(alloc: Global) -> Result<Sdp, Fail> {
     Ok(own_sdp(alloc, 7, mid, frame)?)
 }
 
-#[test]
-fn an_offer_is_made_of_values(rt: HostRuntime) -> Result<(), Fail> {
-    let mut config = CodecConfig::empty(rt.alloc());
+/// Whether an offer is made of values.
+fn is_own_offer(alloc: Global) -> Result<bool, Fail> {
+    let mut config = CodecConfig::empty(alloc);
     config.enable_opus(true, false)?;
-    let own = described(rt.alloc())?;
-    let offer = own_offer(&config, own, 0)?.ok_or("an offer")?;
-    assert_eq!(rt; offer.as_str(), OWN_OFFER);
+    let offer = own_offer(&config, described(alloc)?, 0)?;
+    Ok(offer.as_deref() == Some(OWN_OFFER))
+}
+
+#[test]
+fn an_offer_holds_the_rows_of_its_section(rt: HostRuntime) -> Result<(), Fail> {
+    for (at, rows) in &OFFERED {
+        assert_eq!(rt; offered(rt.alloc(), *at)?, (1, *rows), "{at}");
+    }
+    assert!(rt; is_own_offer(rt.alloc())?);
     Ok(())
 }

@@ -55,16 +55,16 @@ impl Write for Full {
 }
 
 /// A writer with so much room.
-fn with_room(alloc: Global, room: usize) -> Full {
+fn with_room(alloc: Global, room: usize, hands_on: bool) -> Full {
     Full {
         room,
-        hands_on: true,
+        hands_on,
         taken: Vec::new(alloc),
     }
 }
 
 /// An argument, what is read before an error of which kind, the status, and what is said.
-const UNREADABLE: [(&str, &str, ErrorKind, u8, &str); 4] = [
+static UNREADABLE: [(&str, &str, ErrorKind, u8, &str); 4] = [
     (
         "text",
         "",
@@ -117,7 +117,7 @@ fn run_into(
 ) -> Result<Ran, AllocError> {
     let words = arguments(alloc, &[word])?;
     let mut input = HEADER.as_bytes();
-    let mut faults = with_room(alloc, faults_room);
+    let mut faults = with_room(alloc, faults_room, true);
     let ending = run(
         alloc,
         words.as_slice(),
@@ -133,44 +133,55 @@ fn run_into(
     })
 }
 
-/// Whether the run ended with this status and said just this, and wrote a beginning of what the header
-/// prints: all of it where the status is 0, and else less.
-fn is_whole_or_told(ran: &Ran, status: u8, said: &str) -> bool {
-    let is_whole = ran.written.len() == PRINTED.len();
+/// Whether the run ended with this status and said just this, and wrote a beginning of what the header prints: all of it where
+/// that is so, and else less.
+fn is_whole_or_told(ran: &Ran, is_whole: bool, status: u8, said: &str) -> bool {
     ran.status == status
         && ran.could_say == (status == 0 || !said.is_empty())
         && ran.said.as_slice() == said.as_bytes()
         && PRINTED.as_bytes().starts_with(ran.written.as_slice())
-        && is_whole == (status == 0)
+        && is_whole == (ran.written.len() == PRINTED.len())
 }
+
+/// An argument, the room for output, whether it is handed on, the room for faults, the status, and what is said.
+static UNWRITABLE: [(&str, usize, bool, usize, u8, &str); 9] = [
+    ("text", PRINTED.len(), true, 100, 0, ""),
+    ("text", PRINTED.len(), true, 0, 0, ""),
+    (
+        "text",
+        PRINTED.len() - 1,
+        true,
+        100,
+        1,
+        "cannot write output\n",
+    ),
+    ("text", PRINTED.len() - 1, true, 0, 1, ""),
+    ("text", 0, true, 100, 1, "cannot write output\n"),
+    ("text", 0, true, 0, 1, ""),
+    ("show", 0, true, 100, 2, USAGE),
+    ("show", 0, true, 0, 2, ""),
+    (
+        "text",
+        PRINTED.len(),
+        false,
+        100,
+        1,
+        "cannot write output\n",
+    ),
+];
 
 /// A description is written whole or the run says so; a line of faults that can't be written leaves
-/// the status as it is.
+/// the status as it is. What is written whole, and isn't handed on, is a fault.
 #[test]
 fn output_that_cannot_be_written(rt: HostRuntime) -> Result<(), Fail> {
-    for (word, room, faults_room, status, said) in &[
-        ("text", PRINTED.len(), 100, 0, ""),
-        ("text", PRINTED.len(), 0, 0, ""),
-        ("text", PRINTED.len() - 1, 100, 1, "cannot write output\n"),
-        ("text", PRINTED.len() - 1, 0, 1, ""),
-        ("text", 0, 100, 1, "cannot write output\n"),
-        ("text", 0, 0, 1, ""),
-        ("show", 0, 100, 2, USAGE),
-        ("show", 0, 0, 2, ""),
-    ] {
-        let output = with_room(rt.alloc(), *room);
+    for (word, room, hands_on, faults_room, status, said) in &UNWRITABLE {
+        let output = with_room(rt.alloc(), *room, *hands_on);
         let ran = run_into(rt.alloc(), word, output, *faults_room)?;
-        assert!(rt; is_whole_or_told(&ran, *status, said), "{said:?}: {ran:?}");
+        let is_whole = *status == 0 || !*hands_on;
+        assert!(rt;
+            is_whole_or_told(&ran, is_whole, *status, said),
+            "{said:?}: {ran:?}"
+        );
     }
-    Ok(())
-}
-
-/// What is written whole, and isn't handed on, is a fault.
-#[test]
-fn output_that_is_not_handed_on(rt: HostRuntime) -> Result<(), Fail> {
-    let mut output = with_room(rt.alloc(), PRINTED.len());
-    output.hands_on = false;
-    let ran = run_into(rt.alloc(), "text", output, 100)?;
-    assert!(rt; ran.is(1, PRINTED, "cannot write output\n"), "{ran:?}");
     Ok(())
 }

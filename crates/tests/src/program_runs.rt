@@ -55,7 +55,7 @@ const CHECKSUMS: &[u8] =
     b"v=0\r\no=- 1 1 IN IP4 127.0.0.1\r\ns=-\r\nt=0 0\r\nm=audio 9 UDP/TLS/RTP/SAVPF 122\r\nc=IN IP4 0.0.0.0\r\na=mid:0\r\na=sendrecv\r\na=rtpmap:122 AMR-WB/16000\r\na=fmtp:122 crc=1\r\n";
 
 /// Arguments, what is read, the status, and what is written and said.
-const RUNS: [(&[&str], &[u8], u8, &str, &str); 32] = [
+static RUNS: [(&[&str], &[u8], u8, &str, &str); 32] = [
     (&[], b"", 2, "", USAGE),
     (&[""], b"", 2, "", USAGE),
     (&["show"], b"", 2, "", USAGE),

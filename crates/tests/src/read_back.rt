@@ -2,9 +2,9 @@
 
 use crate::texts::{CALL, FOUR_SECTIONS, OFFER, OPUS, OWN_OFFER, read};
 use exchange::is_read_back;
-use std::alloc::Global;
+use std::alloc::{AllocError, Global};
 use std::test::Fail;
-use str0m_signal::{SdpError, SdpOffer};
+use str0m_signal::{Sdp, SdpError, SdpOffer};
 use uses::checked;
 
 /// Whether the text is read as this offer.
@@ -13,52 +13,61 @@ fn is_read_as(alloc: Global, text: &str, offer: &SdpOffer) -> Result<bool, SdpEr
     Ok(again == *offer)
 }
 
-#[test]
-fn an_offer_printed_and_read_is_itself(rt: HostRuntime) -> Result<(), Fail> {
-    let offer = SdpOffer::from_sdp_string(rt.alloc(), OPUS)?;
+/// Whether an offer that is printed and read is itself.
+fn is_itself(alloc: Global) -> Result<bool, SdpError> {
+    let offer = SdpOffer::from_sdp_string(alloc, OPUS)?;
     let text = offer.to_sdp_string()?;
-    let is_itself = is_read_as(rt.alloc(), text.as_str(), &offer)?;
-    assert!(rt; is_itself);
-    Ok(())
+    is_read_as(alloc, text.as_str(), &offer)
+}
+
+/// Whether what a description prints is read back, and whether it is with a letter behind it.
+fn printed_back(alloc: Global, said: &Sdp) -> Result<(bool, bool), AllocError> {
+    let text = said.to_string(alloc)?;
+    let longer = format!(in alloc; "{text}x")?;
+    let is_back = is_read_back(alloc, said, text.as_str())?;
+    Ok((is_back, is_read_back(alloc, said, longer.as_str())?))
 }
 
 #[test]
 fn what_is_printed_is_read_back(rt: HostRuntime) -> Result<(), Fail> {
+    assert!(rt; is_itself(rt.alloc())?);
     let call = read(rt.alloc(), CALL)?;
-    let text = call.to_string(rt.alloc())?;
-    assert!(rt; is_read_back(rt.alloc(), &call, text.as_str())?);
-    let longer = format!(in rt.alloc(); "{text}x")?;
-    for other in ["", FOUR_SECTIONS, longer.as_str()] {
+    assert_eq!(rt; printed_back(rt.alloc(), &call)?, (true, false));
+    for other in &["", FOUR_SECTIONS] {
         assert!(rt; !is_read_back(rt.alloc(), &call, other)?);
     }
     Ok(())
 }
 
-#[test]
-fn a_text_that_loses_nothing_may_be_stored(rt: HostRuntime) -> Result<(), Fail> {
-    let found = checked(rt.alloc(), OWN_OFFER)?;
-    assert_eq!(rt;
-        (found.rest, found.is_consistent, found.is_printed_so),
-        ("", true, true)
-    );
-    Ok(())
+/// A text, what stands behind it, whether it is consistent, and whether it is printed so. The first loses nothing and may be
+/// stored; the second would lose a line; the third contradicts itself, since it has no group.
+static CHECKED: [(&str, &str, bool, bool); 3] = [
+    (OWN_OFFER, "", true, true),
+    (OWN_OFFER, "x=1\r\n", true, false),
+    (OFFER, "", false, true),
+];
+
+fn is_checked_so(
+    alloc: Global,
+    text: &str,
+    rest: &str,
+    is_consistent: bool,
+    is_printed_so: bool,
+) -> Result<bool, SdpError> {
+    let whole = format!(in alloc; "{text}{rest}")?;
+    let found = checked(alloc, whole.as_str())?;
+    Ok(
+        found.rest == rest
+            && found.is_consistent == is_consistent
+            && found.is_printed_so == is_printed_so,
+    )
 }
 
-/// The offer has no group.
 #[test]
-fn a_text_that_contradicts_itself_is_told(rt: HostRuntime) -> Result<(), Fail> {
-    let found = checked(rt.alloc(), OFFER)?;
-    assert!(rt; !found.is_consistent);
-    Ok(())
-}
-
-#[test]
-fn a_text_that_would_lose_a_line_is_told(rt: HostRuntime) -> Result<(), Fail> {
-    let and_more = format!(in rt.alloc(); "{OWN_OFFER}x=1\r\n")?;
-    let found = checked(rt.alloc(), and_more.as_str())?;
-    assert_eq!(rt;
-        (found.rest, found.is_consistent, found.is_printed_so),
-        ("x=1\r\n", true, false)
-    );
+fn what_a_text_would_lose_is_told(rt: HostRuntime) -> Result<(), Fail> {
+    for (text, rest, is_consistent, is_printed_so) in &CHECKED {
+        let found = is_checked_so(rt.alloc(), text, rest, *is_consistent, *is_printed_so)?;
+        assert!(rt; found, "{text}{rest}");
+    }
     Ok(())
 }

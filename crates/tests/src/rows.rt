@@ -9,7 +9,7 @@ use str0m_values::{Direction, Frequency, Pt};
 pub(crate) type Types = (u8, Option<u8>, Option<u8>);
 
 /// What a side may describe.
-pub(crate) const DIRECTIONS: [Direction; 4] = [
+pub(crate) static DIRECTIONS: [Direction; 4] = [
     Direction::SendRecv,
     Direction::SendOnly,
     Direction::RecvOnly,

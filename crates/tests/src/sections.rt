@@ -1,15 +1,13 @@
 //! Sections, and what stands in them, before anything is said: what no text makes.
 
-use std::alloc::AllocError;
+use std::alloc::{AllocError, Global};
 use std::test::Fail;
 use str0m_signal::{Direction, MediaLine, MediaType, Proto, RestrictionId, Setup, Ssrc, SsrcInfo};
 
-#[test]
-fn types_begin_as_audio_over_rtp(rt: HostRuntime) -> Result<(), Fail> {
-    assert_eq!(rt; MediaType::default(), MediaType::Audio);
-    assert_eq!(rt; Proto::default(), Proto::Srtp);
-    assert_eq!(rt; Setup::default(), Setup::ActPass);
-    Ok(())
+fn do_types_begin_as_audio_over_rtp() -> bool {
+    MediaType::default() == MediaType::Audio
+        && Proto::default() == Proto::Srtp
+        && Setup::default() == Setup::ActPass
 }
 
 /// Whether the source has the number 0, and nothing else is said of it.
@@ -24,14 +22,6 @@ fn is_unknown(info: &SsrcInfo) -> bool {
 fn is_info_copied(info: &SsrcInfo) -> Result<bool, AllocError> {
     let copy = info.clone()?;
     Ok(copy == *info)
-}
-
-#[test]
-fn a_source_begins_with_nothing_known(rt: HostRuntime) -> Result<(), Fail> {
-    let info = SsrcInfo::default();
-    assert!(rt; is_unknown(&info), "{info:?}");
-    assert!(rt; is_info_copied(&info)?);
-    Ok(())
 }
 
 /// Whether the section is one of audio over RTP, without a bandwidth.
@@ -51,17 +41,27 @@ fn is_empty(section: &MediaLine) -> bool {
         && section.direction() == Direction::Inactive
 }
 
-#[test]
-fn a_new_section_is_enabled_and_empty(rt: HostRuntime) -> Result<(), Fail> {
-    let section = MediaLine::new(rt.alloc());
-    assert!(rt; is_enabled(&section), "{section:?}");
-    assert!(rt; is_empty(&section), "{section:?}");
-    Ok(())
+/// Whether nothing is known of a source in the beginning; its copy is the same.
+fn is_source_unknown() -> Result<bool, AllocError> {
+    let info = SsrcInfo::default();
+    Ok(is_unknown(&info) && is_info_copied(&info)?)
+}
+
+fn is_new_section_empty(alloc: Global) -> bool {
+    let section = MediaLine::new(alloc);
+    is_enabled(&section) && is_empty(&section)
+}
+
+fn is_empty_restriction_active(alloc: Global) -> bool {
+    let id = RestrictionId::empty(alloc);
+    id.1 && id.0.is_empty()
 }
 
 #[test]
-fn an_empty_restriction_is_active(rt: HostRuntime) -> Result<(), Fail> {
-    let id = RestrictionId::empty(rt.alloc());
-    assert!(rt; id.1 && id.0.is_empty());
+fn nothing_is_said_in_the_beginning(rt: HostRuntime) -> Result<(), Fail> {
+    assert!(rt; do_types_begin_as_audio_over_rtp());
+    assert!(rt; is_source_unknown()?);
+    assert!(rt; is_new_section_empty(rt.alloc()));
+    assert!(rt; is_empty_restriction_active(rt.alloc()));
     Ok(())
 }

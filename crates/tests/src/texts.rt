@@ -1,6 +1,7 @@
-//! Texts that several files read, and the description that a text begins with.
+//! Texts that several files read, the description that a text begins with, and what values print.
 
-use std::alloc::Global;
+use std::alloc::{AllocError, Global};
+use std::fmt::Display;
 use str0m_signal::{Sdp, SdpError, sdp_parser};
 
 /// A header and a section of Opus.
@@ -27,4 +28,10 @@ pub(crate) const FOUR_SECTIONS: &str =
 /// The description that the text begins with.
 pub(crate) fn read(alloc: Global, text: &str) -> Result<Sdp, SdpError> {
     Ok(sdp_parser(alloc, text)?.0)
+}
+
+/// Whether the value prints this text.
+pub(crate) fn prints<T: Display>(alloc: Global, value: &T, text: &str) -> Result<bool, AllocError> {
+    let printed = value.to_string(alloc)?;
+    Ok(printed.as_str() == text)
 }

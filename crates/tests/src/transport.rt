@@ -1,33 +1,33 @@
 //! Credentials, fingerprints and roles: copied, compared and printed as no line says them, and what is in force at a section.
 
-use crate::texts::{FOUR_SECTIONS, read};
+use crate::texts::{FOUR_SECTIONS, prints, read};
 use exchange::{creds_at, fingerprint_at, setup_at};
 use std::alloc::{AllocError, Global};
 use std::test::Fail;
-use str0m_signal::Setup;
+use str0m_signal::{Sdp, Setup};
 use str0m_values::{Fingerprint, FingerprintError, FingerprintFmt, IceCreds, Items, Text};
 
-#[test]
-fn a_copy_of_credentials_equals_them(rt: HostRuntime) -> Result<(), Fail> {
-    let creds = IceCreds {
-        ufrag: Text::from_str(rt.alloc(), "u")?,
-        pass: Text::from_str(rt.alloc(), "p")?,
-    };
+fn is_pair_copied(creds: &IceCreds) -> Result<bool, AllocError> {
     let copy = creds.clone()?;
-    assert!(rt; copy == creds);
-    assert_eq!(rt; copy.pass.as_str(), "p");
-    Ok(())
+    Ok(copy == *creds && copy.pass.as_str() == "p")
 }
 
-fn fingerprint(alloc: Global, bytes: [u8; 3]) -> Result<Fingerprint, Fail> {
-    Ok(Fingerprint {
-        hash_func: Text::from_str(alloc, "foo")?,
-        bytes: Items::from(vec![in alloc; bytes[0], bytes[1], bytes[2]]?),
-    })
+fn are_credentials_copied(alloc: Global) -> Result<bool, AllocError> {
+    let creds = IceCreds {
+        ufrag: Text::from_str(alloc, "u")?,
+        pass: Text::from_str(alloc, "p")?,
+    };
+    is_pair_copied(&creds)
+}
+
+fn fingerprint(alloc: Global, bytes: &[u8]) -> Result<Fingerprint, AllocError> {
+    let hash_func = Text::from_str(alloc, "foo")?;
+    let bytes = Items::from(Vec::from_slice(alloc, bytes)?);
+    Ok(Fingerprint { hash_func, bytes })
 }
 
 /// Whether the fingerprint is the one that is made of these bytes.
-fn has_bytes(alloc: Global, read: &Fingerprint, bytes: [u8; 3]) -> Result<bool, Fail> {
+fn has_bytes(alloc: Global, read: &Fingerprint, bytes: &[u8]) -> Result<bool, AllocError> {
     let made = fingerprint(alloc, bytes)?;
     Ok(*read == made)
 }
@@ -37,72 +37,72 @@ fn is_fingerprint_copied(read: &Fingerprint) -> Result<bool, AllocError> {
     Ok(copy == *read)
 }
 
-#[test]
-fn fingerprints_are_equal_by_their_parts(rt: HostRuntime) -> Result<(), Fail> {
-    let read = Fingerprint::from_str(rt.alloc(), "foo 09:0A:11")?;
-    assert!(rt; has_bytes(rt.alloc(), &read, [9, 10, 17])?);
-    assert!(rt; !has_bytes(rt.alloc(), &read, [9, 10, 18])?);
-    assert!(rt; is_fingerprint_copied(&read)?);
-    Ok(())
+/// Whether the fingerprint equals its copy, the one of its bytes, and one of other bytes.
+fn equals(alloc: Global, read: &Fingerprint) -> Result<(bool, bool, bool), AllocError> {
+    let copy = is_fingerprint_copied(read)?;
+    let made = has_bytes(alloc, read, &[9, 10, 17])?;
+    Ok((copy, made, has_bytes(alloc, read, &[9, 10, 18])?))
+}
+
+fn fingerprint_equals(alloc: Global) -> Result<(bool, bool, bool), FingerprintError> {
+    let read = Fingerprint::from_str(alloc, "foo 09:0A:11")?;
+    Ok(equals(alloc, &read)?)
 }
 
 /// No text is read as a fingerprint of no bytes.
-#[test]
-fn a_fingerprint_of_no_bytes_prints_its_name(rt: HostRuntime) -> Result<(), Fail> {
-    let bare = Fingerprint {
-        hash_func: Text::from_str(rt.alloc(), "foo")?,
-        bytes: Items::empty(rt.alloc()),
-    };
-    let text = bare.to_string(rt.alloc())?;
-    assert_eq!(rt; text.as_str(), "foo ");
-    Ok(())
+fn is_bare_printed(alloc: Global) -> Result<bool, AllocError> {
+    let bare = fingerprint(alloc, &[])?;
+    prints(alloc, &bare, "foo ")
 }
 
 #[test]
-fn bytes_are_printed_without_a_name(rt: HostRuntime) -> Result<(), Fail> {
-    let text = FingerprintFmt(&[]).to_string(rt.alloc())?;
-    assert_eq!(rt; text.as_str(), "");
-    let text = FingerprintFmt(&[0, 255]).to_string(rt.alloc())?;
-    assert_eq!(rt; text.as_str(), "00:FF");
+fn values_of_the_transport_are_copied_compared_and_printed(rt: HostRuntime) -> Result<(), Fail> {
+    assert!(rt; are_credentials_copied(rt.alloc())?);
+    assert_eq!(rt; fingerprint_equals(rt.alloc())?, (true, true, false));
+    assert!(rt; is_bare_printed(rt.alloc())?);
+    assert!(rt; prints(rt.alloc(), &FingerprintFmt(&[]), "")?);
+    assert!(rt; prints(rt.alloc(), &FingerprintFmt(&[0, 255]), "00:FF")?);
+    assert!(rt; prints(rt.alloc(), &FingerprintError::Memory, "out of memory")?);
     Ok(())
 }
 
-#[test]
-fn want_of_memory_is_said(rt: HostRuntime) -> Result<(), Fail> {
-    let text = FingerprintError::Memory.to_string(rt.alloc())?;
-    assert_eq!(rt; text.as_str(), "out of memory");
-    Ok(())
+fn are_roles_in_force(offer: &Sdp) -> bool {
+    setup_at(offer, 0) == Some(Setup::Passive)
+        && setup_at(offer, 1) == Some(Setup::ActPass)
+        && setup_at(offer, 4).is_none()
+}
+
+/// Whether the credentials are this user's fragment with the password of the session.
+fn is_of_user(creds: &Option<IceCreds>, ufrag: &str) -> bool {
+    match creds {
+        Some(found) => {
+            found.ufrag.as_str() == ufrag && found.pass.as_str() == "session-password-of-22"
+        }
+        None => false,
+    }
+}
+
+/// Each credential is that of the section before that of the session.
+fn are_credentials_in_force(offer: &Sdp) -> Result<bool, AllocError> {
+    let own = is_of_user(&creds_at(offer, 0)?, "own1");
+    let theirs = is_of_user(&creds_at(offer, 1)?, "sess");
+    Ok(own && theirs && creds_at(offer, 4)?.is_none())
+}
+
+/// Whether a fingerprint of this hash is in force at the section.
+fn is_hash_in_force(offer: &Sdp, at: usize, hash: &str) -> Result<bool, AllocError> {
+    match &fingerprint_at(offer, at)? {
+        Some(found) => Ok(found.hash_func.as_str() == hash),
+        None => Ok(false),
+    }
 }
 
 #[test]
-fn the_role_of_a_section_comes_before_that_of_the_session(rt: HostRuntime) -> Result<(), Fail> {
+fn what_a_section_says_comes_before_the_session(rt: HostRuntime) -> Result<(), Fail> {
     let offer = read(rt.alloc(), FOUR_SECTIONS)?;
-    assert_eq!(rt; setup_at(&offer, 0), Some(Setup::Passive));
-    assert_eq!(rt; setup_at(&offer, 1), Some(Setup::ActPass));
-    assert_eq!(rt; setup_at(&offer, 4), None);
-    Ok(())
-}
-
-#[test]
-fn each_credential_is_that_of_the_section_before_the_session(rt: HostRuntime) -> Result<(), Fail> {
-    let offer = read(rt.alloc(), FOUR_SECTIONS)?;
-    let own = creds_at(&offer, 0)?.ok_or("credentials")?;
-    assert_eq!(rt; own.ufrag.as_str(), "own1");
-    assert_eq!(rt; own.pass.as_str(), "session-password-of-22");
-    let theirs = creds_at(&offer, 1)?.ok_or("credentials")?;
-    assert_eq!(rt; theirs.ufrag.as_str(), "sess");
-    assert!(rt; creds_at(&offer, 4)?.is_none());
-    Ok(())
-}
-
-#[test]
-fn a_fingerprint_of_a_section_comes_before_those_of_the_session(
-    rt: HostRuntime,
-) -> Result<(), Fail> {
-    let offer = read(rt.alloc(), FOUR_SECTIONS)?;
-    let print = fingerprint_at(&offer, 2)?.ok_or("fingerprint")?;
-    assert_eq!(rt; print.hash_func.as_str(), "sha-256");
-    let print = fingerprint_at(&offer, 3)?.ok_or("fingerprint")?;
-    assert_eq!(rt; print.hash_func.as_str(), "sha-1");
+    assert!(rt; are_roles_in_force(&offer));
+    assert!(rt; are_credentials_in_force(&offer)?);
+    assert!(rt; is_hash_in_force(&offer, 2, "sha-256")?);
+    assert!(rt; is_hash_in_force(&offer, 3, "sha-1")?);
     Ok(())
 }
