@@ -185,7 +185,7 @@ static FORMS: [Form; 32] = [
     Form(label::RTCP_RSIZE, Level::Section, WORD_ALONE),
 ];
 
-/// All forms, as a slice: a function that names the table itself is proved over a copy of it.
+// Nothing else names the table: what does is proved over a copy of it.
 fn all_forms() -> &'static [Form] {
     FORMS.as_slice()
 }
