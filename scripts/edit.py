@@ -6,7 +6,7 @@ import proved
 
 CRATES = proved.TOP / "crates"
 FUNCTION = re.compile(r"(?P<indent>\s*)(?:pub(?:\([^)]*\))? )?(?:const |extern \"C\" )?fn (?P<name>\w+)")
-TABLE = re.compile(r"^ *(?:pub(?:\([^)]*\))? )?const (?P<name>\w+):.*?;$", re.M | re.S)
+TABLE = re.compile(r"^ *(?:pub(?:\([^)]*\))? )?(?:const|static) (?P<name>\w+):.*?;$", re.M | re.S)
 LIST = re.compile(r"(?:pub mod \w+\n)+")
 NAMED = re.compile(r"\bRattle\.(\w+)\.(?:specs|proofs)\.[\w.]+|\bcrate(?:::\w+)+")
 BLOCK = re.compile(r"(?:impl(?:<(?P<own>.*?)>)? (?:(?P<trait>.+?) for )?(?P<type>.+?)|.*\btrait (?P<decl>\w+).*?)(?: where .*)?\{")

@@ -85,7 +85,7 @@ def fault_of_declared(crate, words, names, is_foreign):
         return f"no file of code {'.'.join(words)}"
     text, module = text_of(file), words[0]
     if rest[0] == "TheConstants":
-        missing = [name for name, _ in names if f"const {name}:" not in text]
+        missing = [name for name, _ in names if not re.search(rf"\b(?:const|static) {name}:", text)]
         hidden = [name for name, _ in names if is_foreign and module not in public_modules(crate) and name not in passed_on(crate)]
         return f"no constant {', '.join(missing)}" if missing else f"{', '.join(hidden)} isn't public" if hidden else None
     kind = re.search(rf"^(pub )?(?:pub\(\w+\) )?(?:struct|enum|trait|type|union) {rest[0]}\b", text, re.M)

@@ -1,16 +1,16 @@
 #!/usr/bin/env python3
-"""Whether docs/LINT.md says of each code what the table of crates/lint says (src/table.rt), which `sdplint --explain` prints, too.
+"""Whether docs/LINT.md says of each code what the tables of crates/lint say (src/table/), which `sdplint --explain` prints, too.
 
     scripts/lint_page.py --write   writes the page's tables from it
 
-The page's head is written by hand, down to the line `<!-- codes -->`; what follows is generated. Each row of the table stands in
+The page's head is written by hand, down to the line `<!-- codes -->`; what follows is generated. Each row of the tables stands in
 cases/lint/ with its code, as well."""
 import re
 import sys
 
 from proved import TOP
 
-TABLE = TOP / "crates" / "lint" / "src" / "table.rt"
+TABLES = TOP / "crates" / "lint" / "src" / "table"
 CODES = TOP / "crates" / "lint" / "src" / "code.rt"
 PAGE = TOP / "docs" / "LINT.md"
 MARK = "<!-- codes -->\n"
@@ -42,10 +42,12 @@ def cases_of(enum):
 
 
 def tables():
-    """The entries of each table, as texts by their fields."""
-    for name, body in re.findall(r"^pub static (\w+): \[Entry; \d+\] = \[\n(.*?)^\];", TABLE.read_text("utf-8"), re.M | re.S):
-        row = r"Entry \{\s*" + r"\s*".join(rf'{it}: "((?:[^"\\]|\\.)*)",' for it in FIELDS)
-        yield name, [dict(zip(FIELDS, (ESCAPE.sub(r"\1", text) for text in found))) for found in re.findall(row, body)]
+    """The entries of each table, as texts by their fields, in the order of the page."""
+    texts = "".join(it.read_text("utf-8") for it in sorted(TABLES.glob("*.rt")))
+    bodies = dict(re.findall(r"^static (\w+): \[Entry; \d+\] = \[(.*?)^\}?\];", texts, re.M | re.S))
+    row = r"Entry \{\s*" + r"\s*".join(rf'{it}: "((?:[^"\\]|\\.)*)",' for it in FIELDS)
+    for name in HEADS:
+        yield name, [dict(zip(FIELDS, (ESCAPE.sub(r"\1", text) for text in found))) for found in re.findall(row, bodies[name])]
 
 
 def cell(text):

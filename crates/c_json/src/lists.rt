@@ -12,7 +12,7 @@ pub(crate) trait Listed: Copy {
 
     fn key(self) -> &'static str;
 
-    /// Whether an attribute is an item of the list: one of its kind that prints.
+    /// Whether an attribute is an item of the list: one of its kind that prints, and that no key says.
     fn has(self, alloc: Global, attr: &Self::Attribute) -> Result<bool, AllocError>;
 
     /// Adds the item that an attribute is.

@@ -32,8 +32,8 @@ struct SaidBySection<'a> {
 }
 
 impl<'a> SaidBySection<'a> {
-    fn by(attrs: &'a [MediaAttribute]) -> SaidBySection<'a> {
-        let mut said = SaidBySection {
+    fn unsaid() -> SaidBySection<'a> {
+        SaidBySection {
             transport: Transport::unsaid(),
             direction: None,
             max_message_size: None,
@@ -46,14 +46,19 @@ impl<'a> SaidBySection<'a> {
             sctp_init: None,
             sctp_port: None,
             simulcast: None,
-        };
+        }
+    }
+
+    fn by(attrs: &'a [MediaAttribute]) -> SaidBySection<'a> {
+        let mut said = SaidBySection::unsaid();
         for attr in attrs {
             said.note(attr);
         }
         said
     }
 
-    fn note(&mut self, attr: &'a MediaAttribute) {
+    /// Notes what an attribute says; whether it has a key.
+    fn note(&mut self, attr: &'a MediaAttribute) -> bool {
         match attr {
             MediaAttribute::SendRecv => self.direction = Some(label::SEND_RECV),
             MediaAttribute::SendOnly => self.direction = Some(label::SEND_ONLY),
@@ -70,11 +75,13 @@ impl<'a> SaidBySection<'a> {
             MediaAttribute::SctpPort(port) => self.sctp_port = Some(u64::from(*port)),
             MediaAttribute::Simulcast(layers) if are_layers_printed(layers) => self.simulcast =
                 Some(attr),
-            _ => self.note_transport(attr),
+            MediaAttribute::Simulcast(_) => {}
+            _ => return self.note_transport(attr),
         }
+        true
     }
 
-    fn note_transport(&mut self, attr: &'a MediaAttribute) {
+    fn note_transport(&mut self, attr: &'a MediaAttribute) -> bool {
         let said = &mut self.transport;
         match attr {
             MediaAttribute::EndOfCandidates => said.end_of_candidates = Some(
@@ -85,8 +92,9 @@ impl<'a> SaidBySection<'a> {
             MediaAttribute::IcePwd(text) => said.ice_pwd = Some(text.as_str()),
             MediaAttribute::IceUfrag(text) => said.ice_ufrag = Some(text.as_str()),
             MediaAttribute::Setup(setup) => said.setup = Some(*setup),
-            _ => {}
+            _ => return false,
         }
+        true
     }
 
     fn add_msid(&self, json: &mut JsonWriter) -> Result<(), AllocError>
@@ -98,6 +106,12 @@ impl<'a> SaidBySection<'a> {
             None => Ok(()),
         }
     }
+}
+
+/// Whether an attribute has a key that is no list.
+pub(crate) fn section_has_key(attr: &MediaAttribute) -> bool {
+    let mut said = SaidBySection::unsaid();
+    said.note(attr)
 }
 
 /// The keys from `bandwidth` to `invalid`.

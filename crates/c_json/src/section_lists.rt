@@ -7,18 +7,20 @@ use crate::candidate::add_candidate;
 use crate::formats::{add_extension, add_feedback, add_fmtp, add_rtp_map};
 use crate::json_writer::JsonWriter;
 use crate::lists::Listed;
+use crate::section::section_has_key;
 use crate::streams::{add_rid, add_source, add_source_group};
-use crate::transport::add_unread;
+use crate::transport::{add_printed, add_unread};
 use std::alloc::{AllocError, Global};
 use str0m_formats::FormatParam;
 use str0m_signal::MediaAttribute;
 
 /// A list whose items are attributes of a section.
-#[derive(Clone, Copy)]
+#[derive(Clone, Copy, PartialEq, Eq)]
 pub(crate) enum SectionList {
     Candidates,
     Ext,
     Fmtp,
+    /// What no other list and no key has.
     Invalid,
     Rids,
     RtcpFb,
@@ -35,6 +37,31 @@ fn are_printed(alloc: Global, values: &[FormatParam]) -> Result<bool, AllocError
         }
     }
     Ok(false)
+}
+
+/// The list for attributes of this kind: `Invalid` where no other is.
+fn section_list(attr: &MediaAttribute) -> SectionList {
+    match attr {
+        MediaAttribute::Candidate(_) => SectionList::Candidates,
+        MediaAttribute::ExtMap { .. } => SectionList::Ext,
+        MediaAttribute::Fmtp { .. } => SectionList::Fmtp,
+        MediaAttribute::Rid { .. } => SectionList::Rids,
+        MediaAttribute::RtcpFb { .. } => SectionList::RtcpFb,
+        MediaAttribute::RtpMap { .. } => SectionList::Rtp,
+        MediaAttribute::SsrcGroup { .. } => SectionList::SsrcGroups,
+        MediaAttribute::Ssrc { .. } => SectionList::Ssrcs,
+        _ => SectionList::Invalid,
+    }
+}
+
+/// Whether an attribute is an item of its list: it prints, and no key says it.
+fn is_item(alloc: Global, attr: &MediaAttribute) -> Result<bool, AllocError> {
+    match attr {
+        MediaAttribute::ExtMap { ext, .. } => Ok(ext.is_serialized()),
+        MediaAttribute::Fmtp { values, .. } => are_printed(alloc, values.as_slice()),
+        MediaAttribute::SsrcGroup { ssrcs, .. } => Ok(!ssrcs.is_empty()),
+        _ => Ok(!section_has_key(attr)),
+    }
 }
 
 impl Listed for SectionList {
@@ -55,22 +82,10 @@ impl Listed for SectionList {
     }
 
     fn has(self, alloc: Global, attr: &MediaAttribute) -> Result<bool, AllocError> {
-        match (self, attr) {
-            (SectionList::Candidates, MediaAttribute::Candidate(_)) => Ok(true),
-            (SectionList::Ext, MediaAttribute::ExtMap { ext, .. }) => Ok(ext.is_serialized()),
-            (SectionList::Fmtp, MediaAttribute::Fmtp { values, .. }) => {
-                are_printed(alloc, values.as_slice())
-            }
-            (SectionList::Invalid, MediaAttribute::Unused(_)) => Ok(true),
-            (SectionList::Rids, MediaAttribute::Rid { .. }) => Ok(true),
-            (SectionList::RtcpFb, MediaAttribute::RtcpFb { .. }) => Ok(true),
-            (SectionList::Rtp, MediaAttribute::RtpMap { .. }) => Ok(true),
-            (SectionList::SsrcGroups, MediaAttribute::SsrcGroup { ssrcs, .. }) => {
-                Ok(!ssrcs.is_empty())
-            }
-            (SectionList::Ssrcs, MediaAttribute::Ssrc { .. }) => Ok(true),
-            _ => Ok(false),
+        if section_list(attr) != self {
+            return Ok(false);
         }
+        is_item(alloc, attr)
     }
 
     fn add(
@@ -91,7 +106,10 @@ impl Listed for SectionList {
                 add_source_group(json, semantics, ssrcs.as_slice())
             }
             MediaAttribute::Ssrc { ssrc, attr, value } => add_source(json, *ssrc, attr, value),
-            _ => Ok(()),
+            _ => {
+                let line = attr.to_string(alloc)?;
+                add_printed(json, line.as_str())
+            }
         }
     }
 }

@@ -24,20 +24,25 @@ struct SaidBySession<'a> {
 }
 
 impl<'a> SaidBySession<'a> {
-    fn by(attrs: &'a [SessionAttribute]) -> SaidBySession<'a> {
-        let mut said = SaidBySession {
+    fn unsaid() -> SaidBySession<'a> {
+        SaidBySession {
             transport: Transport::unsaid(),
             allow_mixed: None,
             ice_lite: None,
             semantic: None,
-        };
+        }
+    }
+
+    fn by(attrs: &'a [SessionAttribute]) -> SaidBySession<'a> {
+        let mut said = SaidBySession::unsaid();
         for attr in attrs {
             said.note(attr);
         }
         said
     }
 
-    fn note(&mut self, attr: &'a SessionAttribute) {
+    /// Notes what an attribute says; whether it has a key.
+    fn note(&mut self, attr: &'a SessionAttribute) -> bool {
         let transport = &mut self.transport;
         match attr {
             SessionAttribute::AllowMixedExts => self.allow_mixed = Some(label::EXTMAP_ALLOW_MIXED),
@@ -54,8 +59,9 @@ impl<'a> SaidBySession<'a> {
             SessionAttribute::IcePwd(text) => transport.ice_pwd = Some(text.as_str()),
             SessionAttribute::IceUfrag(text) => transport.ice_ufrag = Some(text.as_str()),
             SessionAttribute::Setup(setup) => transport.setup = Some(*setup),
-            _ => {}
+            _ => return false,
         }
+        true
     }
 
     fn add_semantic(&self, json: &mut JsonWriter) -> Result<(), AllocError>
@@ -70,6 +76,12 @@ impl<'a> SaidBySession<'a> {
         json.spaced("token", ids.as_slice())?;
         json.end_object()
     }
+}
+
+/// Whether an attribute has a key that is no list.
+pub(crate) fn session_has_key(attr: &SessionAttribute) -> bool {
+    let mut said = SaidBySession::unsaid();
+    said.note(attr)
 }
 
 fn add_media(alloc: Global, json: &mut JsonWriter, sections: &[MediaLine]) -> Result<(), AllocError>

@@ -6,15 +6,17 @@ ghost use Rattle.std.specs.Prelude.{◌≡◌, OnOk};
 use crate::candidate::add_candidate;
 use crate::json_writer::JsonWriter;
 use crate::lists::Listed;
-use crate::transport::add_unread;
+use crate::session::session_has_key;
+use crate::transport::{add_printed, add_unread};
 use std::alloc::{AllocError, Global};
 use str0m_signal::{Mid, SessionAttribute, Text};
 
 /// A list whose items are attributes of a session.
-#[derive(Clone, Copy)]
+#[derive(Clone, Copy, PartialEq, Eq)]
 pub(crate) enum SessionList {
     Candidates,
     Groups,
+    /// What no other list and no key has.
     Invalid,
 }
 
@@ -29,6 +31,15 @@ fn add_group(json: &mut JsonWriter, typ: &Text, mids: &[Mid]) -> Result<(), Allo
     json.end_object()
 }
 
+/// The list for attributes of this kind: `Invalid` where no other is.
+fn session_list(attr: &SessionAttribute) -> SessionList {
+    match attr {
+        SessionAttribute::Candidate(_) => SessionList::Candidates,
+        SessionAttribute::Group { .. } => SessionList::Groups,
+        _ => SessionList::Invalid,
+    }
+}
+
 impl Listed for SessionList {
     type Attribute = SessionAttribute;
 
@@ -41,17 +52,12 @@ impl Listed for SessionList {
     }
 
     fn has(self, _alloc: Global, attr: &SessionAttribute) -> Result<bool, AllocError> {
-        match (self, attr) {
-            (SessionList::Candidates, SessionAttribute::Candidate(_)) => Ok(true),
-            (SessionList::Groups, SessionAttribute::Group { .. }) => Ok(true),
-            (SessionList::Invalid, SessionAttribute::Unused(_)) => Ok(true),
-            _ => Ok(false),
-        }
+        Ok(session_list(attr) == self && !session_has_key(attr))
     }
 
     fn add(
         self,
-        _alloc: Global,
+        alloc: Global,
         json: &mut JsonWriter,
         attr: &SessionAttribute,
     ) -> Result<(), AllocError> {
@@ -59,7 +65,10 @@ impl Listed for SessionList {
             SessionAttribute::Candidate(found) => add_candidate(json, found),
             SessionAttribute::Group { typ, mids } => add_group(json, typ, mids.as_slice()),
             SessionAttribute::Unused(text) => add_unread(json, text.as_str()),
-            _ => Ok(()),
+            _ => {
+                let line = attr.to_string(alloc)?;
+                add_printed(json, line.as_str())
+            }
         }
     }
 }

@@ -4,6 +4,7 @@ ghost use Rattle.c_json.specs.JsonWriter.{InList, InObject};
 ghost use Rattle.std.specs.Prelude.{◌≡◌, OnOk};
 
 use crate::json_writer::JsonWriter;
+use crate::words::content;
 use std::alloc::AllocError;
 use str0m_signal::{Fingerprint, FingerprintFmt, Setup};
 use str0m_values::Worded;
@@ -77,4 +78,12 @@ pub(crate) fn add_unread(json: &mut JsonWriter, text: &str) -> Result<(), AllocE
     json.begin_item()?;
     json.text("value", text)?;
     json.end_object()
+}
+
+/// Adds an attribute that has no list and no key, as its line prints.
+pub(crate) fn add_printed(json: &mut JsonWriter, line: &str) -> Result<(), AllocError>
+    requires { InList json.old }
+    ensures { OnOk result (json.new ≡ json.old) }
+{
+    add_unread(json, content(line, "").unwrap_or(""))
 }

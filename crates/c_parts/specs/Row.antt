@@ -31,9 +31,13 @@ codec_number Red = 15
 codec_number Null = 16
 codec_number other = 0
 
+-- the codec of a number among those that are listed
+abbrev pub codec_among : List Codec → ℕ → Option Codec
+codec_among codecs number = find (λ codec. codec_number codec == number) codecs
+
 -- the codec of a number
 abbrev pub codec_at : ℕ → Option Codec
-codec_at number = find (λ codec. codec_number codec == number) NUMBERED
+codec_at number = codec_among NUMBERED number
 
 -- a number that may not be there, and what stands in its place then
 abbrev pub number_or : ℕ → Option ℕ → ℕ

@@ -1,6 +1,6 @@
 //! Rows and outcomes as C holds them.
 
-ghost use Rattle.c_parts.specs.Row.{bit, c_outcome, c_row, c_rows, codec_at, codec_number, feedback_bits, number_or, said_unless};
+ghost use Rattle.c_parts.specs.Row.{bit, c_outcome, c_row, c_rows, codec_among, codec_at, codec_number, feedback_bits, number_or, said_unless};
 ghost use Rattle.std.specs.Prelude.{◌≡◌, ◌≤◌, IfOk, length, map};
 
 use crate::section_item::SectionItem;
@@ -31,7 +31,7 @@ pub struct Outcome {
 }
 
 /// The codecs that have a number in the header.
-const NUMBERED: [Codec; 16] = [
+static NUMBERED: [Codec; 16] = [
     Codec::Opus,
     Codec::PCMU,
     Codec::PCMA,
@@ -49,6 +49,12 @@ const NUMBERED: [Codec; 16] = [
     Codec::Red,
     Codec::Null,
 ];
+
+fn numbered() -> &'static [Codec]
+    ensures { result.now ≡ NUMBERED }
+{
+    NUMBERED.as_slice()
+}
 
 fn or_none(pt: Option<Pt>) -> u8
     ensures { result ≡ number_or 255 pt }
@@ -93,14 +99,21 @@ fn code_of(codec: Codec) -> u8
     }
 }
 
+/// The codec of this number among those that are listed.
+fn codec_among(codecs: &[Codec], number: u8) -> Option<Codec>
+    ensures { result ≡ codec_among codecs.now number }
+{
+    codecs
+        .iter()
+        .copied()
+        .find(|codec| code_of(*codec) == number)
+}
+
 /// The codec of a number; none has 0.
 pub fn codec_at(number: u8) -> Option<Codec>
     ensures { result ≡ codec_at number }
 {
-    NUMBERED
-        .iter()
-        .copied()
-        .find(|codec| code_of(*codec) == number)
+    codec_among(numbered(), number)
 }
 
 /// The number, unless it stands for none.

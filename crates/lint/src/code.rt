@@ -2,8 +2,15 @@
 ghost use Rattle.lint.specs.Code.{is_change, severity_of, severity_of_change, severity_of_fate, severity_word};
 ghost use Rattle.std.specs.Prelude.{◌≡◌};
 
-use crate::table;
 use crate::table::Entry;
+use crate::table::change_entries::change_entries;
+use crate::table::conflict_entries::conflict_entries;
+use crate::table::fate_entries::fate_entries;
+use crate::table::misfit_entries::misfit_entries;
+use crate::table::refusal_entries::refusal_entries;
+use crate::table::unfit_entries::unfit_entries;
+use crate::table::unknown_entries::unknown_entries;
+use crate::table::unseen_entries::unseen_entries;
 
 /// How much a finding matters.
 #[derive(Clone, Copy, Debug, PartialEq, Eq)]
@@ -281,14 +288,14 @@ impl Code {
     /// The entry of the table of codes: name, title, remedy, explanation, source and example.
     pub fn entry(self) -> &'static Entry {
         match self {
-            Code::Refused(refusal) => &table::REFUSALS[refusal as usize],
-            Code::Unread(unfit) => &table::UNFITS[unfit as usize],
-            Code::Malformed(misfit) => &table::MISFITS[misfit as usize],
-            Code::Unknown(unknown) => &table::UNKNOWNS[unknown as usize],
-            Code::Unseen(unseen) => &table::UNSEENS[unseen as usize],
-            Code::Changed(change) => &table::CHANGES[change as usize],
-            Code::Contradiction(conflict) => &table::CONFLICTS[conflict as usize],
-            Code::Round(fate) => &table::FATES[fate as usize],
+            Code::Refused(refusal) => &refusal_entries()[refusal as usize],
+            Code::Unread(unfit) => &unfit_entries()[unfit as usize],
+            Code::Malformed(misfit) => &misfit_entries()[misfit as usize],
+            Code::Unknown(unknown) => &unknown_entries()[unknown as usize],
+            Code::Unseen(unseen) => &unseen_entries()[unseen as usize],
+            Code::Changed(change) => &change_entries()[change as usize],
+            Code::Contradiction(conflict) => &conflict_entries()[conflict as usize],
+            Code::Round(fate) => &fate_entries()[fate as usize],
         }
     }
 }

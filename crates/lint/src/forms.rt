@@ -91,7 +91,7 @@ const ONE_TEXT: [Step; PARTS] = [LAST, MORE, MORE, MORE, MORE, MORE];
 
 const WORDS: [Step; PARTS] = [WORD, LAST, MORE, MORE, MORE, MORE];
 
-const FORMS: [Form; 32] = [
+static FORMS: [Form; 32] = [
     Form(
         label::RTPMAP,
         Level::Section,
@@ -185,6 +185,19 @@ const FORMS: [Form; 32] = [
     Form(label::RTCP_RSIZE, Level::Section, WORD_ALONE),
 ];
 
+// Nothing else names the table: what does is proved over a copy of it.
+fn all_forms() -> &'static [Form] {
+    FORMS.as_slice()
+}
+
+/// The form of this name among those that are listed.
+fn named_among(forms: &[Form], name: &str) -> Option<Form> {
+    forms
+        .iter()
+        .copied()
+        .find(|form| before(form.0, Separator::Colon) == name)
+}
+
 /// Whether the text is one or more ASCII letters and digits, and letters of other scripts.
 fn is_name(text: &str) -> bool {
     !text.is_empty()
@@ -245,10 +258,7 @@ pub(crate) fn name_of(text: &str) -> &str {
 impl Form {
     /// The form of the attribute of this name.
     pub(crate) fn named(name: &str) -> Option<Form> {
-        FORMS
-            .iter()
-            .copied()
-            .find(|form| before(form.0, Separator::Colon) == name)
+        named_among(all_forms(), name)
     }
 
     /// The label, with its colon where a value follows.

@@ -26,6 +26,14 @@
 //! - `row_places`: On which lines the rows of sections stand.
 //! - `section`: A section by itself, consistent or not.
 //! - `table`: The table of codes: what each says, how it is mended, where it comes from, and an example.
+//!   - `change_entries`: What is lost where a line is printed otherwise than it stands, in the order of `Change`.
+//!   - `conflict_entries`: What a line says against others, in the order of `Conflict`.
+//!   - `fate_entries`: What comes of a row of the other side in a round, in the order of `Fate`.
+//!   - `misfit_entries`: Which part doesn't fit, in the order of `Misfit`.
+//!   - `refusal_entries`: Why a text is refused, in the order of `Refusal`.
+//!   - `unfit_entries`: Why a line fits nowhere, in the order of `Unfit`.
+//!   - `unknown_entries`: Why a line is kept unread, in the order of `Unknown`.
+//!   - `unseen_entries`: What is left unknown, in the order of `Unseen`.
 //! - `told`: What the lines of a text say, but for what printing fixes.
 //! - `types`: The payload types of a section, and what its lines say of others.
 //! - `unfit`: Why a line fits nowhere.
@@ -69,4 +77,4 @@ pub use against::rounds;
 pub use code::{Change, Code, Conflict, Fate, Misfit, Refusal, Severity, Unfit, Unknown, Unseen};
 pub use finding::{Finding, Report};
 pub use found::findings;
-pub use table::{CHANGES, CONFLICTS, Entry, FATES, MISFITS, REFUSALS, UNFITS, UNKNOWNS, UNSEENS};
+pub use table::{Entry, tables};

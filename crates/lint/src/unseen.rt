@@ -7,16 +7,20 @@ use str0m_sdp::MediaAttribute;
 use str0m_sdp::label::{FIR, NACK, PLI, REMB, TRANSPORT_CC};
 
 /// The feedback that rows know.
-const FEEDBACK: [&str; 5] = [TRANSPORT_CC, REMB, FIR, NACK, PLI];
+static FEEDBACK: [&str; 5] = [TRANSPORT_CC, REMB, FIR, NACK, PLI];
 
-fn is_known_feedback(value: &str) -> bool {
-    FEEDBACK.iter().any(|known| *known == value)
+fn known_feedback() -> &'static [&'static str] {
+    FEEDBACK.as_slice()
+}
+
+fn is_among(listed: &[&str], value: &str) -> bool {
+    listed.iter().any(|it| *it == value)
 }
 
 /// What the line of an attribute leaves unknown and is printed all the same, if anything.
 pub(crate) fn unseen(attribute: &MediaAttribute) -> Option<Unseen> {
     match attribute {
-        MediaAttribute::RtcpFb { value, .. } if !is_known_feedback(value.as_str()) => Some(
+        MediaAttribute::RtcpFb { value, .. } if !is_among(known_feedback(), value.as_str()) => Some(
             Unseen::Feedback,
         ),
         _ => None,

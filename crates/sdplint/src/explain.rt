@@ -1,8 +1,7 @@
 //! What a code means.
 
 use crate::fault::Fault;
-use crate::records::tables;
-use lint::Entry;
+use lint::{Entry, tables};
 use std::alloc::Global;
 use str0m_signal::Text;
 

@@ -1,25 +1,9 @@
 //! Findings as SARIF 2.1.0.
 
-use lint::{
-    CHANGES, CONFLICTS, Entry, FATES, Finding, MISFITS, REFUSALS, UNFITS, UNKNOWNS, UNSEENS,
-};
+use lint::{Entry, Finding, tables};
 use percent_encoding::{AsciiSet, NON_ALPHANUMERIC, utf8_percent_encode};
 use serde_json::{Value, json};
 use std::alloc::{AllocError, Global};
-
-/// All entries of the table of codes.
-pub(crate) fn tables() -> [&'static [Entry]; 8] {
-    [
-        REFUSALS.as_slice(),
-        UNFITS.as_slice(),
-        MISFITS.as_slice(),
-        UNKNOWNS.as_slice(),
-        UNSEENS.as_slice(),
-        CHANGES.as_slice(),
-        CONFLICTS.as_slice(),
-        FATES.as_slice(),
-    ]
-}
 
 /// The characters that a path keeps in a URI (RFC 3986, section 3.3).
 fn escaped() -> AsciiSet {

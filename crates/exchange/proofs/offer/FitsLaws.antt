@@ -1,6 +1,6 @@
 -- An answer that fits its offer.
-use Rattle.exchange.proofs.Common.{arith, ◌≡◌, ◌<◌, ◌≤◌, ℕ, List, All, Option, get_or, length, take, inl, inr, subst, cases_lt}
-use Rattle.exchange.proofs.Common.{slice_get-get_or, slice_get_past, PayloadParams, MediaLine, Sdp}
+use Rattle.exchange.proofs.Common.{arith, ◌≡◌, ◌<◌, ◌≤◌, ℕ, List, All, Option, Some, get_or, length, take, inl, inr, subst, cases_lt}
+use Rattle.exchange.proofs.Common.{slice_get, slice_get-get_or, slice_get_past, PayloadParams, MediaLine, Sdp}
 use Rattle.exchange.specs.declared.offer.rule.Rule.{Rule}
 use Rattle.exchange.specs.declared.offer.rule.Rule.TheVariants as rule
 use Rattle.exchange.specs.offer.Fits.{BreaksFirst, FitsAt, KeepsEveryRule, Keeps, rules_asked}
@@ -31,12 +31,17 @@ all_in_place names local remote offer n past kept at = elim (cases_lt at n) [
 -- ---- the rules of a section
 
 -- the first that isn't kept
-pub first_broken : (ours : List PayloadParams) (answer : Sdp) (offered answered : MediaLine) (i : ℕ) → i < length rules_asked
-    → All (Keeps ours answer offered answered) (take i rules_asked)
-    → (Keeps ours answer offered answered (get_or rules_asked i rule.Sections) → ⊥)
-    → BreaksFirst ours answer offered answered (get_or rules_asked i rule.Sections)
-first_broken ours answer offered answered i lt kept broken =
-    record { place = i; stands = slice_get-get_or rules_asked i rule.Sections lt; earlier = kept; broken = broken }
+pub first_broken : (ours : List PayloadParams) (answer : Sdp) (offered answered : MediaLine) (rules : List Rule) → rules ≡ rules_asked
+    → (i : ℕ) → i < length rules
+    → All (Keeps ours answer offered answered) (take i rules)
+    → (Keeps ours answer offered answered (get_or rules i rule.Sections) → ⊥)
+    → BreaksFirst ours answer offered answered (get_or rules i rule.Sections)
+first_broken ours answer offered answered rules is i lt kept broken = record {
+  place = i;
+  stands = subst (λ those. slice_get those i ≡ Some (get_or rules i rule.Sections)) is (slice_get-get_or rules i rule.Sections lt);
+  earlier = subst (λ those. All (Keeps ours answer offered answered) (take i those)) is kept;
+  broken = broken;
+}
 
 -- each rule is among those that are asked, or asks nothing
 pub rules_kept : (ours : List PayloadParams) (answer : Sdp) (offered answered : MediaLine) (rules : List Rule) → rules ≡ rules_asked

@@ -5,7 +5,7 @@ ghost use Rattle.exchange.specs.answer.Bundled.{IsBundledBy};
 ghost use Rattle.exchange.specs.answer.InBundle.{is_so_for};
 ghost use Rattle.exchange.specs.answer.Rows.{answered_rows};
 ghost use Rattle.exchange.specs.answer.TurnedLayers.{TurnsLayers};
-ghost use Rattle.exchange.specs.offer.Fits.{BreaksFirst, KeepsEveryRule, FlowsWithin, IfAccepted, Keeps};
+ghost use Rattle.exchange.specs.offer.Fits.{BreaksFirst, KeepsEveryRule, FlowsWithin, IfAccepted, Keeps, rules_asked};
 ghost use Rattle.exchange.specs.offer.Rules.{SaysOnlyOffered};
 ghost use Rattle.exchange.specs.section.Reached.{has_creds, has_fingerprint};
 ghost use Rattle.std.specs.Prelude.{◌≡◌, ◌≢◌, ◌↔◌, [], IfOk, IsTrue, MatchOption, Some, true};
@@ -24,7 +24,7 @@ use std::alloc::AllocError;
 use str0m_signal::{CodecConfig, Direction, MediaLine, Sdp, Setup};
 
 /// The rules of a section, in the order in which they are asked.
-const RULES: [Rule; 11] = [
+static RULES: [Rule; 11] = [
     Rule::MediaType,
     Rule::Protocol,
     Rule::Name,
@@ -37,6 +37,12 @@ const RULES: [Rule; 11] = [
     Rule::Credentials,
     Rule::Fingerprint,
 ];
+
+fn rules() -> &'static [Rule]
+    ensures { result.now ≡ rules_asked }
+{
+    RULES.as_slice()
+}
 
 /// Whether media flows only in ways that the offer leaves open.
 fn flows_within(offered: Direction, answered: Direction) -> bool
@@ -147,7 +153,7 @@ pub(crate) fn broken_rule(
     ensures { IfOk result (λ found. MatchOption found (KeepsEveryRule ours.now.params.items answer.now offered.now answered.now)
         (BreaksFirst ours.now.params.items answer.now offered.now answered.now)) }
 {
-    for rule in &RULES {
+    for rule in rules() {
         if !keeps(*rule, ours, answer, bundled, offered, answered)? {
             return Ok(Some(*rule));
         }

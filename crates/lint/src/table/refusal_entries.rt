@@ -1,0 +1,138 @@
+//! Why a text is refused, in the order of `Refusal`.
+
+use crate::table::Entry;
+
+static REFUSALS: [Entry; 16] = [
+    Entry {
+        name: "empty-text",
+        title: "the text is empty",
+        remedy: "hand over the session description, which begins with `v=0`",
+        explanation: "Nothing was handed over: an empty file, a variable without a value, or an answer that was never made.",
+        source: "RFC 8866, section 5",
+        example: "an empty file",
+    },
+    Entry {
+        name: "byte-order-mark",
+        title: "the text begins with a byte order mark",
+        remedy: "save the text as UTF-8 without a byte order mark",
+        explanation: "An editor has put the character U+FEFF in front of the text. A description begins with `v=0` and nothing before it.",
+        source: "RFC 8866, section 5",
+        example: "U+FEFF in front of v=0",
+    },
+    Entry {
+        name: "json",
+        title: "the text looks like JSON",
+        remedy: "hand over the string of its member `sdp` as a JSON decoder gives it (`JSON.parse(text).sdp`): each `\\r\\n` in it is a line end",
+        explanation: "A browser's `JSON.stringify(description)` gives an object with the members `type` and `sdp`. The description is the string in `sdp`, with its escapes undone.",
+        source: "RFC 8866, section 5; RFC 8829, section 5",
+        example: "{\"type\":\"offer\",\"sdp\":\"v=0\\r\\n\"}",
+    },
+    Entry {
+        name: "version-line",
+        title: "the first line has to be `v=0`",
+        remedy: "let `v=0` be the first line: mend a line of another version, take a blank line out, and put line ends where `\\r\\n` is written",
+        explanation: "A description begins with the version of the protocol, which is 0.",
+        source: "RFC 8866, section 5.1",
+        example: "v=1",
+    },
+    Entry {
+        name: "origin-line",
+        title: "the second line has to be `o=`, a name, a number and more, with one space between each two",
+        remedy: "let the second line be as `o=- 1 1 IN IP4 0.0.0.0`: a number of at most 64 bits stands after the name",
+        explanation: "The origin names the session: a user name without spaces, the number of the session in at most 64 bits, and its version and address, which aren't kept.",
+        source: "RFC 8866, section 5.2",
+        example: "o=- session 1 IN IP4 0.0.0.0",
+    },
+    Entry {
+        name: "name-line",
+        title: "the third line has to be `s=` and a name",
+        remedy: "let the third line be `s=` and the name, or `s=-` for no name, with a small `s`",
+        explanation: "Each session has a name of one or more characters; `-` or a space stands for none.",
+        source: "RFC 8866, section 5.3",
+        example: "s=",
+    },
+    Entry {
+        name: "time-line",
+        title: "the header has to end with the line `t=0 0`",
+        remedy: "let `t=0 0` be the line after `s=` (after a `b=` line, if there is one), in place of any other `t=` line: other times aren't kept",
+        explanation: "Behind `v=`, `o=` and `s=` stand any `i=`, `u=`, `e=`, `p=`, `c=`, `z=` and `k=` lines, then at most one `b=` line, then `t=0 0`: a session without bounds, as browsers write it.",
+        source: "RFC 8866, section 5.9",
+        example: "t=3034423619 3042462419",
+    },
+    Entry {
+        name: "missing-mid",
+        title: "this m-section has no `a=mid`",
+        remedy: "write `a=mid:NAME` into the section, with a name that no other section has; if its reading ended at a line, mend that line first: the mid may stand after it",
+        explanation: "Each section has a name, by which groups and candidates speak of it. A line that fits nowhere ends the section, so that a mid after it isn't read.",
+        source: "RFC 8829, section 5.2.1; RFC 5888, section 4",
+        example: "m=audio 9 UDP/TLS/RTP/SAVPF 0",
+    },
+    Entry {
+        name: "second-mid",
+        title: "this m-section has a second `a=mid`",
+        remedy: "leave the name that groups and candidates use (either, where none does), and take the other line out",
+        explanation: "A section has one name.",
+        source: "RFC 5888, section 4",
+        example: "a=mid:0 twice in a section",
+    },
+    Entry {
+        name: "second-setup",
+        title: "this m-section has a second `a=setup`",
+        remedy: "leave the role that is meant, and take the other line out",
+        explanation: "A section has one role in the handshake of DTLS.",
+        source: "RFC 8842, section 5.2",
+        example: "a=setup:active after a=setup:actpass",
+    },
+    Entry {
+        name: "missing-direction",
+        title: "this m-section has no direction",
+        remedy: "write `a=sendrecv`, `a=sendonly`, `a=recvonly` or `a=inactive` into the section; if its reading ended at a line, mend that line first: the direction may stand after it",
+        explanation: "RFC 8866 takes a section without a direction for one that sends and receives. This layer asks for the line, which every browser writes.",
+        source: "RFC 8866, section 6.7; RFC 8829, section 5.2.1",
+        example: "m=audio 9 UDP/TLS/RTP/SAVPF 0",
+    },
+    Entry {
+        name: "second-direction",
+        title: "this m-section has two directions",
+        remedy: "leave the direction that is meant, and take the other line out",
+        explanation: "A section has one of `sendrecv`, `sendonly`, `recvonly` and `inactive`.",
+        source: "RFC 8866, section 6.7",
+        example: "a=sendonly after a=sendrecv",
+    },
+    Entry {
+        name: "missing-type",
+        title: "this m-section lists no payload type",
+        remedy: "list the payload types of the section after its protocol",
+        explanation: "A section over RTP that isn't disabled lists the numbers of its codecs, 0 to 127.",
+        source: "RFC 8866, section 5.14",
+        example: "m=audio 9 UDP/TLS/RTP/SAVPF opus",
+    },
+    Entry {
+        name: "missing-rtpmap",
+        title: "a payload type of this m-line has no `a=rtpmap`",
+        remedy: "mend the `a=rtpmap` line of the type where a warning says that it isn't read; else write `a=rtpmap:TYPE CODEC/RATE` into the section, or take the type out of the m-line",
+        explanation: "Each payload type of an m-line is bound to a codec by one `a=rtpmap` line; PCMU, PCMA, G722 and CN (0, 8, 9 and 13) may go without. A line that is malformed says nothing.",
+        source: "RFC 8866, section 6.6; RFC 3551, section 6",
+        example: "m=audio 9 UDP/TLS/RTP/SAVPF 111",
+    },
+    Entry {
+        name: "second-rtpmap",
+        title: "a payload type of this m-line has two `a=rtpmap` lines",
+        remedy: "take one of the lines out, or give it another type, and list that in the m-line, too",
+        explanation: "A payload type stands for one codec.",
+        source: "RFC 8866, section 6.6",
+        example: "a=rtpmap:96 VP9/90000 after a=rtpmap:96 VP8/90000",
+    },
+    Entry {
+        name: "apt-clash",
+        title: "the `a=fmtp` lines of a payload type name two primary types by `apt`",
+        remedy: "leave the `apt` whose type stands in the m-line, and take the other line out",
+        explanation: "Retransmissions of a payload type belong to one primary type.",
+        source: "RFC 4588, section 8.1",
+        example: "a=fmtp:97 apt=98 after a=fmtp:97 apt=96",
+    },
+];
+
+pub(crate) fn refusal_entries() -> &'static [Entry; 16] {
+    &REFUSALS
+}
