@@ -12,24 +12,24 @@ locked_of_type Video rows = locked_of_kind kind.Video rows
 locked_of_type _ rows = []
 
 -- the section there, which is writable, has the locked rows of its kind, of which there are some, and nothing else has changed
-abbrev pub Lists : List PayloadParams → Sdp → ℕ → Sdp → Type 0
-Lists rows before at after =
+abbrev pub ListsOutcomes : List PayloadParams → Sdp → ℕ → Sdp → Type 0
+ListsOutcomes rows before at after =
     (frame : MediaLine) × (slice_get before.media_lines at ≡ Some frame) × Writable before at × (locked_of_type frame.typ rows ≢ [])
     × (after ≡ record before { media_lines = slice_set before.media_lines at (made frame (locked_of_type frame.typ rows)) })
 
 -- nothing can be listed in the section there: no row of its kind is locked, or rows printed there might not be read again
-abbrev pub CantList : List PayloadParams → Sdp → ℕ → Type 0
-CantList rows own at =
+abbrev pub CantListOutcomes : List PayloadParams → Sdp → ℕ → Type 0
+CantListOutcomes rows own at =
     (frame : MediaLine) × (slice_get own.media_lines at ≡ Some frame) × ((locked_of_type frame.typ rows ≡ []) ⊎ (Writable own at → ⊥))
 
 -- a section that lists what is agreed, of what two handles own
 abbrev pub Answered : Option CodecConfig → Option Sdp → ℕ → Option Sdp → Type 0
-Answered (Some config) (Some before) at (Some after) = Lists config.params.items before at after
+Answered (Some config) (Some before) at (Some after) = ListsOutcomes config.params.items before at after
 Answered _ _ at _ = ⊥
 
 -- nothing can be listed there, of what two handles own
 abbrev pub CantAnswer : Option CodecConfig → Option Sdp → ℕ → Type 0
-CantAnswer (Some config) (Some own) at = CantList config.params.items own at
+CantAnswer (Some config) (Some own) at = CantListOutcomes config.params.items own at
 CantAnswer _ _ at = ⊥
 
 -- ---- rounds that were run for a caller
@@ -46,7 +46,7 @@ RanRounds text before after room_before room_after needed =
     × (after ≡ record before { params = after.params }) × (needed ≡ length outcomes) × (room_after ≡ cut_to_room (map c_outcome outcomes) room_before)
 
 -- the same of what a handle owns
-abbrev pub RanHeld : List ℕ → Option CodecConfig → Option CodecConfig → List c.Outcome → List c.Outcome → ℕ → Type 0
-RanHeld text (Some before) (Some after) = RanRounds text before after
-RanHeld text None after = λ room_before room_after needed. ⊥
-RanHeld text (Some before) None = λ room_before room_after needed. ⊥
+abbrev pub RanHeldRound : List ℕ → Option CodecConfig → Option CodecConfig → List c.Outcome → List c.Outcome → ℕ → Type 0
+RanHeldRound text (Some before) (Some after) = RanRounds text before after
+RanHeldRound text None after = λ room_before room_after needed. ⊥
+RanHeldRound text (Some before) None = λ room_before room_after needed. ⊥

@@ -1,6 +1,6 @@
 -- What a call answers that writes into the caller's room.
 use Rattle.c_calls.specs.Told.{done, no_memory, no_room, no_section}
-use Rattle.c_parts.specs.Room.{begun_with}
+use Rattle.c_parts.specs.Room.{room_begun_with}
 use Rattle.std.specs.Prelude.{◌≡◌, ◌⊎◌, ℕ, List, length, Option, Some, None, nat_le, if◌then◌else◌}
 
 -- the status, the room and the count after a call, from the room and the count before it and what it finds: that is put into the room
@@ -8,7 +8,7 @@ use Rattle.std.specs.Prelude.{◌≡◌, ◌⊎◌, ℕ, List, length, Option, S
 abbrev pub put_into : {X : Type 0} → List X × ℕ → Option (List X) → ℕ × List X × ℕ
 put_into before None = (no_section, before.0, before.1)
 put_into before (Some items) =
-    if nat_le (length items) (length before.0) then (done, begun_with items before.0, length items) else (no_room, before.0, length items)
+    if nat_le (length items) (length before.0) then (done, room_begun_with items before.0, length items) else (no_room, before.0, length items)
 
 -- a call that takes no memory answers so
 abbrev pub Puts : {X : Type 0} → Option (List X) → List X × ℕ → ℕ × List X × ℕ → Type 0

@@ -14,8 +14,8 @@ abbrev pub section_at : Sdp → ℕ → Option Section
 section_at sdp at = option_map c_section (slice_get sdp.media_lines at)
 
 -- what a section lists, as C holds it
-abbrev pub list_at : {X : Type 0} → (MediaLine → List X) → Sdp → ℕ → Option (List X)
-list_at listed sdp at = option_map listed (slice_get sdp.media_lines at)
+abbrev pub section_list_at : {X : Type 0} → (MediaLine → List X) → Sdp → ℕ → Option (List X)
+section_list_at listed sdp at = option_map listed (slice_get sdp.media_lines at)
 
 -- what is printed of a row: the name of its codec, or its format
 abbrev pub row_text : RowText → PayloadParams → List ℕ

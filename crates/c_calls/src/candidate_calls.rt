@@ -1,7 +1,7 @@
 //! Calls of candidates.
 
 ghost use Rattle.c_calls.specs.Common.{Of};
-ghost use Rattle.c_calls.specs.Prelude.{IsFull, all_candidates, candidate_text, distinct, same_candidate};
+ghost use Rattle.c_calls.specs.Prelude.{IsRoomFull, all_candidates, candidate_text, distinct, same_candidate};
 ghost use Rattle.c_calls.specs.Said.{Says};
 ghost use Rattle.c_calls.specs.Told.{done, no_memory};
 ghost use Rattle.c_calls.specs.TransportCalls.{candidate_texts, lent};
@@ -44,7 +44,7 @@ pub extern "C" fn zaxp_session_candidates(
     handle: &mut SessionHandle,
     count: &mut usize,
 ) -> u32
-    requires { IsFull handle.old.inner }
+    requires { IsRoomFull handle.old.inner }
     ensures same { handle.new.inner ≡ handle.old.inner }
     ensures statuses { (result ≡ done) ⊎ (result ≡ no_memory) }
     ensures counted { result ≡ done → Of handle.old.inner (λ sdp. count.new ≡ length (candidate_texts sdp)) }
@@ -56,7 +56,7 @@ pub extern "C" fn zaxp_session_candidates(
     code
 }
 
-fn put_one(
+fn put_candidate_text(
     alloc: Global,
     candidates: &[&Candidate],
     index: usize,
@@ -75,7 +75,7 @@ fn put_candidate(alloc: Global, sdp: &Sdp, index: usize, room: &mut [u8], needed
     ensures { Says (slice_get (candidate_texts sdp.now) index) (room.old, needed.old) (result, room.new, needed.new) }
 {
     match gathered(alloc, sdp) {
-        Ok(found) => put_one(alloc, found.as_slice(), index, room, needed),
+        Ok(found) => put_candidate_text(alloc, found.as_slice(), index, room, needed),
         Err(_) => NO_MEMORY,
     }
 }
@@ -89,7 +89,7 @@ pub extern "C" fn zaxp_session_candidate(
     room: &mut [u8],
     needed: &mut usize,
 ) -> u32
-    requires { IsFull handle.old.inner }
+    requires { IsRoomFull handle.old.inner }
     ensures same { handle.new.inner ≡ handle.old.inner }
     ensures says { Of handle.old.inner (λ sdp. Says (slice_get (candidate_texts sdp) index) (room.old, needed.old) (result, room.new, needed.new)) }
 {

@@ -1,8 +1,8 @@
 //! Calls that make, change and free configurations.
 
 ghost use Rattle.c_calls.specs.Common.{Of};
-ghost use Rattle.c_calls.specs.ConfigCalls.{HasNoDefaults, IsAdded, IsEnabled, IsNoKind, defaults_of};
-ghost use Rattle.c_calls.specs.Prelude.{IsFormatOfLine, IsFull, codec_at, enabled_rows, usual_rows};
+ghost use Rattle.c_calls.specs.ConfigCalls.{HasNoDefaultRows, IsRowAdded, IsEnabled, IsNoKind, default_rows_of};
+ghost use Rattle.c_calls.specs.Prelude.{IsFormatOfLine, IsRoomFull, codec_at, enabled_rows, usual_rows};
 ghost use Rattle.c_calls.specs.Told.{done, no_memory, no_utf8, wrong_argument};
 ghost use Rattle.std.specs.Prelude.{◌≡◌, ◌≢◌, ◌↔◌, ◌⊎◌, [], IfErr, IfNone, IfOk, IfSome, None, OnErr, OnOk, Some, IsUtf8};
 
@@ -62,9 +62,9 @@ fn enable(
 ) -> Option<Result<(), AllocError>>
     ensures ok { IfSome result (λ tried. OnOk tried (config.new.params.items ≡ enabled_rows codec enabled use_red config.old.params.items)) }
     ensures err { IfSome result (λ tried. OnErr tried (config.new ≡ config.old)) }
-    ensures some { IfSome result (λ _. defaults_of codec ≢ []) }
+    ensures some { IfSome result (λ _. default_rows_of codec ≢ []) }
     ensures distances { config.new.red_distances ≡ config.old.red_distances }
-    ensures none { IfNone result ((config.new ≡ config.old) × (defaults_of codec ≡ [])) }
+    ensures none { IfNone result ((config.new ≡ config.old) × (default_rows_of codec ≡ [])) }
 {
     Some(match codec {
         Codec::Opus => config.enable_opus(enabled, use_red),
@@ -86,7 +86,7 @@ fn enable(
 fn enable_at(config: &mut CodecConfig, number: u8, enabled: bool, use_red: bool) -> u32
     ensures done { result ≡ done → IsEnabled number enabled use_red config.old config.new }
     ensures same { result ≢ done → config.new ≡ config.old }
-    ensures wrong { (result ≡ wrong_argument) ↔ HasNoDefaults number }
+    ensures wrong { (result ≡ wrong_argument) ↔ HasNoDefaultRows number }
 {
     let Some(codec) = codec_at(number) else {
         return WRONG_ARGUMENT;
@@ -107,10 +107,10 @@ pub extern "C" fn zaxp_config_enable(
     enabled: bool,
     use_red: bool,
 ) -> u32
-    requires { IsFull handle.old.inner }
+    requires { IsRoomFull handle.old.inner }
     ensures done { result ≡ done → Of handle.old.inner (λ before. Of handle.new.inner (IsEnabled codec enabled use_red before)) }
     ensures same { result ≢ done → handle.new.inner ≡ handle.old.inner }
-    ensures wrong { (result ≡ wrong_argument) ↔ HasNoDefaults codec }
+    ensures wrong { (result ≡ wrong_argument) ↔ HasNoDefaultRows codec }
 {
     let mut config = handle.take(alloc);
     let code = enable_at(&mut config, codec, enabled, use_red);
@@ -151,8 +151,8 @@ pub extern "C" fn zaxp_config_add(
     channels: u8,
     format: &[u8],
 ) -> u32
-    requires { IsFull handle.old.inner }
-    ensures done { result ≡ done → Of handle.old.inner (λ before. Of handle.new.inner (IsAdded pt rtx (codec, clock_rate, channels) format.now before)) }
+    requires { IsRoomFull handle.old.inner }
+    ensures done { result ≡ done → Of handle.old.inner (λ before. Of handle.new.inner (IsRowAdded pt rtx (codec, clock_rate, channels) format.now before)) }
     ensures same { result ≢ done → handle.new.inner ≡ handle.old.inner }
     ensures wrong { (result ≡ wrong_argument) ↔ IsNoKind codec clock_rate }
     ensures no_text { result ≡ no_utf8 → IsUtf8 format.now → ⊥ }
@@ -184,7 +184,7 @@ pub extern "C" fn zaxp_config_add(
 /// Frees the configuration; the handle is empty then.
 #[unsafe(no_mangle)]
 pub extern "C" fn zaxp_config_free(alloc: Global, handle: &mut ConfigHandle)
-    requires { IsFull handle.old.inner }
+    requires { IsRoomFull handle.old.inner }
     ensures { handle.new.inner ≡ None }
 {
     drop(handle.take(alloc));

@@ -1,12 +1,12 @@
 //! Calls of exchanges: one side is made, and it answers offers.
 
 ghost use Rattle.c_calls.specs.Common.{Of};
-ghost use Rattle.c_calls.specs.ExchangeCalls.{AcceptsOffer, BeginsExchange, Goes, state_number};
-ghost use Rattle.c_calls.specs.Prelude.{IsFull, IsSound, RefusesOffer, RefusesOwn, SaysOwn, c_row, own_texts, state_of};
+ghost use Rattle.c_calls.specs.ExchangeCalls.{AcceptsOffer, BeginsExchange, ExchangeGoes, state_number};
+ghost use Rattle.c_calls.specs.Prelude.{IsRoomFull, IsSound, RefusesOffer, RefusesOwn, SaysOwnSide, c_row, own_texts, state_of};
 ghost use Rattle.c_calls.specs.Said.{Says};
 ghost use Rattle.c_calls.specs.SectionCalls.{row_text_numbered, text_in};
 ghost use Rattle.c_calls.specs.Told.{done};
-ghost use Rattle.c_parts.specs.Fault.{RefusesBytes, ToldFault, ToldAt};
+ghost use Rattle.c_parts.specs.Fault.{RefusesBytes, ToldFault, FaultToldAt};
 ghost use Rattle.std.specs.Prelude.{◌≡◌, ◌≢◌, IfErr, IfOk, None, OnErr, Some, map};
 
 use crate::row_calls::{put_row_text, put_rows, row_text_numbered};
@@ -55,7 +55,7 @@ fn prepared(
     numbers: &OwnNumbers,
     texts: &OwnTexts<'_>,
 ) -> Result<(OwnSide, Box<Exchange>), Fault>
-    ensures says { IfOk result (λ made. SaysOwn numbers.now texts.now made.0) }
+    ensures says { IfOk result (λ made. SaysOwnSide numbers.now texts.now made.0) }
     ensures refused { IfErr result (RefusesOwn texts.now) }
 {
     let own = own_side(alloc, numbers, texts)?;
@@ -80,7 +80,7 @@ pub extern "C" fn zaxp_exchange_new(
     message_length: &mut usize,
 ) -> u32
     requires handle { handle.old.inner ≡ None }
-    requires config { IsFull config.old.inner }
+    requires config { IsRoomFull config.old.inner }
     ensures made { result ≡ done → BeginsExchange numbers.now
         (own_texts ice_ufrag.entry ice_pwd.entry fingerprint.entry stream_id.entry extensions.entry candidates.entry)
         config.old.inner handle.new.inner }
@@ -115,7 +115,7 @@ pub extern "C" fn zaxp_exchange_new(
 /// Frees the exchange; the handle is empty then.
 #[unsafe(no_mangle)]
 pub extern "C" fn zaxp_exchange_free(alloc: Global, handle: &mut ExchangeHandle)
-    requires { IsFull handle.old.inner }
+    requires { IsRoomFull handle.old.inner }
     ensures { handle.new.inner ≡ None }
 {
     drop(handle.take(alloc));
@@ -163,14 +163,14 @@ pub extern "C" fn zaxp_exchange_accept_offer(
     message: &mut [u8],
     message_length: &mut usize,
 ) -> u32
-    requires handle { IsFull handle.old.inner }
+    requires handle { IsRoomFull handle.old.inner }
     requires answer { answer.old.inner ≡ None }
-    ensures answered { result ≡ done → Goes (λ before after said. AcceptsOffer before after offer.now said version.new)
+    ensures answered { result ≡ done → ExchangeGoes (λ before after said. AcceptsOffer before after offer.now said version.new)
         handle.old.inner handle.new.inner answer.new.inner }
     ensures same { result ≢ done → handle.new.inner ≡ handle.old.inner }
     ensures empty { result ≢ done → answer.new.inner ≡ None }
     ensures refused { result ≢ done → Of handle.old.inner (λ before.
-        ToldAt (RefusesBytes offer.now (RefusesOffer before offer.now)) result line.new) }
+        FaultToldAt (RefusesBytes offer.now (RefusesOffer before offer.now)) result line.new) }
 {
     *line = 0;
     let Ok(mut place) = place_for_description(alloc) else {
@@ -197,7 +197,7 @@ pub extern "C" fn zaxp_exchange_rows(
     room: &mut [Row],
     needed: &mut usize,
 ) -> u32
-    requires { IsFull handle.old.inner }
+    requires { IsRoomFull handle.old.inner }
     ensures same { handle.new.inner ≡ handle.old.inner }
     ensures says { Of handle.old.inner (λ it.
         Says (Some (map c_row it.config.params.items)) (room.old, needed.old) (result, room.new, needed.new)) }
@@ -218,7 +218,7 @@ pub extern "C" fn zaxp_exchange_text(
     room: &mut [u8],
     needed: &mut usize,
 ) -> u32
-    requires { IsFull handle.old.inner }
+    requires { IsRoomFull handle.old.inner }
     ensures same { handle.new.inner ≡ handle.old.inner }
     ensures says { Of handle.old.inner (λ it.
         Says (text_in (row_text_numbered what) it.config.params.items row) (room.old, needed.old) (result, room.new, needed.new)) }
@@ -242,7 +242,7 @@ fn state_number(state: SignalingState) -> u32
 /// Where the exchange stands.
 #[unsafe(no_mangle)]
 pub extern "C" fn zaxp_exchange_state(alloc: Global, handle: &mut ExchangeHandle) -> u32
-    requires { IsFull handle.old.inner }
+    requires { IsRoomFull handle.old.inner }
     ensures same { handle.new.inner ≡ handle.old.inner }
     ensures state { Of handle.old.inner (λ it. result ≡ state_number (state_of it)) }
 {

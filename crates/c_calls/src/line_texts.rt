@@ -96,7 +96,7 @@ fn put_line(
 }
 
 /// Writes what the line at an index says, among those that say it.
-#[tactic(auto, using(crate::proofs::LineTextsPassed::said_at))]
+#[tactic(auto, using(crate::proofs::LineTextsPassed::line_text_said_at))]
 pub(crate) fn put_line_text(
     alloc: Global,
     lines: &[MediaAttribute],

@@ -1,10 +1,10 @@
 //! Calls of exchanges in which this side offers.
 
 ghost use Rattle.c_calls.specs.Common.{Of};
-ghost use Rattle.c_calls.specs.ExchangeCalls.{AcceptsAnswer, CreatesOffer, Goes, turned};
-ghost use Rattle.c_calls.specs.Prelude.{IsFull, RefusesAnswer, RefusesBoth, RefusesChannels, RefusesMedia, RefusesToOffer, direction_numbered, kind_numbered, kind_rows, with_channels, with_media};
+ghost use Rattle.c_calls.specs.ExchangeCalls.{AcceptsAnswer, CreatesOffer, ExchangeGoes, turned};
+ghost use Rattle.c_calls.specs.Prelude.{IsRoomFull, RefusesAnswer, RefusesBoth, RefusesChannels, RefusesMedia, RefusesToOffer, direction_numbered, kind_numbered, kind_rows, with_channels, with_media};
 ghost use Rattle.c_calls.specs.Told.{done, no_memory, no_utf8, wrong_argument};
-ghost use Rattle.c_parts.specs.Fault.{RefusesCall, RefusesBytes, ToldFault, ToldAt};
+ghost use Rattle.c_parts.specs.Fault.{RefusesCall, RefusesBytes, ToldFault, FaultToldAt};
 ghost use Rattle.std.specs.Prelude.{◌≡◌, ◌≢◌, ◌<◌, ◌≤◌, ◌↔◌, ◌⊎◌, [], IfErr, IfOk, None, OnErr, OnOk, Some, length, true, IsUtf8};
 
 use crate::exchange_calls::place_for_description;
@@ -45,9 +45,9 @@ pub extern "C" fn zaxp_exchange_create_offer(
     message: &mut [u8],
     message_length: &mut usize,
 ) -> u32
-    requires handle { IsFull handle.old.inner }
+    requires handle { IsRoomFull handle.old.inner }
     requires offer { offer.old.inner ≡ None }
-    ensures offered { result ≡ done → Goes (λ before after said. CreatesOffer before after said version.new)
+    ensures offered { result ≡ done → ExchangeGoes (λ before after said. CreatesOffer before after said version.new)
         handle.old.inner handle.new.inner offer.new.inner }
     ensures same { result ≢ done → handle.new.inner ≡ handle.old.inner }
     ensures empty { result ≢ done → offer.new.inner ≡ None }
@@ -93,12 +93,12 @@ pub extern "C" fn zaxp_exchange_accept_answer(
     message: &mut [u8],
     message_length: &mut usize,
 ) -> u32
-    requires { IsFull handle.old.inner }
+    requires { IsRoomFull handle.old.inner }
     ensures taken { result ≡ done → Of handle.old.inner (λ before. Of handle.new.inner (λ after.
         AcceptsAnswer before after answer.now)) }
     ensures same { result ≢ done → handle.new.inner ≡ handle.old.inner }
     ensures refused { result ≢ done → Of handle.old.inner (λ before.
-        ToldAt (RefusesBytes answer.now (RefusesAnswer before answer.now)) result line.new) }
+        FaultToldAt (RefusesBytes answer.now (RefusesAnswer before answer.now)) result line.new) }
 {
     let mut exchange = handle.take(alloc);
     let done = taken(&mut exchange, answer);
@@ -112,7 +112,7 @@ pub extern "C" fn zaxp_exchange_accept_answer(
 /// Drops the offer that waits for its answer; where none does, nothing changes.
 #[unsafe(no_mangle)]
 pub extern "C" fn zaxp_exchange_rollback(alloc: Global, handle: &mut ExchangeHandle)
-    requires { IsFull handle.old.inner }
+    requires { IsRoomFull handle.old.inner }
     ensures { Of handle.old.inner (λ before. handle.new.inner ≡ Some (record before { pending = None })) }
 {
     let mut exchange = handle.take(alloc);
@@ -130,7 +130,7 @@ pub extern "C" fn zaxp_exchange_add_media(
     message: &mut [u8],
     message_length: &mut usize,
 ) -> u32
-    requires { IsFull handle.old.inner }
+    requires { IsRoomFull handle.old.inner }
     ensures added { result ≡ done → Of handle.old.inner (λ before.
         handle.new.inner ≡ Some (with_media (kind_numbered kind) (direction_numbered direction) before)) }
     ensures has_rows { result ≡ done → Of handle.old.inner (λ before.
@@ -156,7 +156,7 @@ pub extern "C" fn zaxp_exchange_add_channels(
     message: &mut [u8],
     message_length: &mut usize,
 ) -> u32
-    requires { IsFull handle.old.inner }
+    requires { IsRoomFull handle.old.inner }
     ensures added { result ≡ done → Of handle.old.inner (λ before.
         handle.new.inner ≡ Some (with_channels before)) }
     ensures has_channels { result ≡ done → Of handle.old.inner (λ before. before.own.channels ≢ None) }
@@ -189,7 +189,7 @@ pub extern "C" fn zaxp_exchange_restart_ice(
     ufrag: &[u8],
     pwd: &[u8],
 ) -> u32
-    requires { IsFull handle.old.inner }
+    requires { IsRoomFull handle.old.inner }
     ensures restarted { result ≡ done → Of handle.old.inner (λ before. handle.new.inner ≡ Some (record before {
       own = record before.own { creds = record { ufrag = ufrag.now; pass = pwd.now } };
     })) }
@@ -215,7 +215,7 @@ pub extern "C" fn zaxp_exchange_set_direction(
     mid: &[u8],
     direction: u8,
 ) -> u32
-    requires { IsFull handle.old.inner }
+    requires { IsRoomFull handle.old.inner }
     ensures turned { result ≡ done → Of handle.old.inner (λ before.
         handle.new.inner ≡ Some (turned mid.now (direction_numbered direction) before)) }
     ensures same { result ≢ done → handle.new.inner ≡ handle.old.inner }

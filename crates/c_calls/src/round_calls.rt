@@ -1,8 +1,8 @@
 //! Calls that negotiate, and that answer with what is agreed.
 
 ghost use Rattle.c_calls.specs.Common.{Of};
-ghost use Rattle.c_calls.specs.Prelude.{Described, IsFull, MediaLine, RefusesReading, Sdp, Writable, c_outcome, made};
-ghost use Rattle.c_calls.specs.RoundCalls.{Answered, CantAnswer, CantList, Lists, locked_of_type, RanRounds, RanHeld, cut_to_room};
+ghost use Rattle.c_calls.specs.Prelude.{Described, IsRoomFull, MediaLine, RefusesReading, Sdp, Writable, c_outcome, made};
+ghost use Rattle.c_calls.specs.RoundCalls.{Answered, CantAnswer, CantListOutcomes, ListsOutcomes, locked_of_type, RanRounds, RanHeldRound, cut_to_room};
 ghost use Rattle.c_calls.specs.Told.{done, no_memory, no_section, no_session, no_utf8, nothing_agreed};
 ghost use Rattle.std.specs.Prelude.{◌≡◌, ◌≢◌, ◌↔◌, ◌⊎◌, [], IfErr, IfNone, IfOk, IfSome, OnErr, OnOk, List, None, Some, ℕ, length, map, slice_get, IsUtf8};
 ghost use Rattle.str0m_signal.specs.session.ReaderAnswers.{Refuses};
@@ -93,8 +93,8 @@ pub extern "C" fn zaxp_config_negotiate(
     message: &mut [u8],
     message_length: &mut usize,
 ) -> u32
-    requires { IsFull handle.old.inner }
-    ensures ran { result ≡ done → RanHeld text.now handle.old.inner handle.new.inner room.old room.new needed.new }
+    requires { IsRoomFull handle.old.inner }
+    ensures ran { result ≡ done → RanHeldRound text.now handle.old.inner handle.new.inner room.old room.new needed.new }
     ensures same { result ≢ done → handle.new.inner ≡ handle.old.inner }
     ensures kept { result ≢ done → room.new ≡ room.old }
     ensures uncounted { result ≢ done → needed.new ≡ needed.old }
@@ -145,10 +145,10 @@ fn answered_section(
 
 fn answer(config: &CodecConfig, own: &mut Sdp, at: usize) -> u32
     ensures statuses { (result ≡ done) ⊎ (result ≡ no_memory) ⊎ (result ≡ no_section) ⊎ (result ≡ nothing_agreed) }
-    ensures lists { result ≡ done → Lists config.now.params.items own.old at own.new }
+    ensures lists { result ≡ done → ListsOutcomes config.now.params.items own.old at own.new }
     ensures same { result ≢ done → own.new ≡ own.old }
     ensures missing { (result ≡ no_section) ↔ (slice_get own.old.media_lines at ≡ None) }
-    ensures nothing { result ≡ nothing_agreed → CantList config.now.params.items own.old at }
+    ensures nothing { result ≡ nothing_agreed → CantListOutcomes config.now.params.items own.old at }
 {
     let made = match own.media_lines.get(at) {
         Some(frame) => answered_section(config, own, at, frame),
@@ -172,8 +172,8 @@ pub extern "C" fn zaxp_config_answer(
     own: &mut SessionHandle,
     at: usize,
 ) -> u32
-    requires handle { IsFull handle.old.inner }
-    requires own { IsFull own.old.inner }
+    requires handle { IsRoomFull handle.old.inner }
+    requires own { IsRoomFull own.old.inner }
     ensures same { handle.new.inner ≡ handle.old.inner }
     ensures statuses { (result ≡ done) ⊎ (result ≡ no_memory) ⊎ (result ≡ no_section) ⊎ (result ≡ nothing_agreed) }
     ensures answered { result ≡ done → Answered handle.old.inner own.old.inner at own.new.inner }

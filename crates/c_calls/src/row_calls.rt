@@ -1,7 +1,7 @@
 //! Calls of rows, and what is written of a row.
 
 ghost use Rattle.c_calls.specs.Common.{Of};
-ghost use Rattle.c_calls.specs.Prelude.{IsFull, c_row, rows};
+ghost use Rattle.c_calls.specs.Prelude.{IsRoomFull, c_row, rows};
 ghost use Rattle.c_calls.specs.Said.{Says};
 ghost use Rattle.c_calls.specs.SectionCalls.{row_text, row_text_numbered, text_in};
 ghost use Rattle.std.specs.Prelude.{◌≡◌, IfOk, Some, map, string_bytes};
@@ -95,7 +95,7 @@ pub extern "C" fn zaxp_config_rows(
     room: &mut [Row],
     needed: &mut usize,
 ) -> u32
-    requires { IsFull handle.old.inner }
+    requires { IsRoomFull handle.old.inner }
     ensures same { handle.new.inner ≡ handle.old.inner }
     ensures says { Of handle.old.inner (λ config. Says (Some (map c_row config.params.items)) (room.old, needed.old) (result, room.new, needed.new)) }
 {
@@ -115,7 +115,7 @@ pub extern "C" fn zaxp_config_text(
     room: &mut [u8],
     needed: &mut usize,
 ) -> u32
-    requires { IsFull handle.old.inner }
+    requires { IsRoomFull handle.old.inner }
     ensures same { handle.new.inner ≡ handle.old.inner }
     ensures says { Of handle.old.inner (λ config.
         Says (text_in (row_text_numbered what) config.params.items row) (room.old, needed.old) (result, room.new, needed.new)) }

@@ -1,7 +1,7 @@
 //! Calls of sections.
 
 ghost use Rattle.c_calls.specs.Common.{Of};
-ghost use Rattle.c_calls.specs.Prelude.{IsFull, Writable};
+ghost use Rattle.c_calls.specs.Prelude.{IsRoomFull, Writable};
 ghost use Rattle.c_calls.specs.Said.{GivesOne};
 ghost use Rattle.c_calls.specs.SectionCalls.{section_at};
 ghost use Rattle.c_calls.specs.Told.{done, no_memory, no_section};
@@ -33,7 +33,7 @@ pub extern "C" fn zaxp_session_section(
     at: usize,
     info: &mut Section,
 ) -> u32
-    requires { IsFull handle.old.inner }
+    requires { IsRoomFull handle.old.inner }
     ensures same { handle.new.inner ≡ handle.old.inner }
     ensures given { Of handle.old.inner (λ sdp. GivesOne (section_at sdp at) info.old (result, info.new)) }
 {
@@ -69,7 +69,7 @@ pub extern "C" fn zaxp_session_is_writable(
     at: usize,
     writable: &mut bool,
 ) -> u32
-    requires { IsFull handle.old.inner }
+    requires { IsRoomFull handle.old.inner }
     ensures same { handle.new.inner ≡ handle.old.inner }
     ensures statuses { (result ≡ done) ⊎ (result ≡ no_memory) ⊎ (result ≡ no_section) }
     ensures tested { result ≡ done → Of handle.old.inner (λ sdp. IsTrue writable.new ↔ Writable sdp at) }

@@ -1,7 +1,7 @@
 //! Calls that write a text of a section.
 
 ghost use Rattle.c_calls.specs.Common.{Of};
-ghost use Rattle.c_calls.specs.Prelude.{IsFull, first, last, msid_of, simulcast_of};
+ghost use Rattle.c_calls.specs.Prelude.{IsRoomFull, first, last, msid_of, simulcast_of};
 ghost use Rattle.c_calls.specs.Said.{Puts, Says};
 ghost use Rattle.c_calls.specs.SectionTexts.{ids_text, layer_name, layers_both_ways, section_text, text_at, text_numbered};
 ghost use Rattle.std.specs.Prelude.{◌≡◌, ◌++◌, IfOk, Some, filter_map, option_copied, option_map, slice_get, string_bytes};
@@ -146,7 +146,7 @@ pub extern "C" fn zaxp_session_text(
     room: &mut [u8],
     needed: &mut usize,
 ) -> u32
-    requires { IsFull handle.old.inner }
+    requires { IsRoomFull handle.old.inner }
     ensures same { handle.new.inner ≡ handle.old.inner }
     ensures says { Of handle.old.inner (λ sdp.
         Says (text_at (text_numbered what) sdp at index) (room.old, needed.old) (result, room.new, needed.new)) }

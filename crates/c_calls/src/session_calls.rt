@@ -1,7 +1,7 @@
 //! Calls of descriptions.
 
 ghost use Rattle.c_calls.specs.Common.{Of};
-ghost use Rattle.c_calls.specs.Prelude.{Described, IsFull, IsJsonText, Reading, Sdp, sdp_text, versioned_text};
+ghost use Rattle.c_calls.specs.Prelude.{Described, IsRoomFull, IsJsonText, Reading, Sdp, sdp_text, versioned_text};
 ghost use Rattle.c_calls.specs.Said.{Puts, Says, SaysSome};
 ghost use Rattle.c_calls.specs.SectionCalls.{mid_at};
 ghost use Rattle.c_calls.specs.SessionCalls.{mid_named, mid_or_empty};
@@ -48,7 +48,7 @@ pub extern "C" fn zaxp_session_read(
 /// How many sections the description has.
 #[unsafe(no_mangle)]
 pub extern "C" fn zaxp_session_sections(alloc: Global, handle: &mut SessionHandle) -> usize
-    requires { IsFull handle.old.inner }
+    requires { IsRoomFull handle.old.inner }
     ensures same { handle.new.inner ≡ handle.old.inner }
     ensures count { Of handle.old.inner (λ sdp. result ≡ length sdp.media_lines) }
 {
@@ -72,7 +72,7 @@ pub extern "C" fn zaxp_session_print(
     room: &mut [u8],
     needed: &mut usize,
 ) -> u32
-    requires { IsFull handle.old.inner }
+    requires { IsRoomFull handle.old.inner }
     ensures same { handle.new.inner ≡ handle.old.inner }
     ensures says { Of handle.old.inner (λ sdp. Says (Some (sdp_text sdp)) (room.old, needed.old) (result, room.new, needed.new)) }
 {
@@ -97,7 +97,7 @@ pub extern "C" fn zaxp_session_print_version(
     room: &mut [u8],
     needed: &mut usize,
 ) -> u32
-    requires { IsFull handle.old.inner }
+    requires { IsRoomFull handle.old.inner }
     ensures same { handle.new.inner ≡ handle.old.inner }
     ensures says { Of handle.old.inner (λ sdp. Says (Some (versioned_text version sdp)) (room.old, needed.old) (result, room.new, needed.new)) }
 {
@@ -124,7 +124,7 @@ pub extern "C" fn zaxp_session_json(
     room: &mut [u8],
     needed: &mut usize,
 ) -> u32
-    requires { IsFull handle.old.inner }
+    requires { IsRoomFull handle.old.inner }
     ensures same { handle.new.inner ≡ handle.old.inner }
     ensures says { SaysSome IsJsonText (room.old, needed.old) (result, room.new, needed.new) }
 {
@@ -171,7 +171,7 @@ pub extern "C" fn zaxp_session_mid(
     room: &mut [u8],
     needed: &mut usize,
 ) -> u32
-    requires { IsFull handle.old.inner }
+    requires { IsRoomFull handle.old.inner }
     ensures same { handle.new.inner ≡ handle.old.inner }
     ensures says { Of handle.old.inner (λ sdp. Puts (mid_at sdp at) (room.old, needed.old) (result, room.new, needed.new)) }
 {
@@ -184,7 +184,7 @@ pub extern "C" fn zaxp_session_mid(
 /// Frees the description; the handle is empty then.
 #[unsafe(no_mangle)]
 pub extern "C" fn zaxp_session_free(alloc: Global, handle: &mut SessionHandle)
-    requires { IsFull handle.old.inner }
+    requires { IsRoomFull handle.old.inner }
     ensures { handle.new.inner ≡ None }
 {
     drop(handle.take(alloc));

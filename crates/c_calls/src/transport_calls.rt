@@ -1,7 +1,7 @@
 //! Calls of the transport that a description speaks of.
 
 ghost use Rattle.c_calls.specs.Common.{Of};
-ghost use Rattle.c_calls.specs.Prelude.{IsFull, sdp_creds, sdp_setup, setup_number};
+ghost use Rattle.c_calls.specs.Prelude.{IsRoomFull, sdp_creds, sdp_setup, setup_number};
 ghost use Rattle.c_calls.specs.Said.{Says, SaysSome};
 ghost use Rattle.c_calls.specs.TransportCalls.{IsPreferredText, pwd_of, ufrag_of};
 ghost use Rattle.std.specs.Prelude.{◌≡◌, IfOk, Some, string_bytes};
@@ -30,7 +30,7 @@ pub extern "C" fn zaxp_session_ice_ufrag(
     room: &mut [u8],
     needed: &mut usize,
 ) -> u32
-    requires { IsFull handle.old.inner }
+    requires { IsRoomFull handle.old.inner }
     ensures same { handle.new.inner ≡ handle.old.inner }
     ensures says { Of handle.old.inner (λ sdp. Says (Some (ufrag_of (sdp_creds sdp))) (room.old, needed.old) (result, room.new, needed.new)) }
 {
@@ -58,7 +58,7 @@ pub extern "C" fn zaxp_session_ice_pwd(
     room: &mut [u8],
     needed: &mut usize,
 ) -> u32
-    requires { IsFull handle.old.inner }
+    requires { IsRoomFull handle.old.inner }
     ensures same { handle.new.inner ≡ handle.old.inner }
     ensures says { Of handle.old.inner (λ sdp. Says (Some (pwd_of (sdp_creds sdp))) (room.old, needed.old) (result, room.new, needed.new)) }
 {
@@ -95,7 +95,7 @@ pub extern "C" fn zaxp_session_fingerprint(
     room: &mut [u8],
     needed: &mut usize,
 ) -> u32
-    requires { IsFull handle.old.inner }
+    requires { IsRoomFull handle.old.inner }
     ensures same { handle.new.inner ≡ handle.old.inner }
     ensures says { Of handle.old.inner (λ sdp. SaysSome (IsPreferredText sdp) (room.old, needed.old) (result, room.new, needed.new)) }
 {
@@ -108,7 +108,7 @@ pub extern "C" fn zaxp_session_fingerprint(
 /// The role in the DTLS handshake that the description says, as a number.
 #[unsafe(no_mangle)]
 pub extern "C" fn zaxp_session_setup(alloc: Global, handle: &mut SessionHandle) -> u8
-    requires { IsFull handle.old.inner }
+    requires { IsRoomFull handle.old.inner }
     ensures same { handle.new.inner ≡ handle.old.inner }
     ensures setup { Of handle.old.inner (λ sdp. result ≡ setup_number (sdp_setup sdp)) }
 {

@@ -1,8 +1,8 @@
 -- Each token that may come next leads to the levels behind it.
 use Rattle.c_json.specs.Description.{IsJsonText}
 use Rattle.c_json.specs.JsonWriter.{Level, object, named, list, closed, valued, after_token, open_levels, InObject, InList, WantsValue}
-use Rattle.c_json.specs.JsonWriter.{MayBe}
-use Rattle.c_json.specs.JsonWriter.{IsJsonValue, AreMembers, AreItems, IsFront, Leads, IsBegun}
+use Rattle.c_json.specs.JsonWriter.{MayBeJson}
+use Rattle.c_json.specs.JsonWriter.{IsJsonValue, AreMembers, AreItems, IsJsonFront, Leads, IsJsonBegun}
 use Rattle.json.specs.Json as json
 use Rattle.json.specs.Lex.{tokens}
 use Rattle.json.specs.Print.{print, IsPrintable}
@@ -84,14 +84,14 @@ list_value ts are =
 
 -- ---- a value within levels
 
-put_within : (ls : List Level) (ts vs : List Token) → IsFront ls ts → IsJsonValue vs → Leads ls (ts ++ vs)
-put_within [] ts vs front value = record {
+json_put_within : (ls : List Level) (ts vs : List Token) → IsJsonFront ls ts → IsJsonValue vs → Leads ls (ts ++ vs)
+json_put_within [] ts vs front value = record {
   value = value.value;
   written = value.written;
   tokens = ap (λ t. t ++ vs) front ∙ value.tokens;
   same = value.same;
 }
-put_within (object ∷ ls) ts vs (outer, members, k, front, are, is) value = (
+json_put_within (object ∷ ls) ts vs (outer, members, k, front, are, is) value = (
   outer,
   members ++ key k ∷ vs,
   front,
@@ -99,8 +99,8 @@ put_within (object ∷ ls) ts vs (outer, members, k, front, are, is) value = (
   ap (λ t. t ++ vs) is ∙ append_assoc outer (begin_object ∷ (members ++ key k ∷ [])) vs
       ∙ ap (λ t. outer ++ begin_object ∷ t) (append_assoc members (key k ∷ []) vs),
 )
-put_within (named ∷ ls) ts vs front value = absurd front
-put_within (list ∷ ls) ts vs (outer, items, front, are, is) value = (
+json_put_within (named ∷ ls) ts vs front value = absurd front
+json_put_within (list ∷ ls) ts vs (outer, items, front, are, is) value = (
   outer,
   items ++ vs,
   front,
@@ -112,8 +112,8 @@ put_scalar : (ls : List Level) (ts : List Token) (t : Token) → Leads ls ts →
     → Leads (valued ls) (ts ++ t ∷ [])
 put_scalar [] ts t leads wants value = absurd wants
 put_scalar (object ∷ ls) ts t leads wants value = absurd wants
-put_scalar (named ∷ ls) ts t leads wants value = put_within (object ∷ ls) ts (t ∷ []) leads value
-put_scalar (list ∷ ls) ts t leads wants value = put_within (list ∷ ls) ts (t ∷ []) leads value
+put_scalar (named ∷ ls) ts t leads wants value = json_put_within (object ∷ ls) ts (t ∷ []) leads value
+put_scalar (list ∷ ls) ts t leads wants value = json_put_within (list ∷ ls) ts (t ∷ []) leads value
 
 begin_members : (ls : List Level) (ts : List Token) → Leads ls ts → WantsValue ls → Leads (object ∷ valued ls) (ts ++ begin_object ∷ [])
 begin_members [] ts leads wants = absurd wants
@@ -131,7 +131,7 @@ end_members : (ls : List Level) (ts : List Token) → Leads ls ts → InObject l
 end_members [] ts leads inside = absurd inside
 end_members (object ∷ ls) ts (outer, members, front, are, is) inside =
     subst (Leads ls) (sym (ap (λ t. t ++ end_object ∷ []) is ∙ append_assoc outer (begin_object ∷ members) (end_object ∷ [])))
-    (put_within ls outer (begin_object ∷ (members ++ end_object ∷ [])) front (object_value members are))
+    (json_put_within ls outer (begin_object ∷ (members ++ end_object ∷ [])) front (object_value members are))
 end_members (named ∷ ls) ts leads inside = absurd inside
 end_members (list ∷ ls) ts leads inside = absurd inside
 
@@ -141,7 +141,7 @@ end_items (object ∷ ls) ts leads inside = absurd inside
 end_items (named ∷ ls) ts leads inside = absurd inside
 end_items (list ∷ ls) ts (outer, items, front, are, is) inside =
     subst (Leads ls) (sym (ap (λ t. t ++ end_array ∷ []) is ∙ append_assoc outer (begin_array ∷ items) (end_array ∷ [])))
-    (put_within ls outer (begin_array ∷ (items ++ end_array ∷ [])) front (list_value items are))
+    (json_put_within ls outer (begin_array ∷ (items ++ end_array ∷ [])) front (list_value items are))
 
 put_key : (ls : List Level) (ts : List Token) (k : List ℕ) → Leads ls ts → InObject ls → Leads (named ∷ closed ls) (ts ++ key k ∷ [])
 put_key [] ts k leads inside = absurd inside
@@ -156,7 +156,7 @@ put_key (object ∷ ls) ts k (outer, members, front, are, is) inside = (
 put_key (named ∷ ls) ts k leads inside = absurd inside
 put_key (list ∷ ls) ts k leads inside = absurd inside
 
-put_token : (ls : List Level) (ts : List Token) (t : Token) → Leads ls ts → MayBe ls t → Leads (after_token ls t) (ts ++ t ∷ [])
+put_token : (ls : List Level) (ts : List Token) (t : Token) → Leads ls ts → MayBeJson ls t → Leads (after_token ls t) (ts ++ t ∷ [])
 put_token ls ts begin_object leads may = begin_members ls ts leads may
 put_token ls ts end_object leads may = end_members ls ts leads may
 put_token ls ts begin_array leads may = begin_items ls ts leads may
@@ -170,7 +170,7 @@ put_token ls ts bad leads may = absurd may
 
 -- ---- for the writer
 
-pub may_be_printed : (ls : List Level) (t : Token) → MayBe ls t → IsPrintable t
+pub may_be_printed : (ls : List Level) (t : Token) → MayBeJson ls t → IsPrintable t
 may_be_printed ls begin_object may = tt
 may_be_printed ls end_object may = tt
 may_be_printed ls begin_array may = tt
@@ -186,35 +186,37 @@ may_be_printed ls bad may = absurd may
 pub levels_push : (old new : List Token) (t : Token) → new ≡ old ++ t ∷ [] → open_levels new ≡ after_token (open_levels old) t
 levels_push old new t is = ap open_levels is ∙ fold_push after_token [] old t
 
-led : (old new : List Token) (t : Token) → new ≡ old ++ t ∷ [] → Leads (after_token (open_levels old) t) (old ++ t ∷ [])
+json_led : (old new : List Token) (t : Token) → new ≡ old ++ t ∷ [] → Leads (after_token (open_levels old) t) (old ++ t ∷ [])
     → Leads (open_levels new) new
-led old new t is leads = subst (λ ts. Leads (open_levels ts) ts) (sym is)
+json_led old new t is leads = subst (λ ts. Leads (open_levels ts) ts) (sym is)
     (subst (λ ls. Leads ls (old ++ t ∷ [])) (sym (fold_push after_token [] old t)) leads)
 
-begun_behind : {E : Type 0} (r : Result (Unit {0}) E) (old new : Written) (t : Token) → Writes r old new t → IsBegun old.before old.tokens
-    → Leads (after_token (open_levels old.tokens) t) (old.tokens ++ t ∷ []) → IsBegun new.before new.tokens
-begun_behind (Ok done) old new t writes is leads = record {
+json_begun_behind : {E : Type 0} (r : Result (Unit {0}) E) (old new : Written) (t : Token) → Writes r old new t
+    → IsJsonBegun old.before old.tokens
+    → Leads (after_token (open_levels old.tokens) t) (old.tokens ++ t ∷ []) → IsJsonBegun new.before new.tokens
+json_begun_behind (Ok done) old new t writes is leads = record {
   empty = writes.room.0 ∙ is.empty;
-  leads = led old.tokens new.tokens t writes.ok leads;
+  leads = json_led old.tokens new.tokens t writes.ok leads;
 }
-begun_behind (Err error) old new t writes is leads = record {
+json_begun_behind (Err error) old new t writes is leads = record {
   empty = writes.room.0 ∙ is.empty;
   leads = subst (λ ts. Leads (open_levels ts) ts) (sym writes.err) is.leads;
 }
 
 pub begun_token : {E : Type 0} (r : Result (Unit {0}) E) (old new : Written) (t : Token) → Writes r old new t
-    → IsBegun old.before old.tokens → MayBe (open_levels old.tokens) t
-    → IsBegun new.before new.tokens
-begun_token r old new t writes is may = begun_behind r old new t writes is (put_token (open_levels old.tokens) old.tokens t is.leads may)
+    → IsJsonBegun old.before old.tokens → MayBeJson (open_levels old.tokens) t
+    → IsJsonBegun new.before new.tokens
+begun_token r old new t writes is may = json_begun_behind r old new t writes is
+    (put_token (open_levels old.tokens) old.tokens t is.leads may)
 
 pub begun_number : {E : Type 0} (r : Result (Unit {0}) E) (old new : Written) (n : ℕ) → n < 2 ^ 64 → Writes r old new (number (decimal n))
-    → IsBegun old.before old.tokens
-    → WantsValue (open_levels old.tokens) → IsBegun new.before new.tokens
-begun_number r old new n fits writes is wants = begun_behind r old new _ writes is
+    → IsJsonBegun old.before old.tokens
+    → WantsValue (open_levels old.tokens) → IsJsonBegun new.before new.tokens
+begun_number r old new n fits writes is wants = json_begun_behind r old new _ writes is
     (put_scalar (open_levels old.tokens) old.tokens _ is.leads wants (number_value n fits))
 
 -- an object alone
-pub begun_object : (before : List ℕ) (ts : List Token) → before ≡ [] → ts ≡ begin_object ∷ [] → IsBegun before ts
+pub begun_object : (before : List ℕ) (ts : List Token) → before ≡ [] → ts ≡ begin_object ∷ [] → IsJsonBegun before ts
 begun_object before ts empty is = record {
   empty = empty;
   leads = subst (λ t. Leads (open_levels t) t) (sym is) ([], [], refl, no_members, refl);
@@ -247,7 +249,7 @@ json_value_text text ts is read value =
     (value.value, (value.written, same ∙ value.tokens, value.same), is ∙ ap print (sym same))
 
 -- where nothing is open any more, the text is that of a value
-pub whole_json_text : (before text : List ℕ) (ts : List Token) → IsBegun before ts → open_levels ts ≡ [] → text ≡ before ++ print ts
+pub whole_json_text : (before text : List ℕ) (ts : List Token) → IsJsonBegun before ts → open_levels ts ≡ [] → text ≡ before ++ print ts
     → tokens (print ts) ≡ ts → IsJsonText text
 whole_json_text before text ts begun none is read = json_value_text text ts (is ∙ ap (λ b. b ++ print ts) begun.empty) read
     (subst (λ ls. Leads ls ts) none begun.leads)

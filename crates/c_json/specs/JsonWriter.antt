@@ -62,17 +62,17 @@ WantsValue (named ∷ ls) = Unit {0}
 WantsValue (list ∷ ls) = Unit {0}
 
 -- the token may come next; a number has a call of its own
-abbrev pub MayBe : List Level → Token → Type 0
-MayBe ls begin_object = WantsValue ls
-MayBe ls end_object = InObject ls
-MayBe ls begin_array = WantsValue ls
-MayBe ls end_array = InList ls
-MayBe ls (key k) = InObject ls
-MayBe ls (string s) = WantsValue ls
-MayBe ls (number s) = ⊥
-MayBe ls (boolean b) = WantsValue ls
-MayBe ls null = WantsValue ls
-MayBe ls bad = ⊥
+abbrev pub MayBeJson : List Level → Token → Type 0
+MayBeJson ls begin_object = WantsValue ls
+MayBeJson ls end_object = InObject ls
+MayBeJson ls begin_array = WantsValue ls
+MayBeJson ls end_array = InList ls
+MayBeJson ls (key k) = InObject ls
+MayBeJson ls (string s) = WantsValue ls
+MayBeJson ls (number s) = ⊥
+MayBeJson ls (boolean b) = WantsValue ls
+MayBeJson ls null = WantsValue ls
+MayBeJson ls bad = ⊥
 
 -- ---- which tokens lead to such levels
 
@@ -106,21 +106,21 @@ abbrev pub AreItems : List Token → Type 0
 AreItems ts = (rest : json.Items) (more : Items) → blank_items rest ≡ items_outline more → BeginsItems ts rest
 
 -- the tokens in front of a value that stands within these levels
-abbrev pub IsFront : List Level → List Token → Type 0
-IsFront [] ts = ts ≡ []
-IsFront (object ∷ ls) ts =
-    (outer : List Token) × (members : List Token) × (k : List ℕ) × IsFront ls outer × AreMembers members × (ts ≡ outer ++ begin_object ∷ (members ++ key k ∷ []))
-IsFront (named ∷ ls) ts = ⊥
-IsFront (list ∷ ls) ts = (outer : List Token) × (items : List Token) × IsFront ls outer × AreItems items × (ts ≡ outer ++ begin_array ∷ items)
+abbrev pub IsJsonFront : List Level → List Token → Type 0
+IsJsonFront [] ts = ts ≡ []
+IsJsonFront (object ∷ ls) ts =
+    (outer : List Token) × (members : List Token) × (k : List ℕ) × IsJsonFront ls outer × AreMembers members × (ts ≡ outer ++ begin_object ∷ (members ++ key k ∷ []))
+IsJsonFront (named ∷ ls) ts = ⊥
+IsJsonFront (list ∷ ls) ts = (outer : List Token) × (items : List Token) × IsJsonFront ls outer × AreItems items × (ts ≡ outer ++ begin_array ∷ items)
 
 -- the tokens that lead there; where none is open any more, a value
 abbrev pub Leads : List Level → List Token → Type 0
 Leads [] ts = IsJsonValue ts
-Leads (object ∷ ls) ts = (outer : List Token) × (members : List Token) × IsFront ls outer × AreMembers members × (ts ≡ outer ++ begin_object ∷ members)
-Leads (named ∷ ls) ts = IsFront (object ∷ ls) ts
-Leads (list ∷ ls) ts = IsFront (list ∷ ls) ts
+Leads (object ∷ ls) ts = (outer : List Token) × (members : List Token) × IsJsonFront ls outer × AreMembers members × (ts ≡ outer ++ begin_object ∷ members)
+Leads (named ∷ ls) ts = IsJsonFront (object ∷ ls) ts
+Leads (list ∷ ls) ts = IsJsonFront (list ∷ ls) ts
 
 -- what is written leads to its levels, in a room that was empty
-pub record IsBegun (before : List ℕ) (tokens : List Token) : Type 0 where
+pub record IsJsonBegun (before : List ℕ) (tokens : List Token) : Type 0 where
   pub empty : before ≡ []
   pub leads : Leads (open_levels tokens) tokens

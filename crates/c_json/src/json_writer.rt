@@ -1,7 +1,7 @@
 //! JSON as it is written: objects and lists, one in another, each member and each item straight into the text.
 
 ghost use Rattle.c_json.specs.Description.{IsJsonText};
-ghost use Rattle.c_json.specs.JsonWriter.{object, list, closed, valued, after_token, InObject, InList, WantsValue, MayBe};
+ghost use Rattle.c_json.specs.JsonWriter.{object, list, closed, valued, after_token, InObject, InList, WantsValue, MayBeJson};
 ghost use Rattle.json.specs.Reads.{token_of};
 ghost use Rattle.std.specs.Prelude.{◌≡◌, ◌∷◌, [], IfOk, OnOk};
 ghost use Rattle.std.specs.String.{string_bytes};
@@ -28,14 +28,14 @@ pub(crate) struct JsonWriter {
 }
 
 impl Model for JsonWriter {
-    ghost use Rattle.c_json.specs.JsonWriter.{Level, open_levels, IsBegun};
+    ghost use Rattle.c_json.specs.JsonWriter.{Level, open_levels, IsJsonBegun};
     ghost use Rattle.std.specs.Prelude.{List};
 
     ghost Value = { List Level };
 
     ghost view = { λ json. open_levels json.out.tokens };
 
-    ghost invariant = { λ json. IsBegun json.out.before json.out.tokens };
+    ghost invariant = { λ json. IsJsonBegun json.out.before json.out.tokens };
 }
 
 /// The number whose digits a text is, none else.
@@ -58,7 +58,7 @@ impl JsonWriter {
 
     #[inline(always)]
     fn put(&mut self, token: Token<'_>) -> Result<(), AllocError>
-        requires { MayBe self.old (token_of token) }
+        requires { MayBeJson self.old (token_of token) }
         ensures { OnOk result (self.new ≡ after_token self.old (token_of token.entry)) }
     {
         self.out.token(token)?;

@@ -13,6 +13,6 @@ owned R alloc p (Some x) = box_owns (ghosts.dealloc_token alloc) R p x
 
 -- ---- handles that own something
 
-abbrev pub IsFull : {X : Type 0} → Option X → Type 0
-IsFull None = ⊥
-IsFull (Some _) = Unit {0}
+abbrev pub IsRoomFull : {X : Type 0} → Option X → Type 0
+IsRoomFull None = ⊥
+IsRoomFull (Some _) = Unit {0}

@@ -52,7 +52,7 @@ own_texts ice_ufrag ice_pwd fingerprint stream_id extensions candidates = record
 }
 
 -- it says what the numbers and the texts say
-pub record SaysOwn (numbers : OwnNumbers) (texts : OwnTexts) (own : OwnSide) : Type 0 where
+pub record SaysOwnSide (numbers : OwnNumbers) (texts : OwnTexts) (own : OwnSide) : Type 0 where
   pub session_id : own.session_id ≡ numbers.session_id
   pub ufrag : own.creds.ufrag ≡ texts.ice_ufrag.now
   pub pwd : own.creds.pass ≡ texts.ice_pwd.now

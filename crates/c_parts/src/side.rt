@@ -1,7 +1,7 @@
 //! What this side says of itself, as C says it.
 
 ghost use Rattle.c_parts.specs.Fault.{RefusesBytes};
-ghost use Rattle.c_parts.specs.Side.{RefusesCandidate, RefusesCandidates, RefusesFingerprint, RefusesList, RefusesOwn, SaysOwn, own_channels_of, direction_numbered, kind_numbered, listed_texts};
+ghost use Rattle.c_parts.specs.Side.{RefusesCandidate, RefusesCandidates, RefusesFingerprint, RefusesList, RefusesOwn, SaysOwnSide, own_channels_of, direction_numbered, kind_numbered, listed_texts};
 ghost use Rattle.exchange.specs.declared.state.exchange_error.ExchangeError.TheVariants.{Memory};
 ghost use Rattle.exchange.specs.section.Trickled.{IsTrickled};
 ghost use Rattle.std.specs.List.{AllZip};
@@ -156,7 +156,7 @@ fn candidates_of(alloc: Global, lines: &[&[u8]]) -> Result<Items<Candidate>, Fau
 
 /// What the numbers and the texts say.
 pub fn own_side(alloc: Global, numbers: &OwnNumbers, texts: &OwnTexts<'_>) -> Result<OwnSide, Fault>
-    ensures says { IfOk result (SaysOwn numbers.now texts.now) }
+    ensures says { IfOk result (SaysOwnSide numbers.now texts.now) }
     ensures refused { IfErr result (RefusesOwn texts.now) }
 {
     let creds = IceCreds {

@@ -1,8 +1,8 @@
 -- What definitions and clauses cite of the crates below, passed on from one place. Declares nothing.
 pub use Rattle.str0m_formats.specs.declared.row.payload_params.PayloadParams.{PayloadParams}
-pub use Rattle.str0m_formats.specs.round.Claimed.{AllDistinct, has}
+pub use Rattle.str0m_formats.specs.round.Claimed.{AllTypesDistinct, has}
 pub use Rattle.str0m_formats.specs.round.RoundsPromises.{LockedStay, RunPromises}
-pub use Rattle.str0m_formats.specs.round.RoundsRuns.{Outcome, Reached}
+pub use Rattle.str0m_formats.specs.round.RoundsRuns.{Outcome, RunReached}
 pub use Rattle.str0m_formats.specs.row.KindRows.{kind_rows}
 pub use Rattle.str0m_formats.specs.row.PayloadParams.{locked_types, types, types_of}
 pub use Rattle.str0m_formats.specs.row.PlainRow.{HasVideoFeedback, IsPlain}
@@ -26,11 +26,11 @@ pub use Rattle.str0m_sdp.specs.section.RowAttributes.{row_attrs}
 pub use Rattle.str0m_sdp.specs.section.SectionAccessors.{rid_name_of, simulcast_of}
 pub use Rattle.str0m_sdp.specs.section.SectionDirection.{section_direction}
 pub use Rattle.str0m_sdp.specs.section.SectionRows.{HasBoundedRows, rows}
-pub use Rattle.str0m_sdp.specs.session.OrderedMids.{Holds, is_held}
-pub use Rattle.str0m_sdp.specs.session.PreferredFingerprint.{IsPreferred, first_filled}
+pub use Rattle.str0m_sdp.specs.session.OrderedMids.{HoldsMids, is_mid_held}
+pub use Rattle.str0m_sdp.specs.session.PreferredFingerprint.{IsPreferred, first_filled_list}
 pub use Rattle.str0m_sdp.specs.session.SdpAccessors.{bundled_of}
 pub use Rattle.str0m_sdp.specs.session.Session.{versioned_text}
-pub use Rattle.str0m_sdp.specs.session.SessionConsistency.{AreDistinct, is_listed, section_mids}
+pub use Rattle.str0m_sdp.specs.session.SessionConsistency.{AreMidsDistinct, is_listed, section_mids}
 pub use Rattle.str0m_sdp.specs.session.Transport.{creds, media_creds, media_fingerprint, media_pwd, media_setup, media_ufrag, session_fingerprint, session_pwd, session_setup, session_ufrag}
 pub use Rattle.str0m_signal.specs.form.CandidateLine.{IsCandidateLine}
 pub use Rattle.str0m_signal.specs.line.Lines.{FirstLine, Line, Lines}

@@ -92,12 +92,12 @@ notes_next number content one more old new is k = record {
 }
 
 -- one line further
-pub one_further : (old : Notes) (before : ℕ) (text : List ℕ) (said : List Mark) (now next : Notes) (passed : ℕ) (rest : List ℕ)
+pub one_line_further : (old : Notes) (before : ℕ) (text : List ℕ) (said : List Mark) (now next : Notes) (passed : ℕ) (rest : List ℕ)
     (left more : List Mark) (content after : List ℕ)
     → SoFar old before text said now passed rest left → BeginsWithLine rest content after
     → NotesLine (passed + 1) content left more now next
     → SoFar old before text said next (passed + 1) after more
-one_further old before text said now next passed rest left more content after h (ending, e) n =
+one_line_further old before text said now next passed rest left more content after h (ending, e) n =
     let later : List ℕ = unread_numbers (passed + 1) after more in
     let here : unread_numbers passed rest left ≡ n.own ++ later =
     ap (λ ls. kept_at (map is_unread left) (attribute_numbers (passed + 1) ls)) e ∙ n.rest_are ending (lines_of after) in

@@ -1,27 +1,28 @@
 -- What is said of rounds, one more at a time.
 use Rattle.lint.proofs.Common.{◌≡◌, ◌+◌, ◌<◌, ℕ, Bool, true, false, Option, Some, None, Ok, Err, filter_map, List, [], ◌∷◌, ◌++◌, length}
 use Rattle.lint.proofs.Common.{map, take, get_or, refl, sym, ap, subst, ◌∙◌, arith, append_assoc, append-nil, length-take-le, map-append}
-use Rattle.lint.proofs.Common.{filter_map-append, on_err_weaker, cons_option, take_more, ran_from, CodecConfig, PayloadParams, Negotiates}
+use Rattle.lint.proofs.Common.{filter_map-append, on_err_weaker, cons_option, take_more, rounds_ran_from, CodecConfig, PayloadParams}
+use Rattle.lint.proofs.Common.{Negotiates}
 use Rattle.lint.proofs.Common.{Outcome, is_media, MediaLine, Sdp, section_direction, rows, Reading, AtMostOne, receives}
 use Rattle.lint.specs.Fates.{AddsFates, ArePartners, IsPartner, RoundSays, RoundsSay, SaysRounds, Where, codes, fate, refusal_fate, some_of}
-use Rattle.lint.specs.Findings.{AddsOne}
+use Rattle.lint.specs.Findings.{AddsOneFinding}
 use Rattle.lint.specs.declared.code.Code.{Code}
 use Rattle.lint.specs.declared.code.Code.TheVariants.{Round}
 use Rattle.lint.specs.declared.code.Fate.{Fate}
 use Rattle.lint.specs.declared.finding.Finding.{Finding}
 use Rattle.lint.specs.declared.notes.Notes.{Notes}
 
-pub adds_none : (old : Notes) → AddsFates [] old old
-adds_none old = sym (append-nil (codes old.findings))
+pub adds_no_fate : (old : Notes) → AddsFates [] old old
+adds_no_fate old = sym (append-nil (codes old.findings))
 
-pub adds_one : (line : ℕ) (fate : Fate) (old new : Notes) → AddsOne line (Round fate) old new → AddsFates (fate ∷ []) old new
-adds_one line fate old new (f, e, c, l) =
+pub adds_one_fate : (line : ℕ) (fate : Fate) (old new : Notes) → AddsOneFinding line (Round fate) old new → AddsFates (fate ∷ []) old new
+adds_one_fate line fate old new (f, e, c, l) =
     ap codes e ∙ map-append (λ (finding : Finding). finding.code) old.findings (f ∷ [])
     ∙ ap (λ (k : Code). codes old.findings ++ k ∷ []) c
 
-pub adds_more : (first second : List Fate) (old mid new : Notes) → AddsFates first old mid → AddsFates second mid new
+pub adds_more_fates : (first second : List Fate) (old mid new : Notes) → AddsFates first old mid → AddsFates second mid new
     → AddsFates (first ++ second) old new
-adds_more first second old mid new a b =
+adds_more_fates first second old mid new a b =
     b ∙ ap (λ (cs : List Code). cs ++ map Round second) a
     ∙ append_assoc (codes old.findings) (map Round first) (map Round second)
     ∙ ap (λ (cs : List Code). codes old.findings ++ cs) (sym (map-append Round first second))
@@ -92,9 +93,9 @@ rounds_push (s ∷ sections) m before fates last now after is_one say own =
       | false ↦ λ more. rounds_push sections m before fates last now after is_one more own
     ] say
 
-one_of : (o : Option Fate) → cons_option o [] ≡ some_of o
-one_of None = refl
-one_of (Some it) = refl
+one_fate_of : (o : Option Fate) → cons_option o [] ≡ some_of o
+one_fate_of None = refl
+one_fate_of (Some it) = refl
 
 pub rows_step : (h : PayloadParams → Option Fate) (xs : List PayloadParams) (i : ℕ) (x : PayloadParams) (old mid new : Notes)
     → i < length xs → x ≡ get_or xs i x
@@ -103,18 +104,19 @@ rows_step h xs i x old mid new inside is a b =
     let front : take i xs ++ x ∷ [] ≡ take (i + 1) xs =
     sym (take_more xs i x inside ∙ ap (λ (y : PayloadParams). take i xs ++ y ∷ []) (sym is)) in
     let same : filter_map h (take i xs) ++ some_of (h x) ≡ filter_map h (take (i + 1) xs) =
-    ap (λ (fs : List Fate). filter_map h (take i xs) ++ fs) (sym (one_of (h x))) ∙ sym (filter_map-append h (take i xs) (x ∷ []))
+    ap (λ (fs : List Fate). filter_map h (take i xs) ++ fs) (sym (one_fate_of (h x))) ∙ sym (filter_map-append h (take i xs) (x ∷ []))
     ∙ ap (filter_map h) front in
-    subst (λ (fs : List Fate). AddsFates fs old new) same (adds_more (filter_map h (take i xs)) (some_of (h x)) old mid new a b)
+    subst (λ (fs : List Fate). AddsFates fs old new) same (adds_more_fates (filter_map h (take i xs)) (some_of (h x)) old mid new a b)
 
 -- the sections so far, with what is said of their rounds
 abbrev pub SaidSoFar : Notes → Notes → List MediaLine → List PayloadParams → List PayloadParams → Type 0
 SaidSoFar old now sections before after = (fates : List Fate) × AddsFates fates old now × RoundsSay sections before fates after
 
-pub skip_step : (all : List MediaLine) (i : ℕ) (m : MediaLine) (old now : Notes) (before after : List PayloadParams) → i < length all
+pub fate_round_skip_step : (all : List MediaLine) (i : ℕ) (m : MediaLine) (old now : Notes) (before after : List PayloadParams)
+    → i < length all
     → m ≡ get_or all i m
     → is_media m.typ ≡ false → SaidSoFar old now (take i all) before after → SaidSoFar old now (take (i + 1) all) before after
-skip_step all i m old now before after inside is not_one (fates, adds, say) =
+fate_round_skip_step all i m old now before after inside is not_one (fates, adds, say) =
     let front : take i all ++ m ∷ [] ≡ take (i + 1) all =
     sym (take_more all i m inside ∙ ap (λ (y : MediaLine). take i all ++ y ∷ []) (sym is)) in (
       fates,
@@ -132,17 +134,17 @@ round_step all i m old mid new before now after inside is one (fates, adds, say)
     let front : take i all ++ m ∷ [] ≡ take (i + 1) all =
     sym (take_more all i m inside ∙ ap (λ (y : MediaLine). take i all ++ y ∷ []) (sym is)) in (
       fates ++ own,
-      adds_more fates own old mid new adds more,
+      adds_more_fates fates own old mid new adds more,
       subst (λ (ms : List MediaLine). RoundsSay ms before (fates ++ own) after)
           front (rounds_push (take i all) m before fates own now after one say round),
     )
 
 -- a round leaves as many rows as there were
-pub same_count : (remote : List PayloadParams) (receives : Bool) (old new : CodecConfig) (result : Outcome)
+pub fate_rounds_same_count : (remote : List PayloadParams) (receives : Bool) (old new : CodecConfig) (result : Outcome)
     → Negotiates remote receives old new result
     → length old.params.items ≡ length new.params.items
-same_count remote receives old new (Ok done) n = sym n.promises.rows
-same_count remote receives old new (Err cause) n = ap (λ (config : CodecConfig). length config.params.items) (sym n.err)
+fate_rounds_same_count remote receives old new (Ok done) n = sym n.promises.rows
+fate_rounds_same_count remote receives old new (Err cause) n = ap (λ (config : CodecConfig). length config.params.items) (sym n.err)
 
 -- what is said of a round that was run
 pub round_says : (m : MediaLine) (old new : CodecConfig) (outcome : Outcome) (partners : List (Option ℕ))
@@ -157,7 +159,7 @@ round_says m old new outcome partners n are =
     let err = on_err_weaker outcome (ap (λ (config : CodecConfig). config.params.items)) n.err in
     record {
       outcome = outcome;
-      ran = ran_from old.params.items remote new.params.items dir outcome n.ok n.cause err;
+      ran = rounds_ran_from old.params.items remote new.params.items dir outcome n.ok n.cause err;
       said = record { partners = partners; partners_are = are; fates_are = refl };
     }
 
@@ -174,7 +176,8 @@ round_said m old new outcome partners shown first mid last remote told before af
     let sure : Negotiates (rows m) (receives (section_direction m.attrs)) old new outcome =
     subst (λ (d : Bool). Negotiates (rows m) d old new outcome) is_dir
     (subst (λ (r : List PayloadParams). Negotiates r dir old new outcome) is_remote n) in
-    let count : length before ≡ length after = ap length is_before ∙ same_count remote dir old new outcome n ∙ sym (ap length is_after) in
+    let count : length before ≡ length after = ap length is_before ∙ fate_rounds_same_count remote dir old new outcome n
+    ∙ sym (ap length is_after) in
     let own : AddsFates (filter_map (fate before flag after outcome partners) told) mid last =
     subst (λ (ps : List (Option ℕ)). AddsFates (filter_map (fate before flag after outcome ps) told) mid last) is_shown b in
     let P : List PayloadParams → Bool → List PayloadParams → List PayloadParams → Type 0 =
@@ -189,7 +192,7 @@ round_said m old new outcome partners shown first mid last remote told before af
     let fates : List Fate = filter_map (fate old.params.items (receives (section_direction m.attrs)) new.params.items outcome partners)
     (rows m) in (
       refusal_fate outcome ++ fates,
-      adds_more (refusal_fate outcome) fates first mid last a four.1,
+      adds_more_fates (refusal_fate outcome) fates first mid last a four.1,
       round_says m old new outcome partners sure four.0,
     )
 
@@ -221,9 +224,10 @@ says_read text ours sdp rest old new reading one none (fates, after, adds, say) 
 }
 
 -- a text is refused
-pub says_none : (text : List ℕ) (ours : List PayloadParams) (old : Notes) → ((v : Sdp × List ℕ) → Reading text v → ⊥) → old.findings ≡ []
+pub fate_says_none : (text : List ℕ) (ours : List PayloadParams) (old : Notes) → ((v : Sdp × List ℕ) → Reading text v → ⊥)
+    → old.findings ≡ []
     → SaysRounds text ours old.findings
-says_none text ours old never none = record {
+fate_says_none text ours old never none = record {
   refused = λ _. none;
   said = λ s r other. absurd (never (s, r) other);
 }

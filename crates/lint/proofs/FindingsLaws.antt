@@ -1,7 +1,8 @@
 -- What the findings of a text come to.
 use Rattle.lint.proofs.Common.{◌≡◌, ◌↔◌, ◌+◌, ◌-◌, ◌≤◌, ℕ, true, false, true≢false, cond, eqb, List, [], ◌∷◌, ◌++◌, length, refl, sym, ap}
 use Rattle.lint.proofs.Common.{subst, ◌∙◌, arith, eqb-true, append-nil, Sdp, sdp_text, Line, Reading, AtMostOne}
-use Rattle.lint.specs.Findings.{AreFindingsOf, AreSilent, Ends, IsNoWant, KeepsUnread, OnlyChanges, SaysElse, TellsUnread, ends, is_changed}
+use Rattle.lint.specs.Findings.{AreFindingsOf, AreSilent, EndsReading, IsNotOutOfMemory, KeepsUnread, OnlyChanges, SaysElse, TellsUnread}
+use Rattle.lint.specs.Findings.{ends, is_changed}
 use Rattle.lint.specs.Findings.{is_refused, lines_kept, kept_numbers}
 use Rattle.lint.specs.Lines.{IsNumbered, last_line, unread_lines}
 use Rattle.lint.specs.Told.{NothingLost, told_of}
@@ -10,10 +11,10 @@ use Rattle.lint.specs.declared.notes.Notes.{Notes}
 use Rattle.std.proofs.lemmas.Bool.{false≢true}
 use Rattle.str0m_sdp.specs.declared.session.error.SdpError.{SdpError}
 use Rattle.str0m_sdp.specs.declared.session.error.SdpError.TheVariants.{ParseError, Inconsistent, Memory}
-use Rattle.str0m_signal.specs.line.LinesReading.{behind_first, is_crlf, lines_of, longer}
+use Rattle.str0m_signal.specs.line.LinesReading.{line_behind_first, is_crlf, lines_of, longer_line_first}
 use Rattle.str0m_signal.specs.session.ReaderAnswers.{Refuses}
 
-some_longer : (x : ℕ) (lines : List Line) → 1 ≤ length (longer x lines)
+some_longer : (x : ℕ) (lines : List Line) → 1 ≤ length (longer_line_first x lines)
 some_longer x [] = omega arith
 some_longer x (line ∷ lines) = omega arith
 
@@ -22,11 +23,12 @@ pub some_line : (c : ℕ) (rest : List ℕ) → 1 ≤ length (lines_of (c ∷ re
 unfolding lines_of
 some_line c rest = elim (eqb c 10) as
     (λ b. 1 ≤ length (cond b (record { content = []; ending = 10 ∷ [] } ∷ lines_of rest)
-    (cond (is_crlf c rest) (record { content = []; ending = 13 ∷ 10 ∷ [] } ∷ behind_first (lines_of rest)) (longer c (lines_of rest))))) [
+    (cond (is_crlf c rest) (record { content = []; ending = 13 ∷ 10 ∷ [] } ∷ line_behind_first (lines_of rest))
+    (longer_line_first c (lines_of rest))))) [
       | true ↦ omega arith
       | false ↦ elim (is_crlf c rest) as
-          (λ b. 1 ≤ length (cond b (record { content = []; ending = 13 ∷ 10 ∷ [] } ∷ behind_first (lines_of rest))
-          (longer c (lines_of rest)))) [
+          (λ b. 1 ≤ length (cond b (record { content = []; ending = 13 ∷ 10 ∷ [] } ∷ line_behind_first (lines_of rest))
+          (longer_line_first c (lines_of rest)))) [
             | true ↦ omega arith
             | false ↦ some_longer c (lines_of rest)
           ]
@@ -43,9 +45,9 @@ some_lines (c ∷ rest) some = some_line c rest
 pub unread_numbered : (text rest : List ℕ) → eqb (length rest) 0 ≡ false → IsNumbered (last_line text) (first_unread text rest)
 unread_numbered text rest some = let lines = some_lines rest some in (omega arith, omega arith)
 
-pub empty_rest : (rest : List ℕ) → eqb (length rest) 0 ≡ true → rest ≡ []
-empty_rest [] none = refl
-empty_rest (x ∷ rest) none = let no : length (x ∷ rest) ≡ 0 = eqb-true (length (x ∷ rest)) 0 none in absurd (omega (arith, no))
+pub finding_rest_is_empty : (rest : List ℕ) → eqb (length rest) 0 ≡ true → rest ≡ []
+finding_rest_is_empty [] none = refl
+finding_rest_is_empty (x ∷ rest) none = let no : length (x ∷ rest) ≡ 0 = eqb-true (length (x ∷ rest)) 0 none in absurd (omega (arith, no))
 
 -- what is compared is the text and what is printed of it
 pub same_as_printed : (text before printed : List ℕ) (sdp : Sdp) (old new : Notes) → before ≡ text → printed ≡ sdp_text sdp
@@ -76,7 +78,7 @@ some_rest x rest e = absurd cc
 
 pub tells_rest : (text : List ℕ) (sdp : Sdp) (rest : List ℕ) (number : ℕ) (old mid late new : Notes) → eqb (length rest) 0 ≡ false
     → number ≡ first_unread text rest
-    → KeepsUnread (kept_numbers text sdp) old mid → OnlyChanges mid late → late.last ≡ mid.last → Ends number late new
+    → KeepsUnread (kept_numbers text sdp) old mid → OnlyChanges mid late → late.last ≡ mid.last → EndsReading number late new
     → TellsUnread text sdp rest old new
 tells_rest text sdp [] number old mid late new some is k c last e = absurd (true≢false some)
 tells_rest text sdp (x ∷ rest) number old mid late new some is k c last e = record {
@@ -102,15 +104,16 @@ tells_else text sdp rest old mid new t s last = record {
 }
 
 -- what is refused, and not for memory, has no reading
-pub no_reading : (error : SdpError) (text : List ℕ) → Refuses error (Reading text) → IsNoWant error → (v : Sdp × List ℕ) → Reading text v
+pub no_reading : (error : SdpError) (text : List ℕ) → Refuses error (Reading text) → IsNotOutOfMemory error → (v : Sdp × List ℕ)
+    → Reading text v
     → ⊥
 no_reading (ParseError message) text h is = h
 no_reading (Inconsistent message) text h is = absurd h
 no_reading Memory text h is = absurd is
 
-no_rest : (text rest : List ℕ) → unread_lines text rest ≡ [] → rest ≡ []
-no_rest text [] e = refl
-no_rest text (x ∷ rest) e = absurd cc
+finding_no_rest_left : (text rest : List ℕ) → unread_lines text rest ≡ [] → rest ≡ []
+finding_no_rest_left text [] e = refl
+finding_no_rest_left text (x ∷ rest) e = absurd cc
 
 -- where nothing is said to be lost, nothing is
 nothing_lost : (text : List ℕ) (sdp : Sdp) (rest : List ℕ) (old new : Notes) → Reading text (sdp, rest) → old.findings ≡ []
@@ -119,7 +122,7 @@ nothing_lost : (text : List ℕ) (sdp : Sdp) (rest : List ℕ) (old new : Notes)
 nothing_lost text sdp rest old new reading none t s =
     let ended : unread_lines text rest ≡ [] = ap (λ (fs : List Finding). ends fs ++ unread_lines text rest) (sym none) ∙ sym t.ends_are
     ∙ s.no_end in
-    let whole : rest ≡ [] = no_rest text rest ended in
+    let whole : rest ≡ [] = finding_no_rest_left text rest ended in
     (sdp, subst (λ (r : List ℕ). Reading text (sdp, r)) whole reading, (t.changed whole (ap is_changed none)).0 s.not_changed)
 
 -- where nothing is lost, nothing is said to be

@@ -45,8 +45,8 @@ pub record AreSilent (findings : List Finding) : Type 0 where
   pub not_changed : is_changed findings ≡ false
 
 -- one finding is added, at this line where the text has it
-abbrev pub AddsOne : ℕ → Code → Notes → Notes → Type 0
-AddsOne line code old new =
+abbrev pub AddsOneFinding : ℕ → Code → Notes → Notes → Type 0
+AddsOneFinding line code old new =
     (finding : Finding) × (new.findings ≡ old.findings ++ finding ∷ []) × (finding.code ≡ code) × (finding.line ≡ min (max line 1) old.last)
 
 -- such findings are added, in order: of lines that are kept unread, of these alone, and none that refuses the text, ends the reading or says
@@ -70,7 +70,7 @@ pub record SaysElse (old new : Notes) : Type 0 where
   pub changed_stays : is_changed new.findings ≡ is_changed old.findings
 
 -- one finding is added: reading ends at this line
-pub record Ends (line : ℕ) (old new : Notes) : Type 0 where
+pub record EndsReading (line : ℕ) (old new : Notes) : Type 0 where
   pub ends_are : ends new.findings ≡ ends old.findings ++ line ∷ []
   pub kept_stay : lines_kept new.findings ≡ lines_kept old.findings
   pub refused_stays : is_refused new.findings ≡ is_refused old.findings
@@ -103,10 +103,10 @@ abbrev pub ReadsAs : List ℕ → Option (Sdp × Bor (List ℕ)) → Type 0
 ReadsAs text None = (v : Sdp × List ℕ) → Reading text v → ⊥
 ReadsAs text (Some x) = Reading text (x.0, x.1.now)
 
-abbrev pub IsNoWant : SdpError → Type 0
-IsNoWant (ParseError message) = Unit {0}
-IsNoWant (Inconsistent message) = Unit {0}
-IsNoWant Memory = ⊥
+abbrev pub IsNotOutOfMemory : SdpError → Type 0
+IsNotOutOfMemory (ParseError message) = Unit {0}
+IsNotOutOfMemory (Inconsistent message) = Unit {0}
+IsNotOutOfMemory Memory = ⊥
 
 -- the findings are those of the text, whatever it is read as: whether it is refused, where reading ends, which lines are kept unread, and
 -- whether anything is lost

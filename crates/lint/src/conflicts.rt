@@ -36,7 +36,7 @@ pub(crate) fn number_at(lines: &[usize], at: usize) -> usize {
 }
 
 /// The lines after so many.
-fn behind(lines: &[usize], count: usize) -> &[usize] {
+fn lines_behind(lines: &[usize], count: usize) -> &[usize] {
     lines.get(count..).unwrap_or(&[])
 }
 
@@ -157,7 +157,7 @@ fn note_section(notes: &mut Notes, section: SectionLines<'_>) -> Result<(), Allo
 {
     let types = Types::of(section.line);
     note_head(notes, section, &types)?;
-    let numbers = behind(section.numbers, 1);
+    let numbers = lines_behind(section.numbers, 1);
     for (i, attribute) in section.line.attrs.as_slice().iter().enumerate() {
         let number = number_at(numbers, i);
         note_line_conflict(notes, number, &types, attribute)?;
@@ -179,7 +179,7 @@ fn mid_of(section: &MediaLine) -> Option<(usize, &Mid)> {
 }
 
 /// How many sections rows may be written into.
-fn count_taking(sections: &[MediaLine]) -> usize {
+fn count_sections_taking(sections: &[MediaLine]) -> usize {
     sections
         .iter()
         .filter(|section| takes_rows(section))
@@ -195,7 +195,7 @@ fn note_sections(
     ensures others { OnOk result (SaysElse notes.old notes.new) }
     ensures last { notes.new.last ≡ notes.old.last }
 {
-    let taking = count_taking(sections);
+    let taking = count_sections_taking(sections);
     let mut seen = BTreeSet::new(notes.alloc());
     let mut numbers = lines;
     for line in sections {
@@ -212,7 +212,7 @@ fn note_sections(
             others_take_rows: taking > usize::from(takes_rows(line)),
         };
         note_section(notes, section)?;
-        numbers = behind(numbers, line.attrs.len().saturating_add(1));
+        numbers = lines_behind(numbers, line.attrs.len().saturating_add(1));
     }
     Ok(())
 }
@@ -249,5 +249,5 @@ pub(crate) fn note_conflicts(
     if is_whole || !sections.is_empty() {
         note_grouping(notes, lines, sdp, &names)?;
     }
-    note_sections(notes, behind(lines, attributes.len()), sections)
+    note_sections(notes, lines_behind(lines, attributes.len()), sections)
 }

@@ -1,5 +1,5 @@
 //! What a text loses, and why it is refused, line by line.
-ghost use Rattle.lint.specs.Findings.{AreFindingsOf, AreSilent, IsNoWant, ReadsAs, TellsUnread, ends, lines_kept, is_refused};
+ghost use Rattle.lint.specs.Findings.{AreFindingsOf, AreSilent, IsNotOutOfMemory, ReadsAs, TellsUnread, ends, lines_kept, is_refused};
 ghost use Rattle.lint.specs.Kept.{kept_at, kept_flags};
 ghost use Rattle.lint.specs.Lines.{IsWithinLines, attribute_numbers, last_line, unread_lines};
 ghost use Rattle.lint.specs.Prelude.{AtMostOne, Reading, Sdp, lines_of};
@@ -50,8 +50,8 @@ fn note_described(notes: &mut Notes, text: &str, sdp: &Sdp, rest: &str) -> Resul
 }
 
 /// Of an error that isn't out of memory, nothing.
-fn unless_memory(error: SdpError) -> Result<(), AllocError>
-    ensures { OnOk result (IsNoWant error) }
+fn found_unless_memory(error: SdpError) -> Result<(), AllocError>
+    ensures { OnOk result (IsNotOutOfMemory error) }
 {
     match error {
         SdpError::Memory => Err(AllocError),
@@ -68,7 +68,7 @@ pub(crate) fn read(alloc: Global, text: &str) -> Result<Option<(Sdp, &str)>, All
     match sdp_parser(alloc, text) {
         Ok(found) => Ok(Some(found)),
         Err(error) => {
-            unless_memory(error)?;
+            found_unless_memory(error)?;
             Ok(None)
         }
     }

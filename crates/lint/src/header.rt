@@ -75,7 +75,7 @@ fn header_fault(text: &str) -> (Refusal, usize, Option<&str>) {
 }
 
 /// What stands in a place.
-fn standing(alloc: Global, line: Option<&str>) -> Result<String, AllocError> {
+fn header_line_standing(alloc: Global, line: Option<&str>) -> Result<String, AllocError> {
     let Some(line) = line else {
         return String::from_str(alloc, "the text ends before it");
     };
@@ -96,7 +96,7 @@ pub(crate) fn note_header(notes: &mut Notes, text: &str) -> Result<(), AllocErro
         return notes.add(place, Code::Refused(refusal), "");
     }
     let (refusal, before, line) = header_fault(text);
-    let detail = standing(notes.alloc(), line)?;
+    let detail = header_line_standing(notes.alloc(), line)?;
     let place = Place {
         line: before.saturating_add(1),
         column: 1,

@@ -36,7 +36,7 @@ fn locked(
 }
 
 /// With which row the row of this side goes that fits a row of the other one.
-fn passed_over(
+fn passed_over_detail(
     alloc: Global,
     ran: &Ran<'_>,
     partners: &[Option<Pt>],
@@ -82,7 +82,7 @@ fn detail<'a>(
 ) -> Result<String, AllocError> {
     match fate {
         Fate::Locked => locked(alloc, ran, partners, theirs),
-        Fate::OtherRow => passed_over(alloc, ran, partners, theirs),
+        Fate::OtherRow => passed_over_detail(alloc, ran, partners, theirs),
         Fate::TakenType => taken(alloc, ran, theirs),
         Fate::OtherFormat => match nearest(alloc, ran.before, theirs)? {
             Some(pair) => pair.detail(alloc),
@@ -113,7 +113,7 @@ fn note_fate<'a>(
 }
 
 /// Says what comes of a row, if anything.
-#[tactic(auto, using(crate::proofs::FateLaws::adds_none))]
+#[tactic(auto, using(crate::proofs::FateLaws::adds_no_fate))]
 fn note_row<'a>(
     notes: &mut Notes,
     places: &RowPlaces,
@@ -162,7 +162,7 @@ fn note_cause(notes: &mut Notes, line: usize, cause: NegotiationError) -> Result
 }
 
 /// Says that a round is refused, and why, where it is.
-#[tactic(auto, using(crate::proofs::FateLaws::adds_none))]
+#[tactic(auto, using(crate::proofs::FateLaws::adds_no_fate))]
 fn note_refusal(
     notes: &mut Notes,
     line: usize,

@@ -1,5 +1,5 @@
 //! Why a line fits nowhere.
-ghost use Rattle.lint.specs.Findings.{Ends};
+ghost use Rattle.lint.specs.Findings.{EndsReading};
 ghost use Rattle.lint.specs.Lines.{IsNumbered};
 ghost use Rattle.std.specs.Prelude.{◌≡◌, OnOk, ◌∷◌, []};
 
@@ -150,7 +150,7 @@ fn hidden(alloc: Global, part: Part<'_>, rest: &str) -> Result<String, AllocErro
 
 /// Says that reading ended at the first line of the rest, which has this number, why, and what stands after it.
 pub(crate) fn note_end(notes: &mut Notes, number: usize, rest: &str) -> Result<(), AllocError>
-    ensures ends { IsNumbered notes.old.last number → OnOk result (Ends number notes.old notes.new) }
+    ensures ends { IsNumbered notes.old.last number → OnOk result (EndsReading number notes.old notes.new) }
     ensures last { notes.new.last ≡ notes.old.last }
 {
     let line = match next_line(rest) {

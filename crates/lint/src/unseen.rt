@@ -23,7 +23,7 @@ pub(crate) fn unseen(attribute: &MediaAttribute) -> Option<Unseen> {
     }
 }
 
-fn holds_unknown(values: &[FormatParam]) -> bool {
+fn holds_unknown_feedback(values: &[FormatParam]) -> bool {
     values.iter().any(|value| matches!(value, FormatParam::Unknown | FormatParam::AmrWbUnsupported))
 }
 
@@ -32,7 +32,7 @@ pub(crate) fn change(attribute: &MediaAttribute) -> Change {
     match attribute {
         MediaAttribute::RtpMap { value, .. } if matches!(value.codec, Codec::Unknown) =>
             Change::Codec,
-        MediaAttribute::Fmtp { values, .. } => if holds_unknown(values.as_slice()) {
+        MediaAttribute::Fmtp { values, .. } => if holds_unknown_feedback(values.as_slice()) {
             Change::FormatKey
         } else {
             Change::FormatValue
@@ -48,7 +48,7 @@ pub(crate) fn change(attribute: &MediaAttribute) -> Change {
 /// Whether no line is printed of an attribute: of a format of which nothing is known.
 pub(crate) fn is_unprinted(alloc: Global, attribute: &MediaAttribute) -> Result<bool, AllocError> {
     match attribute {
-        MediaAttribute::Fmtp { values, .. } if holds_unknown(values.as_slice()) => {
+        MediaAttribute::Fmtp { values, .. } if holds_unknown_feedback(values.as_slice()) => {
             Ok(attribute.to_string(alloc)?.is_empty())
         }
         _ => Ok(false),

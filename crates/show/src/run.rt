@@ -1,7 +1,7 @@
 //! The program over any reader and any two writers.
 ghost use Rattle.show.specs.Faults.{fault_line, usage_line, IsFaultOf, IsFaultOfInput, IsFaultOfReading};
 ghost use Rattle.show.specs.RowLines.{rows_text};
-ghost use Rattle.show.specs.Run.{asked, asked_by, Prints, PrintsBy, Shows, ShowsAsked, Describes};
+ghost use Rattle.show.specs.Run.{asked, run_asked_by, Prints, PrintsBy, Shows, ShowsAsked, Describes};
 ghost use Rattle.show.specs.declared.fault.Fault.TheVariants.{NotUtf8, Unwritable};
 ghost use Rattle.std.specs.Io.KnownBytes.{Appends, IsAtEnd};
 ghost use Rattle.std.specs.Prelude.{◌≡◌, ◌↔◌, ◌⊎◌, ℕ, List, None, IfErr, IfOk, IfSome, OnOk, OnErr, map, IsUtf8, string_bytes};
@@ -64,8 +64,8 @@ enum Shown {
 }
 
 /// What a word asks for: `text`, `rows` or `negotiate`, exactly so written.
-fn asked_by(word: &str) -> Option<Shown>
-    ensures { result ≡ asked_by word.now }
+fn run_asked_by(word: &str) -> Option<Shown>
+    ensures { result ≡ run_asked_by word.now }
 {
     match word {
         "text" => Some(Shown::Text),
@@ -80,7 +80,7 @@ fn asked(words: &[String]) -> Option<Shown>
     ensures { result ≡ asked (map string_bytes words.now) }
 {
     match words {
-        [word] => asked_by(word.as_str()),
+        [word] => run_asked_by(word.as_str()),
         _ => None,
     }
 }

@@ -11,8 +11,8 @@ pub use Rattle.str0m_sdp.proofs.section.SectionAccessorsFinding.{first_by_find_m
 pub use Rattle.str0m_sdp.proofs.section.SectionAccessorsLists.{filter_map_more, filter_map_same}
 pub use Rattle.str0m_sdp.proofs.section.SectionDirectionHolders.{mid_counted}
 pub use Rattle.str0m_sdp.proofs.section.SectionRowsBoundLaws.{rows_bounded}
-pub use Rattle.str0m_sdp.proofs.section.SectionRowsParts.{count-append, or_false, uncounted}
-pub use Rattle.str0m_sdp.proofs.section.TypeTablesMarks.{any_more, any_same}
+pub use Rattle.str0m_sdp.proofs.section.SectionRowsParts.{count-append, rows_or_false, rows_uncounted}
+pub use Rattle.str0m_sdp.proofs.section.TypeTablesMarks.{mark_any_more, mark_any_same}
 pub use Rattle.str0m_sdp.proofs.session.DistinctCandidatesLaws.{distinct_push}
-pub use Rattle.str0m_sdp.proofs.session.OrderedMids.{holds_before, holds_behind}
+pub use Rattle.str0m_sdp.proofs.session.OrderedMids.{mids_holds_before, mids_holds_behind}
 pub use Rattle.str0m_sdp.proofs.session.SessionLaws.{mids_apart}

@@ -33,16 +33,16 @@ pub use Rattle.str0m_formats.specs.declared.format.format_param.FormatParam.TheV
 pub use Rattle.str0m_formats.specs.declared.format.format_param.FormatParam.TheVariants.{Unknown}
 pub use Rattle.str0m_formats.specs.declared.round.rounds.Round.{Round}
 pub use Rattle.str0m_formats.specs.format.FormatParam.{param_text, IsParsed, AreParsed}
-pub use Rattle.str0m_formats.specs.format.Pairs.{has_mark, AreRead, AreJoined, merged}
+pub use Rattle.str0m_formats.specs.format.Pairs.{has_triple_mark, AreRead, AreJoinedPairs, merged}
 pub use Rattle.str0m_formats.specs.format.PairsReading.{params_read}
-pub use Rattle.str0m_formats.specs.round.Claimed.{times}
+pub use Rattle.str0m_formats.specs.round.Claimed.{type_times}
 pub use Rattle.str0m_formats.specs.round.Narrowing.{telephone_max}
-pub use Rattle.str0m_formats.specs.row.PayloadParams.{types_of, AllSmall}
+pub use Rattle.str0m_formats.specs.row.PayloadParams.{types_of, AllTypesSmall}
 pub use Rattle.str0m_formats.specs.row.PlainRowBounds.{HoldsRowNumbers, IsBounded, IsByte}
 pub use Rattle.str0m_sdp.proofs.{values_printed, describes_read_back, pairs_line_read, values_read, format_line_printed, reads, fmtp_lines}
 pub use Rattle.str0m_sdp.proofs.{red_reads}
 pub use Rattle.str0m_sdp.specs.attribute.Bandwidth.{bandwidth_line}
-pub use Rattle.str0m_sdp.specs.attribute.Fmtp.{is_shown, shown_line}
+pub use Rattle.str0m_sdp.specs.attribute.Fmtp.{is_fmtp_shown, shown_line}
 pub use Rattle.str0m_sdp.specs.attribute.MediaType.{media_type_text}
 pub use Rattle.str0m_sdp.specs.attribute.RtpMap.{map_of_spec, channels_text, rtp_map_text}
 pub use Rattle.str0m_sdp.specs.attribute.Simulcast.{name_text, id_text, layer_text, layers_text, sides_text, unless_munged}
@@ -60,29 +60,32 @@ pub use Rattle.str0m_sdp.specs.section.Consistency.{maps}
 pub use Rattle.str0m_sdp.specs.section.MediaLine.{formats_text, m_line, media_line_text, pts_text, port_text}
 pub use Rattle.str0m_sdp.specs.section.RowAttributes.{row_attrs, feedback_line, feedback_attrs, fmtp_line, format_values, format_attrs}
 pub use Rattle.str0m_sdp.specs.section.RowAttributes.{rtx_lines, rtx_attrs, red_lines, red_attrs}
-pub use Rattle.str0m_sdp.specs.section.SectionRows.{KeepsToLine, IsInBounds, KeepsToLines}
+pub use Rattle.str0m_sdp.specs.section.SectionRows.{KeepsToLine, IsRowInBounds, KeepsToLines}
 pub use Rattle.str0m_sdp.specs.session.Session.{origin_line, session_text}
-pub use Rattle.str0m_signal.specs.Prelude.{codec_of, IsReadAs, FormatParam, PayloadParams, pair_texts, IsEventRange, AllDistinct, types}
+pub use Rattle.str0m_signal.specs.Prelude.{codec_of, IsReadAs, FormatParam, PayloadParams, pair_texts, IsEventRange, AllTypesDistinct}
+pub use Rattle.str0m_signal.specs.Prelude.{types}
 pub use Rattle.str0m_signal.specs.Prelude.{IsPlain, media_attribute_text, session_attribute_text, media_words, session_words}
 pub use Rattle.str0m_signal.specs.Prelude.{bandwidth_text, is_media, setup_text, MediaAttribute, SessionAttribute, Bandwidth, MediaType}
 pub use Rattle.str0m_signal.specs.Prelude.{Proto, RestrictionId, SimulcastLayer, MediaLine, Sdp, line_end, Consistent, is_mid, is_setup}
 pub use Rattle.str0m_signal.specs.Prelude.{is_direction, is_of_type, made, HasBoundedRows, sdp_text, Parted, IsCandidateText, before, cut}
 pub use Rattle.str0m_signal.specs.Prelude.{is_rest, lacks, num, strip, when, ◌<|>◌, ◌>>=◌, IsTheOnly, FirstFit, IsNum, IsPt, IsRest, IsWord}
-pub use Rattle.str0m_signal.specs.Prelude.{Lacks, IsWithout, code, beginning_of, IsLongestBeginning}
-pub use Rattle.str0m_values.proofs.AddressWords.{lacks_both}
+pub use Rattle.str0m_signal.specs.Prelude.{Lacks, IsWithout, code, text_beginning_of, IsLongestBeginning}
+pub use Rattle.str0m_values.proofs.AddressWords.{address_lacks_both}
 pub use Rattle.str0m_values.proofs.CandidateLaws.{candidate_both}
 pub use Rattle.str0m_values.proofs.CandidateParts.{num_both}
 pub use Rattle.str0m_values.proofs.CutLaws.{before_front, cut_at, cut_found, cut_none, cut_none_lacks, Lacks-append, lacks_from, lacks_true}
 pub use Rattle.str0m_values.proofs.CutLaws.{strip_at, strip_found, before_lacks, strip_none}
 pub use Rattle.str0m_values.proofs.CutsBothWays.{bind_some, if_some, or_some, reads_first, some_is, Sound, sound_or, reads_either, Reads}
 pub use Rattle.str0m_values.proofs.CutsBothWays.{one_value, none_reads, reads_none}
-pub use Rattle.str0m_values.proofs.CutsNumLaws.{digits_lack, num_found, num_reads, number_lacks, parsed_whole, rest_true, when_some}
-pub use Rattle.str0m_values.proofs.CutsNumLaws.{when_true}
+pub use Rattle.str0m_values.proofs.CutsNumLaws.{digits_lack, num_found, num_reads, number_lacks, parsed_whole, num_rest_true, when_some}
+pub use Rattle.str0m_values.proofs.CutsNumLaws.{num_when_true}
 pub use Rattle.str0m_values.proofs.FingerprintPairs.{glyph_value}
 pub use Rattle.str0m_values.proofs.IdentifierBeginnings.{beginning_is, beginning_only}
 pub use Rattle.str0m_values.proofs.WordsOfCases.{reads_words}
-pub use Rattle.str0m_values.specs.Address.{IsOctet, IsHexGroup, IsOneGroup, IsEnd, AreGroups, AreAnyGroups, IsIpText, octet_pairs, ip_text}
-pub use Rattle.str0m_values.specs.Candidate.{candidate_text, IsSocket, IsRelated, AreIceNames, IsSocketInRange, IsPrintable, socket_text}
+pub use Rattle.str0m_values.specs.Address.{IsOctet, IsHexGroup, IsOneGroup, IsAddressEnd, AreGroups, AreAnyGroups, IsIpText, octet_pairs}
+pub use Rattle.str0m_values.specs.Address.{ip_text}
+pub use Rattle.str0m_values.specs.Candidate.{candidate_text, IsSocket, IsRelatedAddress, AreIceNames, IsSocketInRange, IsPrintable}
+pub use Rattle.str0m_values.specs.Candidate.{socket_text}
 pub use Rattle.str0m_values.specs.Candidate.{related_text, extras_text}
 pub use Rattle.str0m_values.specs.Cuts.{front}
 pub use Rattle.str0m_values.specs.Fingerprint.{hex_pair, pairs_text, fingerprint_text}

@@ -58,8 +58,8 @@ ip_both = record { sound = ip_sound; complete = ip_complete }
 
 -- ---- what std's parse gives
 
-own_from : (text : List ℕ) (a : NetIpAddr) → net.IsIpText text a → IsIpText text (own_address a)
-own_from text a h = grind (arith, v4_from, ipv4_octets, v6_from, ipv6_segments)
+own_address_from : (text : List ℕ) (a : NetIpAddr) → net.IsIpText text a → IsIpText text (own_address a)
+own_address_from text a h = grind (arith, v4_from, ipv4_octets, v6_from, ipv6_segments)
 
 abbrev net_of : IpAddr → NetIpAddr
 net_of (V4 octets) = NetIp.V4 (record { octets = octets })
@@ -69,7 +69,7 @@ net_to : (text : List ℕ) (a : IpAddr) → IsIpText text a → net.IsIpText tex
 net_to text a h = grind (arith, v4_to, v6_to)
 
 pub ip_parsed_ok : (text : List ℕ) (a : NetIpAddr) → net.IsIpText text a → Some (own_address a) ≡ ip_read text
-ip_parsed_ok text a h = sym (ip_complete text (own_address a) (own_from text a h))
+ip_parsed_ok text a h = sym (ip_complete text (own_address a) (own_address_from text a h))
 
 pub ip_parsed_err : (text : List ℕ) → ((a : NetIpAddr) → net.IsIpText text a → ⊥) → None ≡ ip_read text
 ip_parsed_err text none = sym (reads_none ip_both text (λ a is. none (net_of a) (net_to text a is)))

@@ -3,7 +3,7 @@ use Rattle.std.specs.Net.Grammar as net
 use Rattle.str0m_values.proofs.Common.{◌≡◌, ◌⊎◌, ℕ, ◌+◌, ◌-◌, ◌*◌, Bool, true, false, List, [], ◌∷◌, ◌++◌, length, replicate, refl, sym, ap}
 use Rattle.str0m_values.proofs.Common.{◌∙◌, subst, arith, inl, inr, append-nil, append_assoc, length-append, codes, length-replicate}
 use Rattle.str0m_values.proofs.Common.{IsTrue, segments_of}
-use Rattle.str0m_values.specs.Address.{Parted, IsOctet, IsV4Text, IsHexGroup, IsOneGroup, octet_pairs, IsV4Tail, IsEnd, AreGroups}
+use Rattle.str0m_values.specs.Address.{Parted, IsOctet, IsV4Text, IsHexGroup, IsOneGroup, octet_pairs, IsV4Tail, IsAddressEnd, AreGroups}
 use Rattle.str0m_values.specs.Address.{AreAnyGroups, IsShortened, IsV6Text}
 
 -- ---- V4
@@ -44,8 +44,8 @@ record GroupEnds (v4 : Bool) (Last : List ℕ → List ℕ → Type 0) : Type 0 
 one_group_ends : GroupEnds false IsOneGroup
 one_group_ends = grind arith
 
-all_ends : GroupEnds true IsEnd
-all_ends = grind arith
+address_all_group_ends : GroupEnds true IsAddressEnd
+address_all_group_ends = grind arith
 
 module _ {v4 : Bool} {Last : List ℕ → List ℕ → Type 0} (ends : GroupEnds v4 Last) where
   groups_from : (lead text : List ℕ) (n : ℕ) (groups : List ℕ) → net.IsGroupsAfter v4 lead text (n ∷ groups)
@@ -54,26 +54,27 @@ module _ {v4 : Bool} {Last : List ℕ → List ℕ → Type 0} (ends : GroupEnds
   groups_from lead text n [] (inl h) = grind (arith, append-nil, group_from)
   groups_from lead text n (m ∷ groups) (inl h) = grind (arith, groups_from (codes ":") h.1 m groups h.4, append_assoc, group_from)
 
-  one_to : (lead text : List ℕ) (groups : List ℕ) → IsOneGroup text groups → net.IsGroupsAfter v4 lead (lead ++ text) groups
-  one_to lead text groups h = grind (arith, append-nil, group_to)
+  address_one_group_to : (lead text : List ℕ) (groups : List ℕ) → IsOneGroup text groups → net.IsGroupsAfter v4 lead (lead ++ text) groups
+  address_one_group_to lead text groups h = grind (arith, append-nil, group_to)
 
-  tail_to : (lead text : List ℕ) (n : ℕ) (groups : List ℕ) → IsTrue v4 → IsV4Tail text (n ∷ groups)
+  address_v4_tail_to : (lead text : List ℕ) (n : ℕ) (groups : List ℕ) → IsTrue v4 → IsV4Tail text (n ∷ groups)
       → net.IsGroupsAfter v4 lead (lead ++ text) (n ∷ groups)
-  tail_to lead text n groups allowed h = inr (text, h.0, allowed, refl, v4_to text h.0 h.1, h.2 ∙ sym (pairs_from h.0))
+  address_v4_tail_to lead text n groups allowed h = inr (text, h.0, allowed, refl, v4_to text h.0 h.1, h.2 ∙ sym (pairs_from h.0))
 
   groups_to : (lead text : List ℕ) (groups : List ℕ) → AreGroups Last text groups → net.IsGroupsAfter v4 lead (lead ++ text) groups
   groups_to lead text [] h = absurd h
   groups_to lead text (n ∷ groups) (inl h) =
-      elim (ends.only text (n ∷ groups) h) [ inl k ↦ one_to lead text (n ∷ groups) k | inr k ↦ tail_to lead text n groups k.0 k.1 ]
+      elim (ends.only text (n ∷ groups) h)
+      [ inl k ↦ address_one_group_to lead text (n ∷ groups) k | inr k ↦ address_v4_tail_to lead text n groups k.0 k.1 ]
   groups_to lead text (n ∷ groups) (inr h) = grind (arith, groups_to (codes ":") h.1 groups h.4, append_assoc, group_to)
 
-  any_from : (text groups : List ℕ) → net.IsGroups v4 text groups → AreAnyGroups Last text groups
-  any_from text [] h = inl (h, refl)
-  any_from text (n ∷ groups) h = grind (arith, groups_from [] text n groups h)
+  address_any_groups_from : (text groups : List ℕ) → net.IsGroups v4 text groups → AreAnyGroups Last text groups
+  address_any_groups_from text [] h = inl (h, refl)
+  address_any_groups_from text (n ∷ groups) h = grind (arith, groups_from [] text n groups h)
 
-  any_to : (text groups : List ℕ) → AreAnyGroups Last text groups → net.IsGroups v4 text groups
-  any_to text groups (inl h) = subst (net.IsGroups v4 text) (sym h.1) h.0
-  any_to text groups (inr h) = groups_to [] text groups h
+  address_any_groups_to : (text groups : List ℕ) → AreAnyGroups Last text groups → net.IsGroups v4 text groups
+  address_any_groups_to text groups (inl h) = subst (net.IsGroups v4 text) (sym h.1) h.0
+  address_any_groups_to text groups (inr h) = groups_to [] text groups h
 
 -- ---- V6
 
@@ -88,8 +89,8 @@ short_from text groups h =
         back = h.tail;
         zeros = zeros;
         joined = h.spelled ∙ append_assoc h.head_text (codes "::") h.tail_text;
-        front_is = any_from one_group_ends h.head_text h.head h.head_groups;
-        back_is = any_from all_ends h.tail_text h.tail h.tail_groups;
+        front_is = address_any_groups_from one_group_ends h.head_text h.head h.head_groups;
+        back_is = address_any_groups_from address_all_group_ends h.tail_text h.tail h.tail_groups;
         some = omega (arith, h.room);
         groups_are = whole;
       },
@@ -107,8 +108,8 @@ short_to text groups h eight =
       head = h.front;
       tail = h.back;
       spelled = h.joined ∙ sym (append_assoc h.front_text (codes "::") h.back_text);
-      head_groups = any_to one_group_ends h.front_text h.front h.front_is;
-      tail_groups = any_to all_ends h.back_text h.back h.back_is;
+      head_groups = address_any_groups_to one_group_ends h.front_text h.front h.front_is;
+      tail_groups = address_any_groups_to address_all_group_ends h.back_text h.back h.back_is;
       room = omega (arith, h.some);
       value = h.groups_are ∙ ap (λ (k : ℕ). h.front ++ (replicate k 0 ++ h.back)) zeros
           ∙ sym (append_assoc h.front (replicate (8 - length h.front - length h.back) 0) h.back);
@@ -116,10 +117,10 @@ short_to text groups h eight =
 
 pub v6_from : (text groups : List ℕ) → net.IsColonHex text groups → IsV6Text text groups
 v6_from text [] (inl h) = absurd (omega (arith, h.1))
-v6_from text (n ∷ groups) (inl h) = let all = groups_from all_ends [] text n groups h.0 in
-    (inl (subst (λ (t : List ℕ). AreGroups IsEnd t (n ∷ groups)) (sym all.1) all.2), h.1)
+v6_from text (n ∷ groups) (inl h) = let all = groups_from address_all_group_ends [] text n groups h.0 in
+    (inl (subst (λ (t : List ℕ). AreGroups IsAddressEnd t (n ∷ groups)) (sym all.1) all.2), h.1)
 v6_from text groups (inr h) = let all = short_from text groups h in (inr all.0, all.1)
 
 pub v6_to : (text groups : List ℕ) → IsV6Text text groups → net.IsColonHex text groups
 v6_to text groups h = elim h.0
-    [ inl all ↦ inl (groups_to all_ends [] text groups all, h.1) | inr short ↦ inr (short_to text groups short h.1) ]
+    [ inl all ↦ inl (groups_to address_all_group_ends [] text groups all, h.1) | inr short ↦ inr (short_to text groups short h.1) ]

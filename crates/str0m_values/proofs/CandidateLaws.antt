@@ -1,20 +1,21 @@
 -- A text is read as a candidate exactly where it stands for it.
-use Rattle.str0m_values.proofs.CandidateParts.{num_both, socket_front, related_front, tcp_front, EndsNames, names_front}
+use Rattle.str0m_values.proofs.CandidateParts.{num_both, socket_front, candidate_related_front, tcp_front, EndsNames, names_front}
 use Rattle.str0m_values.proofs.CandidateWords.{protocol_both, kind_both}
 use Rattle.str0m_values.proofs.Common.{rules, ◌≡◌, ℕ, cond, List, [], ◌∷◌, ◌++◌, Option, Some, None, refl, ap, ◌∙◌, inl, inr, append_assoc}
 use Rattle.str0m_values.proofs.Common.{append-nil, subst, arith, codes}
 use Rattle.str0m_values.proofs.CutsBothWays.{Reads, some_is}
-use Rattle.str0m_values.proofs.CutsNumLaws.{rest_true}
-use Rattle.str0m_values.proofs.LabelLaws.{bound, bind_is, IsWordEnd, EndsWithout, Starts, starts_all, starts_optional, Front}
+use Rattle.str0m_values.proofs.CutsNumLaws.{num_rest_true}
+use Rattle.str0m_values.proofs.LabelLaws.{label_option_bound, bind_is, IsWordEnd, EndsWithoutLabel, Starts, starts_all, starts_optional}
+use Rattle.str0m_values.proofs.LabelLaws.{LabelFront}
 use Rattle.str0m_values.proofs.LabelLaws.{labelled_front, part_front, optional_front}
-use Rattle.str0m_values.specs.Candidate.{IsSocket, IsRelated, AreIceNames, IsCandidateText}
+use Rattle.str0m_values.specs.Candidate.{IsSocket, IsRelatedAddress, AreIceNames, IsCandidateText}
 use Rattle.str0m_values.specs.CandidateKind.{IsKindText}
 use Rattle.str0m_values.specs.CandidateReading.{Lead, Extras, protocol_read, candidate_kind_read, socket_read, related_read, tcp_part_read}
 use Rattle.str0m_values.specs.CandidateReading.{ice_names_read, lead_read, last_read, extras_read, candidate_of, candidate_read}
 use Rattle.str0m_values.specs.Cuts.{num, is_rest}
 use Rattle.str0m_values.specs.CutsParts.{IsNum}
 use Rattle.str0m_values.specs.LabelReading.{labelled_read, part_read, optional_read}
-use Rattle.str0m_values.specs.Labels.{IsSame, IsLabelled, IsOptional, IsLeftOut}
+use Rattle.str0m_values.specs.Labels.{IsSameLabel, IsLabelled, IsOptional, IsOptionalUnkept}
 use Rattle.str0m_values.specs.Protocol.{IsProtocolText, IsTcpTypeText}
 use Rattle.str0m_values.specs.declared.address.SocketAddr.{SocketAddr}
 use Rattle.str0m_values.specs.declared.candidate.Candidate.{Candidate}
@@ -40,9 +41,9 @@ starts_names part rest x (inl h) s =
     grind (
       arith,
       append_assoc h.0 h.1 rest,
-      starts_optional IsSame candidate_label.UFRAG.now from_cost h.1 rest x h.4 s,
-      starts_optional IsSame candidate_label.NETWORK_ID.now (candidate_label.UFRAG.now ∷ from_cost) h.0 (h.1 ++ rest) h.3.0 h.3.1
-          (starts_optional IsSame candidate_label.UFRAG.now from_cost h.1 rest x h.4 s),
+      starts_optional IsSameLabel candidate_label.UFRAG.now from_cost h.1 rest x h.4 s,
+      starts_optional IsSameLabel candidate_label.NETWORK_ID.now (candidate_label.UFRAG.now ∷ from_cost) h.0 (h.1 ++ rest) h.3.0 h.3.1
+          (starts_optional IsSameLabel candidate_label.UFRAG.now from_cost h.1 rest x h.4 s),
     )
 starts_names part rest x (inr h) s = grind arith
 
@@ -61,17 +62,17 @@ record IsLead (text : List ℕ) (x : Lead) (rest : List ℕ) : Type 0 where
   protocol : List ℕ
   priority : List ℕ
   joined : text ≡ foundation ++ (component ++ (protocol ++ (priority ++ rest)))
-  foundation_is : IsLabelled candidate_label.CANDIDATE.now IsSame foundation x.foundation
+  foundation_is : IsLabelled candidate_label.CANDIDATE.now IsSameLabel foundation x.foundation
   component_is : IsLabelled (codes " ") (IsNum 65535) component x.component_id
   protocol_is : IsLabelled (codes " ") IsProtocolText protocol x.proto
   priority_is : IsLabelled (codes " ") (IsNum 4294967295) priority x.prio
 
 lead_sound : (text : List ℕ) (x : Lead × List ℕ) → lead_read text ≡ Some x → IsLead text x.0 x.1
 lead_sound text x e =
-    bound (labelled_read candidate_label.CANDIDATE.now text) _ _ e λ foundation e₁ k₁.
-    bound (part_read (codes " ") (num 65535) foundation.1) _ _ k₁ λ component e₂ k₂.
-    bound (part_read (codes " ") protocol_read component.1) _ _ k₂ λ protocol e₃ k₃.
-    bound (part_read (codes " ") (num 4294967295) protocol.1) _ _ k₃ λ priority e₄ same.
+    label_option_bound (labelled_read candidate_label.CANDIDATE.now text) _ _ e λ foundation e₁ k₁.
+    label_option_bound (part_read (codes " ") (num 65535) foundation.1) _ _ k₁ λ component e₂ k₂.
+    label_option_bound (part_read (codes " ") protocol_read component.1) _ _ k₂ λ protocol e₃ k₃.
+    label_option_bound (part_read (codes " ") (num 4294967295) protocol.1) _ _ k₃ λ priority e₄ same.
     let p₁ = (labelled_front candidate_label.CANDIDATE.now).sound text foundation e₁ in
     let p₂ = (part_front (codes " ") (num_both 65535)).sound foundation.1 component e₂ in
     let p₃ = (part_front (codes " ") protocol_both).sound component.1 protocol e₃ in
@@ -106,30 +107,31 @@ lead_complete text x rest h ends =
 -- ---- the last parts
 
 -- nothing is left
-nothing_left : {A : Type 0} (rest : List ℕ) (made x : A) → cond (is_rest rest) None (Some made) ≡ Some x → (rest ≡ []) × (made ≡ x)
-nothing_left [] made x e = (refl, some_is made x e)
-nothing_left (y ∷ rest) made x e = let none = rw (rest_true (y ∷ rest) (omega arith)) at e in absurd cc
+candidate_no_extras_left : {A : Type 0} (rest : List ℕ) (made x : A) → cond (is_rest rest) None (Some made) ≡ Some x
+    → (rest ≡ []) × (made ≡ x)
+candidate_no_extras_left [] made x e = (refl, some_is made x e)
+candidate_no_extras_left (y ∷ rest) made x e = let none = rw (num_rest_true (y ∷ rest) (omega arith)) at e in absurd cc
 
-record IsLast (text : List ℕ) (x : Option (List ℕ)) : Type 0 where
+record IsLastUfrag (text : List ℕ) (x : Option (List ℕ)) : Type 0 where
   generation : List ℕ
   names : List ℕ
   cost : List ℕ
   joined : text ≡ generation ++ (names ++ cost)
-  generation_is : IsLeftOut candidate_label.GENERATION.now generation
+  generation_is : IsOptionalUnkept candidate_label.GENERATION.now generation
   names_are : AreIceNames names x
-  cost_is : IsLeftOut candidate_label.NETWORK_COST.now cost
+  cost_is : IsOptionalUnkept candidate_label.NETWORK_COST.now cost
 
-last_sound : (text : List ℕ) (x : Option (List ℕ)) → last_read text ≡ Some x → IsLast text x
+last_sound : (text : List ℕ) (x : Option (List ℕ)) → last_read text ≡ Some x → IsLastUfrag text x
 last_sound text x e =
-    bound (optional_read candidate_label.GENERATION.now text) _ _ e λ generation e₁ k₁.
-    bound (ice_names_read generation.1) _ _ k₁ λ names e₂ k₂.
-    bound (optional_read candidate_label.NETWORK_COST.now names.1) _ _ k₂ λ cost e₃ last.
-    let done = nothing_left cost.1 names.0 x last in
+    label_option_bound (optional_read candidate_label.GENERATION.now text) _ _ e λ generation e₁ k₁.
+    label_option_bound (ice_names_read generation.1) _ _ k₁ λ names e₂ k₂.
+    label_option_bound (optional_read candidate_label.NETWORK_COST.now names.1) _ _ k₂ λ cost e₃ last.
+    let done = candidate_no_extras_left cost.1 names.0 x last in
     let p₁ = (optional_front candidate_label.GENERATION.now).sound text generation e₁ in
     let p₂ = names_front.sound generation.1 names e₂ in
     let p₃ = (optional_front candidate_label.NETWORK_COST.now).sound names.1 cost e₃ in
     let end : names.1 ≡ p₃.0 = p₃.1 ∙ ap (λ (t : List ℕ). p₃.0 ++ t) done.0 ∙ append-nil p₃.0 in
-    subst (IsLast text) done.1 (record {
+    subst (IsLastUfrag text) done.1 (record {
       generation = p₁.0;
       names = p₂.0;
       cost = p₃.0;
@@ -139,29 +141,30 @@ last_sound text x e =
       cost_is = (cost.0, p₃.2);
     })
 
-cost_starts : (cost : List ℕ) → IsLeftOut candidate_label.NETWORK_COST.now cost → Starts from_cost cost
+cost_starts : (cost : List ℕ) → IsOptionalUnkept candidate_label.NETWORK_COST.now cost → Starts from_cost cost
 cost_starts cost h = grind arith
 
-cost_complete : (cost : List ℕ) (h : IsLeftOut candidate_label.NETWORK_COST.now cost)
+cost_complete : (cost : List ℕ) (h : IsOptionalUnkept candidate_label.NETWORK_COST.now cost)
     → optional_read candidate_label.NETWORK_COST.now cost ≡ Some (h.0, [])
 cost_complete cost h = grind (arith, append-nil cost, optional_front candidate_label.NETWORK_COST.now)
 
-names_start : (text : List ℕ) (x : Option (List ℕ)) (h : IsLast text x) → Starts from_names (h.names ++ h.cost)
+names_start : (text : List ℕ) (x : Option (List ℕ)) (h : IsLastUfrag text x) → Starts from_names (h.names ++ h.cost)
 names_start text x h = starts_names h.names h.cost x h.names_are (cost_starts h.cost h.cost_is)
 
-last_starts : (text : List ℕ) (x : Option (List ℕ)) → IsLast text x → Starts from_generation text
+last_starts : (text : List ℕ) (x : Option (List ℕ)) → IsLastUfrag text x → Starts from_generation text
 last_starts text x h =
     search (
       rules,
-      starts_optional IsSame candidate_label.GENERATION.now from_names h.generation (h.names ++ h.cost) h.generation_is.0
+      starts_optional IsSameLabel candidate_label.GENERATION.now from_names h.generation (h.names ++ h.cost) h.generation_is.0
           h.generation_is.1,
       names_start text x h,
     )
 
-last_complete : (text : List ℕ) (x : Option (List ℕ)) → IsLast text x → last_read text ≡ Some x
-last_complete text x h =
+candidate_last_ufrag_complete : (text : List ℕ) (x : Option (List ℕ)) → IsLastUfrag text x → last_read text ≡ Some x
+candidate_last_ufrag_complete text x h =
     let r₂ : List ℕ = h.names ++ h.cost in
-    let b₁ : EndsWithout candidate_label.GENERATION.now r₂ = starts_all (EndsWithout candidate_label.GENERATION.now) from_names (refl, refl)
+    let b₁ : EndsWithoutLabel candidate_label.GENERATION.now r₂ =
+    starts_all (EndsWithoutLabel candidate_label.GENERATION.now) from_names (refl, refl)
     (λ m. (refl, refl), (λ m. (refl, refl), (λ m. (refl, refl), tt))) r₂ (names_start text x h) in
     let b₂ : EndsNames h.cost = starts_all EndsNames from_cost (refl, refl, refl) (λ m. (refl, refl, refl), tt) h.cost
     (cost_starts h.cost h.cost_is) in
@@ -176,16 +179,16 @@ record IsExtras (text : List ℕ) (x : Extras) : Type 0 where
   tcp_type : List ℕ
   last : List ℕ
   joined : text ≡ related ++ (tcp_type ++ last)
-  related_is : IsRelated related x.raddr
+  related_is : IsRelatedAddress related x.raddr
   tcp_type_is : IsOptional candidate_label.TCP_TYPE.now IsTcpTypeText tcp_type x.tcptype
-  last_is : IsLast last x.ufrag
+  last_is : IsLastUfrag last x.ufrag
 
 extras_sound : (text : List ℕ) (x : Extras) → extras_read text ≡ Some x → IsExtras text x
 extras_sound text x e =
-    bound (related_read text) _ _ e λ related e₁ k₁.
-    bound (tcp_part_read related.1) _ _ k₁ λ tcp_type e₂ k₂.
-    bound (last_read tcp_type.1) _ _ k₂ λ ufrag e₃ same.
-    let p₁ = related_front.sound text related e₁ in
+    label_option_bound (related_read text) _ _ e λ related e₁ k₁.
+    label_option_bound (tcp_part_read related.1) _ _ k₁ λ tcp_type e₂ k₂.
+    label_option_bound (last_read tcp_type.1) _ _ k₂ λ ufrag e₃ same.
+    let p₁ = candidate_related_front.sound text related e₁ in
     let p₂ = tcp_front.sound related.1 tcp_type e₂ in
     let made : Extras = record { raddr = related.0; tcptype = tcp_type.0; ufrag = ufrag } in
     subst (IsExtras text) (some_is made x same) (record {
@@ -213,28 +216,28 @@ extras_complete : (text : List ℕ) (x : Extras) → IsExtras text x → extras_
 extras_complete text x h =
     grind (
       arith,
-      starts_all (EndsWithout candidate_label.TCP_TYPE.now) from_generation,
-      starts_all (EndsWithout candidate_label.RELATED_ADDRESS.now) from_tcp_type,
+      starts_all (EndsWithoutLabel candidate_label.TCP_TYPE.now) from_generation,
+      starts_all (EndsWithoutLabel candidate_label.RELATED_ADDRESS.now) from_tcp_type,
       tcp_type_starts text x h,
       last_starts h.last x.ufrag h.last_is,
       bind_is,
-      related_front,
+      candidate_related_front,
       tcp_front,
-      last_complete h.last x.ufrag h.last_is,
+      candidate_last_ufrag_complete h.last x.ufrag h.last_is,
     )
 
 -- ---- the whole text
 
-spaced_socket : Front (IsSocket (codes " ") (codes " ")) IsWordEnd (socket_read (codes " ") (codes " "))
+spaced_socket : LabelFront (IsSocket (codes " ") (codes " ")) IsWordEnd (socket_read (codes " ") (codes " "))
 spaced_socket = socket_front (codes " ") (codes " ") (λ more. refl)
 
 -- what is read stands for the candidate
 candidate_sound : (text : List ℕ) (c : Candidate) → candidate_read text ≡ Some c → IsCandidateText text c
 candidate_sound text c e =
-    bound (lead_read text) _ _ e λ lead e₁ k₁.
-    bound (socket_read (codes " ") (codes " ") lead.1) _ _ k₁ λ address e₂ k₂.
-    bound (part_read candidate_label.TYPE.now candidate_kind_read address.1) _ _ k₂ λ kind e₃ k₃.
-    bound (extras_read kind.1) _ _ k₃ λ extras e₄ same.
+    label_option_bound (lead_read text) _ _ e λ lead e₁ k₁.
+    label_option_bound (socket_read (codes " ") (codes " ") lead.1) _ _ k₁ λ address e₂ k₂.
+    label_option_bound (part_read candidate_label.TYPE.now candidate_kind_read address.1) _ _ k₂ λ kind e₃ k₃.
+    label_option_bound (extras_read kind.1) _ _ k₃ λ extras e₄ same.
     let l = lead_sound text lead e₁ in
     let a = spaced_socket.sound lead.1 address e₂ in
     let k = (part_front candidate_label.TYPE.now kind_both).sound address.1 kind e₃ in
@@ -285,7 +288,7 @@ candidate_complete text c h =
       protocol_is = h.protocol_is;
       priority_is = h.priority_is;
     } in
-    let last-is : IsLast (h.generation ++ (h.names ++ h.cost)) c.ufrag = record {
+    let last-is : IsLastUfrag (h.generation ++ (h.names ++ h.cost)) c.ufrag = record {
       generation = h.generation;
       names = h.names;
       cost = h.cost;

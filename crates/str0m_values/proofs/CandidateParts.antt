@@ -5,14 +5,15 @@ use Rattle.str0m_values.proofs.Common.{rules, arith, ◌≡◌, ℕ, true, cond,
 use Rattle.str0m_values.proofs.Common.{append_assoc, is_some, is_none, ◌||◌, if◌then◌else◌}
 use Rattle.str0m_values.proofs.CutsBothWays.{Reads, some_is}
 use Rattle.str0m_values.proofs.CutsNumLaws.{num_found, num_reads}
-use Rattle.str0m_values.proofs.LabelLaws.{bound, bind_is, IsWordEnd, EndsWithout, Front, part_front, optional_front, value_sound}
+use Rattle.str0m_values.proofs.LabelLaws.{label_option_bound, bind_is, IsWordEnd, EndsWithoutLabel, LabelFront, part_front, optional_front}
+use Rattle.str0m_values.proofs.LabelLaws.{value_sound}
 use Rattle.str0m_values.specs.AddressReading.{ip_read}
-use Rattle.str0m_values.specs.Candidate.{IsSocket, IsRelated, AreIceNames}
+use Rattle.str0m_values.specs.Candidate.{IsSocket, IsRelatedAddress, AreIceNames}
 use Rattle.str0m_values.specs.CandidateReading.{tcp_type_read, socket_read, related_read, tcp_part_read, ice_names_read}
 use Rattle.str0m_values.specs.Cuts.{◌>>=◌, strip, num}
 use Rattle.str0m_values.specs.CutsParts.{IsNum}
 use Rattle.str0m_values.specs.LabelReading.{part_read, optional_read, word_value_read}
-use Rattle.str0m_values.specs.Labels.{IsSame, IsOptional}
+use Rattle.str0m_values.specs.Labels.{IsSameLabel, IsOptional}
 use Rattle.str0m_values.specs.Protocol.{IsTcpTypeText}
 use Rattle.str0m_values.specs.declared.address.SocketAddr.{SocketAddr}
 use Rattle.str0m_values.specs.declared.candidate_label.TheConstants as candidate_label
@@ -26,8 +27,8 @@ num_both limit = record { sound = num_found limit; complete = num_reads limit }
 socket_sound : (ip_label port_label text : List ℕ) (x : SocketAddr × List ℕ) → socket_read ip_label port_label text ≡ Some x
     → (part : List ℕ) × (text ≡ part ++ x.1) × IsSocket ip_label port_label part x.0
 socket_sound ip_label port_label text x e =
-    bound (part_read ip_label ip_read text) _ _ e λ ip e₁ k.
-    bound (part_read port_label (num 65535) ip.1) _ _ k λ port e₂ same.
+    label_option_bound (part_read ip_label ip_read text) _ _ e λ ip e₁ k.
+    label_option_bound (part_read port_label (num 65535) ip.1) _ _ k λ port e₂ same.
     let one = (part_front ip_label ip_both).sound text ip e₁ in
     let two = (part_front port_label (num_both 65535)).sound ip.1 port e₂ in
     let whole = one.1 ∙ ap (λ (t : List ℕ). one.0 ++ t) two.1 ∙ sym (append_assoc one.0 two.0 port.1) in
@@ -45,36 +46,36 @@ socket_complete ip_label port_label spaced part x rest h ends =
     (bind_is _ _ _ _ ((part_front port_label (num_both 65535)).complete h.1 x.port rest h.4 ends) refl)
 
 pub socket_front : (ip_label port_label : List ℕ) → ((more : List ℕ) → IsWordEnd (port_label ++ more))
-    → Front (IsSocket ip_label port_label) IsWordEnd (socket_read ip_label port_label)
+    → LabelFront (IsSocket ip_label port_label) IsWordEnd (socket_read ip_label port_label)
 socket_front ip_label port_label spaced = search (rules, socket_sound, socket_complete)
 
-related_socket : Front (IsSocket candidate_label.RELATED_ADDRESS.now candidate_label.RELATED_PORT.now) IsWordEnd
+related_socket : LabelFront (IsSocket candidate_label.RELATED_ADDRESS.now candidate_label.RELATED_PORT.now) IsWordEnd
     (socket_read candidate_label.RELATED_ADDRESS.now candidate_label.RELATED_PORT.now)
 related_socket = socket_front candidate_label.RELATED_ADDRESS.now candidate_label.RELATED_PORT.now (λ more. refl)
 
 related_sound : (text : List ℕ) (x : Option SocketAddr × List ℕ) (o : Option (List ℕ)) → strip candidate_label.RELATED_ADDRESS.now text ≡ o
     → cond (is_some o) (socket_read candidate_label.RELATED_ADDRESS.now candidate_label.RELATED_PORT.now text
     >>= λ addr. Some (Some addr.0, addr.1)) (Some (None, text)) ≡ Some x
-    → (part : List ℕ) × (text ≡ part ++ x.1) × IsRelated part x.0
-related_sound text x o is e = search (rules, some_is, bound, related_socket)
+    → (part : List ℕ) × (text ≡ part ++ x.1) × IsRelatedAddress part x.0
+related_sound text x o is e = search (rules, some_is, label_option_bound, related_socket)
 
-related_complete : (part : List ℕ) (x : Option SocketAddr) (rest : List ℕ) → IsRelated part x
-    → EndsWithout candidate_label.RELATED_ADDRESS.now rest → related_read (part ++ rest) ≡ Some (x, rest)
-related_complete part None rest h ends = rw (h, ends.1) refl
-related_complete part (Some addr) rest h ends =
+candidate_related_complete : (part : List ℕ) (x : Option SocketAddr) (rest : List ℕ) → IsRelatedAddress part x
+    → EndsWithoutLabel candidate_label.RELATED_ADDRESS.now rest → related_read (part ++ rest) ≡ Some (x, rest)
+candidate_related_complete part None rest h ends = rw (h, ends.1) refl
+candidate_related_complete part (Some addr) rest h ends =
     let there : is_some (strip candidate_label.RELATED_ADDRESS.now (part ++ rest)) ≡ true = rw (h.2, h.3.1) refl in
     rw there (bind_is _ _ _ _ (related_socket.complete part addr rest h ends.0) refl)
 
-pub related_front : Front IsRelated (EndsWithout candidate_label.RELATED_ADDRESS.now) related_read
-related_front = search (rules, related_sound, related_complete)
+pub candidate_related_front : LabelFront IsRelatedAddress (EndsWithoutLabel candidate_label.RELATED_ADDRESS.now) related_read
+candidate_related_front = search (rules, related_sound, candidate_related_complete)
 
 -- ---- the TCP type
 
 tcp_sound : (text : List ℕ) (x : Option TcpType × List ℕ) → tcp_part_read text ≡ Some x
     → (part : List ℕ) × (text ≡ part ++ x.1) × IsOptional candidate_label.TCP_TYPE.now IsTcpTypeText part x.0
 tcp_sound text x e =
-    bound (optional_read candidate_label.TCP_TYPE.now text) _ _ e λ word e₁ k.
-    bound (word_value_read tcp_type_read word.0) _ _ k λ tcp_type e₂ same.
+    label_option_bound (optional_read candidate_label.TCP_TYPE.now text) _ _ e λ word e₁ k.
+    label_option_bound (word_value_read tcp_type_read word.0) _ _ k λ tcp_type e₂ same.
     let found = (optional_front candidate_label.TCP_TYPE.now).sound text word e₁ in
     rw (← some_is (tcp_type, word.1) x same) (
       found.0,
@@ -83,13 +84,14 @@ tcp_sound text x e =
     )
 
 tcp_complete : (part : List ℕ) (x : Option TcpType) (rest : List ℕ) → IsOptional candidate_label.TCP_TYPE.now IsTcpTypeText part x
-    → EndsWithout candidate_label.TCP_TYPE.now rest → tcp_part_read (part ++ rest) ≡ Some (x, rest)
+    → EndsWithoutLabel candidate_label.TCP_TYPE.now rest → tcp_part_read (part ++ rest) ≡ Some (x, rest)
 tcp_complete part None rest h ends = bind_is _ _ _ _ ((optional_front candidate_label.TCP_TYPE.now).complete part None rest h ends) refl
 tcp_complete part (Some t) rest h ends =
     bind_is _ _ _ _ ((optional_front candidate_label.TCP_TYPE.now).complete part (Some h.0) rest (h.0, h.1, h.2, refl) ends)
     (bind_is _ _ _ _ (bind_is _ _ _ _ (tcp_type_both.complete h.0 t h.3) refl) refl)
 
-pub tcp_front : Front (IsOptional candidate_label.TCP_TYPE.now IsTcpTypeText) (EndsWithout candidate_label.TCP_TYPE.now) tcp_part_read
+pub tcp_front : LabelFront (IsOptional candidate_label.TCP_TYPE.now IsTcpTypeText) (EndsWithoutLabel candidate_label.TCP_TYPE.now)
+    tcp_part_read
 tcp_front = record { sound = tcp_sound; complete = tcp_complete }
 
 -- ---- a network's id and a name fragment
@@ -111,17 +113,18 @@ behind_read first named =
     else (optional_read network named.1 >>= λ last. Some (named.0, last.1))
 
 ice_names_found : (text : List ℕ) (x : Option (List ℕ) × List ℕ) (first : Option (List ℕ)) (named : Option (List ℕ) × List ℕ) (p q : List ℕ)
-    → text ≡ p ++ (q ++ named.1) → IsOptional network IsSame p first → IsOptional ufrag IsSame q named.0 → behind_read first named ≡ Some x
+    → text ≡ p ++ (q ++ named.1) → IsOptional network IsSameLabel p first → IsOptional ufrag IsSameLabel q named.0
+    → behind_read first named ≡ Some x
     → (part : List ℕ) × (text ≡ part ++ x.1) × AreIceNames part x.0
 ice_names_found text x (Some word) named p q joined p-is q-is e =
     rw (← some_is named x e) (p ++ q, joined ∙ sym (append_assoc p q named.1), inl (p, q, refl, (Some word, p-is), q-is))
 ice_names_found text x None (None, rest) p q joined p-is q-is e = grind arith
 ice_names_found text x None (Some fragment, rest) p q joined p-is q-is e =
-    bound (optional_read network rest) _ _ e λ last e₁ same.
+    label_option_bound (optional_read network rest) _ _ e λ last e₁ same.
     let found = (optional_front network).sound rest last e₁ in
     rw (← some_is (Some fragment, last.1) x same) (last_found last.0 last.1 found.0 found.1 found.2)
   where
-    last_found : (word : Option (List ℕ)) (more r : List ℕ) → rest ≡ r ++ more → IsOptional network IsSame r word
+    last_found : (word : Option (List ℕ)) (more r : List ℕ) → rest ≡ r ++ more → IsOptional network IsSameLabel r word
         → (part : List ℕ) × (text ≡ part ++ more) × AreIceNames part (Some fragment)
     last_found None more r rest-is r-is =
         let whole : text ≡ (p ++ q) ++ more = joined ∙ ap (λ (t : List ℕ). p ++ (q ++ t)) (rest-is ∙ ap (λ (t : List ℕ). t ++ more) r-is)
@@ -135,19 +138,19 @@ ice_names_found text x None (Some fragment, rest) p q joined p-is q-is e =
 names_sound : (text : List ℕ) (x : Option (List ℕ) × List ℕ) → ice_names_read text ≡ Some x
     → (part : List ℕ) × (text ≡ part ++ x.1) × AreIceNames part x.0
 names_sound text x e =
-    bound (optional_read network text) _ _ e λ first e₁ k.
-    bound (optional_read ufrag first.1) _ _ k λ named e₂ last.
+    label_option_bound (optional_read network text) _ _ e λ first e₁ k.
+    label_option_bound (optional_read ufrag first.1) _ _ k λ named e₂ last.
     let one = (optional_front network).sound text first e₁ in
     let two = (optional_front ufrag).sound first.1 named e₂ in
     ice_names_found text x first.0 named one.0 two.0 (one.1 ∙ ap (λ (t : List ℕ). one.0 ++ t) two.1) one.2 two.2 last
 
 -- a name fragment or what follows it doesn't begin as a network's id
-name_ends : (part : List ℕ) (x : Option (List ℕ)) (rest : List ℕ) → IsOptional ufrag IsSame part x → EndsNames rest
-    → EndsWithout network (part ++ rest)
+name_ends : (part : List ℕ) (x : Option (List ℕ)) (rest : List ℕ) → IsOptional ufrag IsSameLabel part x → EndsNames rest
+    → EndsWithoutLabel network (part ++ rest)
 name_ends part x rest h ends = grind arith
 
-behind_none : (first x : Option (List ℕ)) (rest : List ℕ) → EndsNames rest → behind_read first (x, rest) ≡ Some (x, rest)
-behind_none first x rest ends = grind arith
+candidate_no_ice_names_behind : (first x : Option (List ℕ)) (rest : List ℕ) → EndsNames rest → behind_read first (x, rest) ≡ Some (x, rest)
+candidate_no_ice_names_behind first x rest ends = grind arith
 
 names_complete : (part : List ℕ) (x : Option (List ℕ)) (rest : List ℕ) → AreIceNames part x → EndsNames rest
     → ice_names_read (part ++ rest) ≡ Some (x, rest)
@@ -159,17 +162,17 @@ names_complete part x rest (inl h) ends =
       optional_front ufrag,
       optional_front network,
       name_ends h.1 x rest h.4 ends,
-      behind_none h.3.0 x rest ends,
+      candidate_no_ice_names_behind h.3.0 x rest ends,
     )
 names_complete part x rest (inr h) ends =
     let whole : part ++ rest ≡ h.0 ++ (h.1 ++ rest) = ap (λ (t : List ℕ). t ++ rest) h.4 ∙ append_assoc h.0 h.1 rest in
-    let first : EndsWithout network (h.0 ++ (h.1 ++ rest)) = rw h.5.1 (refl, refl) in
-    let second : EndsWithout ufrag (h.1 ++ rest) = rw h.6.1 (refl, refl) in
+    let first : EndsWithoutLabel network (h.0 ++ (h.1 ++ rest)) = rw h.5.1 (refl, refl) in
+    let second : EndsWithoutLabel ufrag (h.1 ++ rest) = rw h.6.1 (refl, refl) in
     ap ice_names_read whole
     ∙ bind_is _ _ _ _ ((optional_front network).complete [] None (h.0 ++ (h.1 ++ rest)) refl first)
     (bind_is _ _ _ _ ((optional_front ufrag).complete h.0 (Some h.3) (h.1 ++ rest) h.5 second)
     (bind_is _ _ _ _ ((optional_front network).complete h.1 (Some h.2) rest h.6 (ends.0, ends.1))
     (ap (λ (u : Option (List ℕ)). Some (u, rest)) (sym h.7))))
 
-pub names_front : Front AreIceNames EndsNames ice_names_read
+pub names_front : LabelFront AreIceNames EndsNames ice_names_read
 names_front = record { sound = names_sound; complete = names_complete }

@@ -5,11 +5,12 @@ use Rattle.str0m_values.proofs.Common.{◌≡◌, ◌≢◌, ℕ, ◌<◌, ◌�
 use Rattle.str0m_values.proofs.Common.{subst, append-nil, append_assoc, lit<, codes, decimal, IfSome, digit_value, IsNumeral}
 use Rattle.str0m_values.proofs.Common.{decimal_is_IsNumeral, without_leading_plus_none}
 use Rattle.str0m_values.specs.Address.{ip_text}
-use Rattle.str0m_values.specs.Candidate.{IsSocket, IsRelated, IsCandidateText, socket_text, related_text, candidate_text, IsSocketInRange}
+use Rattle.str0m_values.specs.Candidate.{IsSocket, IsRelatedAddress, IsCandidateText, socket_text, related_text, candidate_text}
+use Rattle.str0m_values.specs.Candidate.{IsSocketInRange}
 use Rattle.str0m_values.specs.Candidate.{IsPrintable}
 use Rattle.str0m_values.specs.CandidateKind.{kind_text}
 use Rattle.str0m_values.specs.CutsParts.{IsWord, IsNum}
-use Rattle.str0m_values.specs.Labels.{IsSame, IsLabelled, IsOptional, optional_text}
+use Rattle.str0m_values.specs.Labels.{IsSameLabel, IsLabelled, IsOptional, optional_text}
 use Rattle.str0m_values.specs.Protocol.{IsProtocolText, IsTcpTypeText, protocol_text, tcp_type_text}
 use Rattle.str0m_values.specs.declared.address.SocketAddr.{SocketAddr}
 use Rattle.str0m_values.specs.declared.candidate.Candidate.{Candidate}
@@ -52,7 +53,7 @@ socket_part ip_label port_label a h =
       number_part port_label 65535 a.port (omega (arith, h.1)) (lit< tt),
     )
 
-related_part : (o : Option SocketAddr) → IfSome o IsSocketInRange → IsRelated (related_text o) o
+related_part : (o : Option SocketAddr) → IfSome o IsSocketInRange → IsRelatedAddress (related_text o) o
 related_part None h = refl
 related_part (Some a) h = socket_part candidate_label.RELATED_ADDRESS.now candidate_label.RELATED_PORT.now a h
 
@@ -62,7 +63,7 @@ tcp_type_part None = refl
 tcp_type_part (Some t) = (tcp_type_text t, refl, (tcp_type_word t).0, (tcp_type_word t).1)
 
 ufrag_part : (o : Option (List ℕ)) → IfSome o IsWord
-    → IsOptional candidate_label.UFRAG.now IsSame (optional_text candidate_label.UFRAG.now (λ t. t) o) o
+    → IsOptional candidate_label.UFRAG.now IsSameLabel (optional_text candidate_label.UFRAG.now (λ t. t) o) o
 ufrag_part o h = grind arith
 
 pub printed_candidate : (c : Candidate) → IsPrintable c → IsCandidateText (candidate_text c) c

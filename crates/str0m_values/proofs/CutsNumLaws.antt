@@ -20,14 +20,14 @@ numeral_from ds e =
 pub when_some : {A : Type 0} (test : Bool) (x y : A) → when test x ≡ Some y → (test ≡ true) × (x ≡ y)
 when_some test x y e = grind arith
 
-pub when_true : {A : Type 0} (test : Bool) (x : A) → test ≡ true → when test x ≡ Some x
-when_true test x e = rw e refl
+pub num_when_true : {A : Type 0} (test : Bool) (x : A) → test ≡ true → when test x ≡ Some x
+num_when_true test x e = rw e refl
 
 pub num_found : (limit : ℕ) (text : List ℕ) (n : ℕ) → num limit text ≡ Some n → IsNum limit text n
 num_found limit text n e = grind (arith, when_some, and_parts, leb-true, numeral_from)
 
 pub num_reads : (limit : ℕ) (text : List ℕ) (n : ℕ) → IsNum limit text n → num limit text ≡ Some n
-num_reads limit text n h = grind (arith, and_from, numeral_true, le-leb, when_true)
+num_reads limit text n h = grind (arith, and_from, numeral_true, le-leb, num_when_true)
 
 pub num_none : (limit : ℕ) (text : List ℕ) → ((n : ℕ) → IsNum limit text n → ⊥) → num limit text ≡ None
 num_none limit text none = grind (arith, num_found)
@@ -61,5 +61,5 @@ digits_lack c (x ∷ xs) far h = grind (arith, digits_lack c xs far h.1)
 pub number_lacks : (c : ℕ) (text : List ℕ) → 10 ≤ digit_value c → c ≢ 43 → IsNumeral 10 (without_leading_plus text) → Lacks c text
 number_lacks c text far other h = grind (arith, cases_eq, eq-eqb, digits_lack, ne_eqb)
 
-pub rest_true : (text : List ℕ) → IsRest text → is_rest text ≡ true
-rest_true text h = lt-ltb 0 (length text) h
+pub num_rest_true : (text : List ℕ) → IsRest text → is_rest text ≡ true
+num_rest_true text h = lt-ltb 0 (length text) h

@@ -34,9 +34,9 @@ bytes_one (piece ∷ pieces) (x ∷ xs) [] h k = absurd k
 bytes_one (piece ∷ pieces) (x ∷ xs) (y ∷ ys) h k = grind (arith, bytes_one pieces xs ys h.1 k.1)
 
 -- where each piece is a byte, none is bad
-none_bad : (pieces : List (List ℕ)) (bytes : List ℕ) → AllZip IsHexByte pieces bytes
+fingerprint_no_bad_hash_piece : (pieces : List (List ℕ)) (bytes : List ℕ) → AllZip IsHexByte pieces bytes
     → Any (λ piece. (byte : ℕ) → ¬ (IsHexByte piece byte)) pieces → ⊥
-none_bad pieces bytes h any =
+fingerprint_no_bad_hash_piece pieces bytes h any =
     let at = AllZip-at IsHexByte pieces bytes any.0 any.1 h any.2 in
     any.4 at.0 (rw any.3 at at.1)
 
@@ -47,14 +47,18 @@ same_fingerprint text f g h k =
     grind (arith, named_one text f.hash_func g.hash_func h.0 k.0 h.1 k.1, bytes_one (pieces_of h.0) f.bytes g.bytes h.2)
 
 fingerprint_good : (text : List ℕ) (f : Fingerprint) → IsFingerprint text f → ¬ (HasBadByte text)
-fingerprint_good text f h bad = grind (arith, named_one text f.hash_func bad.0 h.0 bad.1 h.1 bad.2, none_bad (pieces_of h.0) f.bytes h.2)
+fingerprint_good text f h bad = grind (
+  arith,
+  named_one text f.hash_func bad.0 h.0 bad.1 h.1 bad.2,
+  fingerprint_no_bad_hash_piece (pieces_of h.0) f.bytes h.2,
+)
 
-pub only_one : (text : List ℕ) (r : Result Fingerprint FingerprintError) → IsFingerprintReading text r → (f : Fingerprint)
+pub one_fingerprint : (text : List ℕ) (r : Result Fingerprint FingerprintError) → IsFingerprintReading text r → (f : Fingerprint)
     → IsFingerprint text f → Gives f r
-only_one text (Ok g) h f is = same_fingerprint text g f h is
-only_one text (Err NoSpace) h f is = absurd (named_space text f.hash_func is.0 is.1 h)
-only_one text (Err BadByte) h f is = absurd (fingerprint_good text f is h)
-only_one text (Err Memory) h f is = refl
+one_fingerprint text (Ok g) h f is = same_fingerprint text g f h is
+one_fingerprint text (Err NoSpace) h f is = absurd (named_space text f.hash_func is.0 is.1 h)
+one_fingerprint text (Err BadByte) h f is = absurd (fingerprint_good text f is h)
+one_fingerprint text (Err Memory) h f is = refl
 
 pub no_space : (text : List ℕ) (r : Result Fingerprint FingerprintError) → IsFingerprintReading text r
     → (IsErrOf r NoSpace → Lacks 32 text) × (Lacks 32 text → IsErrOf r NoSpace)
@@ -74,7 +78,8 @@ print_reads_back f (first ∷ more) e can =
 
 pub itself : (text : List ℕ) (r : Result Fingerprint FingerprintError) → IsFingerprintReading text r → (f : Fingerprint) → CanBeReadBack f
     → text ≡ fingerprint_text f → Gives f r
-itself text r h f can e = only_one text r h f (subst (λ (t : List ℕ). IsFingerprint t f) (sym e) (print_reads_back f f.bytes refl can))
+itself text r h f can e = one_fingerprint text r h f
+    (subst (λ (t : List ℕ). IsFingerprint t f) (sym e) (print_reads_back f f.bytes refl can))
 
 -- ---- what a refusal inside says of the whole
 

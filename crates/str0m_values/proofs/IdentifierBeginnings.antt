@@ -4,7 +4,7 @@ use Rattle.str0m_values.proofs.Common.{◌≡◌, ◌⊎◌, ℕ, zero, suc, ◌
 use Rattle.str0m_values.proofs.Common.{ap, ◌∙◌, inl, inr, arith, take-append-drop, length-take-le, IsCharBoundary, ltb-true, leb-true}
 use Rattle.str0m_values.proofs.Common.{cases_Bool, cases_lt, take-append_seam, ◌+◌, ◌∷◌, length-append, is_char_start, leb-false}
 use Rattle.str0m_values.proofs.Common.{append-nil}
-use Rattle.str0m_values.specs.ShortText.{IsLongestBeginning, beginning_of}
+use Rattle.str0m_values.specs.ShortText.{IsLongestBeginning, text_beginning_of}
 
 -- where a character ends at i or before it, the last such place
 record IsLastSeam (text : List ℕ) (i at : ℕ) : Type 0 where
@@ -24,8 +24,8 @@ floor_is text zero within = record { bound = omega arith; seam = inl refl; last 
 floor_is text (suc i) within = grind (arith, cases_Bool, starts, floor_is text i, cases_lt, no_start_inside)
 
 -- the function gives a longest beginning
-pub beginning_is : (room : ℕ) (text : List ℕ) → IsLongestBeginning room text (beginning_of room text)
-unfolding beginning_of
+pub beginning_is : (room : ℕ) (text : List ℕ) → IsLongestBeginning room text (text_beginning_of room text)
+unfolding text_beginning_of
 beginning_is room text =
     elim (cases_Bool (leb (length text) room)) [
       | inl whole ↦
@@ -49,15 +49,16 @@ beginning_is room text =
           })
     ]
 
-no_longer : (room : ℕ) (text a b : List ℕ) → IsLongestBeginning room text a → IsLongestBeginning room text b → length a < length b → ⊥
-no_longer room text a b h k below = grind arith
+beginning_no_longer : (room : ℕ) (text a b : List ℕ) → IsLongestBeginning room text a → IsLongestBeginning room text b → length a < length b
+    → ⊥
+beginning_no_longer room text a b h k below = grind arith
 
 one_beginning : (room : ℕ) (text a b : List ℕ) → IsLongestBeginning room text a → IsLongestBeginning room text b → a ≡ b
 one_beginning room text a b h k =
     let same : length a ≡ length b = elim (cases_lt (length a) (length b)) [
-      | inl below ↦ absurd (no_longer room text a b h k below)
+      | inl below ↦ absurd (beginning_no_longer room text a b h k below)
       | inr rest ↦ elim (cases_lt (length b) (length a)) [
-        | inl above ↦ absurd (no_longer room text b a k h above)
+        | inl above ↦ absurd (beginning_no_longer room text b a k h above)
         | inr more ↦ omega arith
       ]
     ] in
@@ -67,8 +68,8 @@ one_beginning room text a b h k =
     ∙ take-append_seam b k.begins.0
 
 -- two longest beginnings are one
-pub beginning_only : (room : ℕ) (text kept : List ℕ) → IsLongestBeginning room text kept → kept ≡ beginning_of room text
-beginning_only room text kept h = one_beginning room text kept (beginning_of room text) h (beginning_is room text)
+pub beginning_only : (room : ℕ) (text kept : List ℕ) → IsLongestBeginning room text kept → kept ≡ text_beginning_of room text
+beginning_only room text kept h = one_beginning room text kept (text_beginning_of room text) h (beginning_is room text)
 
 -- ---- a text that has room is its own longest beginning
 

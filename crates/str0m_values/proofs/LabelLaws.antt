@@ -3,16 +3,17 @@ use Rattle.str0m_values.proofs.Common.{◌≡◌, ◌⊎◌, ℕ, List, [], ◌�
 use Rattle.str0m_values.proofs.Common.{inr, arith, append-nil, append_assoc, AllByRecursion, ltb-true, ◌==◌}
 use Rattle.str0m_values.proofs.CutLaws.{before_front, before_lacks, strip_at, strip_before, strip_found}
 use Rattle.str0m_values.proofs.CutsBothWays.{Reads, some_is}
-use Rattle.str0m_values.proofs.CutsNumLaws.{when_some, rest_true}
+use Rattle.str0m_values.proofs.CutsNumLaws.{when_some, num_rest_true}
 use Rattle.str0m_values.specs.Cuts.{◌>>=◌, before, strip}
 use Rattle.str0m_values.specs.CutsParts.{IsWord}
 use Rattle.str0m_values.specs.LabelReading.{front_word_read, labelled_read, part_read, optional_after, optional_read, word_value_read}
-use Rattle.str0m_values.specs.Labels.{IsSame, IsLabelled, IsOptional}
+use Rattle.str0m_values.specs.Labels.{IsSameLabel, IsLabelled, IsOptional}
 
 -- ---- steps
 
-pub bound : {A B C : Type 0} (o : Option A) (f : A → Option B) (y : B) → (o >>= f) ≡ Some y → ((x : A) → o ≡ Some x → f x ≡ Some y → C) → C
-bound o f y e then = grind arith
+pub label_option_bound : {A B C : Type 0} (o : Option A) (f : A → Option B) (y : B) → (o >>= f) ≡ Some y
+    → ((x : A) → o ≡ Some x → f x ≡ Some y → C) → C
+label_option_bound o f y e then = grind arith
 
 pub bind_is : {A B : Type 0} (o : Option A) (x : A) (f : A → Option B) (y : Option B) → o ≡ Some x → f x ≡ y → (o >>= f) ≡ y
 bind_is o x f y e more = ap (λ p. p >>= f) e ∙ more
@@ -39,31 +40,31 @@ abbrev pub IsWordEnd : List ℕ → Type 0
 IsWordEnd rest = before 32 rest ≡ []
 
 -- and no part with this label follows
-abbrev pub EndsWithout : List ℕ → List ℕ → Type 0
-EndsWithout label rest = IsWordEnd rest × (strip label rest ≡ None)
+abbrev pub EndsWithoutLabel : List ℕ → List ℕ → Type 0
+EndsWithoutLabel label rest = IsWordEnd rest × (strip label rest ≡ None)
 
 -- ---- parts
 
 -- p reads a part with its value by F from the front of a text, where After holds of what follows
-pub record Front {B : Type 0} (F : List ℕ → B → Type 0) (Behind : List ℕ → Type 0) (p : List ℕ → Option (B × List ℕ)) : Type 0 where
+pub record LabelFront {B : Type 0} (F : List ℕ → B → Type 0) (Behind : List ℕ → Type 0) (p : List ℕ → Option (B × List ℕ)) : Type 0 where
   pub sound : (text : List ℕ) (x : B × List ℕ) → p text ≡ Some x → (part : List ℕ) × (text ≡ part ++ x.1) × F part x.0
   pub complete : (part : List ℕ) (x : B) (rest : List ℕ) → F part x → Behind rest → p (part ++ rest) ≡ Some (x, rest)
 
 front_word_sound : (text : List ℕ) (x : List ℕ × List ℕ) → front_word_read text ≡ Some x → (text ≡ x.0 ++ x.1) × IsWord x.0
-front_word_sound text x e = grind (arith, bound, when_some, ltb-true, before_lacks, some_is, strip_found)
+front_word_sound text x e = grind (arith, label_option_bound, when_some, ltb-true, before_lacks, some_is, strip_found)
 
 word_complete : (word rest : List ℕ) → IsWord word → IsWordEnd rest → front_word_read (word ++ rest) ≡ Some (word, rest)
-word_complete word rest h ends = grind (arith, before_front, append-nil, rest_true, strip_at)
+word_complete word rest h ends = grind (arith, before_front, append-nil, num_rest_true, strip_at)
 
 -- the word that isn't empty, and what stands after it
 pub word_before : (text : List ℕ) → false ≡ (length (before 32 text) == 0)
     → Some (before 32 text, drop (length (before 32 text)) text) ≡ front_word_read text
-word_before text some = grind (arith, rest_true, strip_before)
+word_before text some = grind (arith, num_rest_true, strip_before)
 
 pub labelled_sound : (label text : List ℕ) (x : List ℕ × List ℕ) → labelled_read label text ≡ Some x
     → (text ≡ (label ++ x.0) ++ x.1) × IsWord x.0
 labelled_sound label text x e =
-    bound (strip label text) _ _ e λ body e₁ k.
+    label_option_bound (strip label text) _ _ e λ body e₁ k.
     let word = front_word_sound body x k in
     (strip_found label text body e₁ ∙ ap (λ (t : List ℕ). label ++ t) word.0 ∙ sym (append_assoc label x.0 x.1), word.1)
 
@@ -71,7 +72,7 @@ pub labelled_complete : (label word rest : List ℕ) → IsWord word → IsWordE
     → labelled_read label ((label ++ word) ++ rest) ≡ Some (word, rest)
 labelled_complete label word rest h ends = rw (append_assoc label word rest, strip_at label (word ++ rest)) (word_complete word rest h ends)
 
-pub labelled_front : (label : List ℕ) → Front (IsLabelled label IsSame) IsWordEnd (labelled_read label)
+pub labelled_front : (label : List ℕ) → LabelFront (IsLabelled label IsSameLabel) IsWordEnd (labelled_read label)
 labelled_front label = record {
   sound = λ text x e. let found = labelled_sound label text x e in (label ++ x.0, found.0, (x.0, refl, found.1, refl));
   complete = λ part x rest h ends. ap (λ (t : List ℕ). labelled_read label (t ++ rest)) h.1 ∙ labelled_complete label h.0 rest h.2 ends
@@ -79,11 +80,11 @@ labelled_front label = record {
 }
 
 pub part_front : {B : Type 0} {F : List ℕ → B → Type 0} {f : List ℕ → Option B} (label : List ℕ) → Reads F f
-    → Front (IsLabelled label F) IsWordEnd (part_read label f)
+    → LabelFront (IsLabelled label F) IsWordEnd (part_read label f)
 part_front {f} label reads = record {
   sound = λ text x e.
-      bound (labelled_read label text) _ _ e λ word e₁ k.
-      bound (f word.0) _ _ k λ y e₂ same.
+      label_option_bound (labelled_read label text) _ _ e λ word e₁ k.
+      label_option_bound (f word.0) _ _ k λ y e₂ same.
       let found = labelled_sound label text word e₁ in
       rw (← some_is (y, word.1) x same) (label ++ word.0, found.0, (word.0, refl, found.1, reads.sound word.0 y e₂));
   complete = λ part x rest h ends.
@@ -92,24 +93,26 @@ part_front {f} label reads = record {
 }
 
 optional_sound : (label text : List ℕ) (x : Option (List ℕ) × List ℕ) (o : Option (List ℕ)) → strip label text ≡ o
-    → optional_after text o ≡ Some x → (part : List ℕ) × (text ≡ part ++ x.1) × IsOptional label IsSame part x.0
+    → optional_after text o ≡ Some x → (part : List ℕ) × (text ≡ part ++ x.1) × IsOptional label IsSameLabel part x.0
 optional_sound label text x None is e = rw (← some_is (None, text) x e) ([], refl, refl)
 optional_sound label text x (Some body) is e =
-    bound (front_word_read body) _ _ e λ word e₁ same.
+    label_option_bound (front_word_read body) _ _ e λ word e₁ same.
     let found = front_word_sound body word e₁ in
     let text-is = strip_found label text body is ∙ ap (λ (t : List ℕ). label ++ t) found.0 ∙ sym (append_assoc label word.0 word.1) in
     rw (← some_is (Some word.0, word.1) x same) (label ++ word.0, text-is, (word.0, refl, found.1, refl))
 
-optional_complete : (label part : List ℕ) (x : Option (List ℕ)) (rest : List ℕ) → IsOptional label IsSame part x → EndsWithout label rest
+optional_complete : (label part : List ℕ) (x : Option (List ℕ)) (rest : List ℕ) → IsOptional label IsSameLabel part x
+    → EndsWithoutLabel label rest
     → optional_read label (part ++ rest) ≡ Some (x, rest)
 optional_complete label part x rest h ends = grind (arith, append_assoc, strip_at, bind_is, word_complete)
 
-pub optional_front : (label : List ℕ) → Front (IsOptional label IsSame) (EndsWithout label) (optional_read label)
+pub optional_front : (label : List ℕ) → LabelFront (IsOptional label IsSameLabel) (EndsWithoutLabel label) (optional_read label)
 optional_front label = grind (arith, optional_sound, optional_complete)
 
 -- a word and its value
 pub value_sound : {B : Type 0} {F : List ℕ → B → Type 0} {f : List ℕ → Option B} → Reads F f
-    → (label part : List ℕ) (word : Option (List ℕ)) (x : Option B) → IsOptional label IsSame part word → word_value_read f word ≡ Some x
+    → (label part : List ℕ) (word : Option (List ℕ)) (x : Option B) → IsOptional label IsSameLabel part word
+    → word_value_read f word ≡ Some x
     → IsOptional label F part x
 value_sound reads label part None x h e = rw (← some_is None x e) h
 value_sound {f} reads label part (Some word) x h e = grind arith

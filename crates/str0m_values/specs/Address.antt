@@ -51,8 +51,8 @@ abbrev pub IsV4Tail : List ℕ → List ℕ → Type 0
 IsV4Tail text groups = (octets : List ℕ) × IsV4Text text octets × (groups ≡ octet_pairs octets)
 
 -- what ends an address
-abbrev pub IsEnd : List ℕ → List ℕ → Type 0
-IsEnd text groups = IsOneGroup text groups ⊎ IsV4Tail text groups
+abbrev pub IsAddressEnd : List ℕ → List ℕ → Type 0
+IsAddressEnd text groups = IsOneGroup text groups ⊎ IsV4Tail text groups
 
 -- groups parted by colons, the last of them as Last says
 abbrev pub AreGroups : (List ℕ → List ℕ → Type 0) → List ℕ → List ℕ → Type 0
@@ -74,12 +74,12 @@ pub record IsShortened (text groups : List ℕ) : Type 0 where
   pub zeros : ℕ
   pub joined : text ≡ front_text ++ (codes "::" ++ back_text)
   pub front_is : AreAnyGroups IsOneGroup front_text front
-  pub back_is : AreAnyGroups IsEnd back_text back
+  pub back_is : AreAnyGroups IsAddressEnd back_text back
   pub some : 0 < zeros
   pub groups_are : groups ≡ front ++ (replicate zeros 0 ++ back)
 
 abbrev pub IsV6Text : List ℕ → List ℕ → Type 0
-IsV6Text text groups = (AreGroups IsEnd text groups ⊎ IsShortened text groups) × (length groups ≡ 8)
+IsV6Text text groups = (AreGroups IsAddressEnd text groups ⊎ IsShortened text groups) × (length groups ≡ 8)
 
 -- the text stands for the address
 abbrev pub IsIpText : List ℕ → IpAddr → Type 0
@@ -106,9 +106,9 @@ longest_run [] = 0
 longest_run (n ∷ groups) = max (zeros_at_front (n ∷ groups)) (longest_run groups)
 
 -- the first place from which so many zero groups stand
-abbrev pub first_run : ℕ → List ℕ → ℕ
-first_run len [] = 0
-first_run len (n ∷ groups) = if zeros_at_front (n ∷ groups) == len then 0 else first_run len groups + 1
+abbrev pub first_group_run : ℕ → List ℕ → ℕ
+first_group_run len [] = 0
+first_group_run len (n ∷ groups) = if zeros_at_front (n ∷ groups) == len then 0 else first_group_run len groups + 1
 
 -- `::` in place of len groups from start on
 abbrev pub shortened : ℕ → ℕ → List ℕ → List ℕ
@@ -118,7 +118,7 @@ shortened start len groups = groups_text (take start groups) ++ (codes "::" ++ g
 unfoldable pub v6_text : List ℕ → List ℕ
 v6_text groups =
     let len = longest_run groups in
-    if nat_lt 1 len then shortened (first_run len groups) len groups else groups_text groups
+    if nat_lt 1 len then shortened (first_group_run len groups) len groups else groups_text groups
 
 -- what is printed of an address
 abbrev pub ip_text : IpAddr → List ℕ

@@ -40,8 +40,8 @@ abbrev pub IsHexByte : List ℕ → ℕ → Type 0
 IsHexByte piece byte = IsNumber 16 255 piece byte
 
 -- the two characters are hex digits that write the byte
-abbrev pub IsWrittenBy : ℕ → ℕ → ℕ → Type 0
-IsWrittenBy high low byte = (digit_value high < 16) × (digit_value low < 16) × (byte ≡ digit_value high * 16 + digit_value low)
+abbrev pub IsFingerprintWrittenBy : ℕ → ℕ → ℕ → Type 0
+IsFingerprintWrittenBy high low byte = (digit_value high < 16) × (digit_value low < 16) × (byte ≡ digit_value high * 16 + digit_value low)
 
 -- the text is read as this fingerprint
 abbrev pub IsFingerprint : List ℕ → Fingerprint → Type 0

@@ -101,10 +101,10 @@ named (Some id) = profile_level_of id
 -- ---- the lower of two levels (RFC 6184, section 8.2.2)
 
 -- of two profile-level-ids with what they name: the other one where both name a level and its level is lower, else the own one
-abbrev pub lower_of : Option ℕ → Option ℕ → Option H264ProfileLevel → Option H264ProfileLevel → Option ℕ
-lower_of own other (Some ours) (Some theirs) =
+abbrev pub lower_level_of : Option ℕ → Option ℕ → Option H264ProfileLevel → Option H264ProfileLevel → Option ℕ
+lower_level_of own other (Some ours) (Some theirs) =
     if nat_lt (level_ordinal theirs.level) (level_ordinal ours.level) then other else own
-lower_of own other _ _ = own
+lower_level_of own other _ _ = own
 
 abbrev pub lower_level : Option ℕ → Option ℕ → Option ℕ
-lower_level own other = lower_of own other (named own) (named other)
+lower_level own other = lower_level_of own other (named own) (named other)

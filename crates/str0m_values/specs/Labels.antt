@@ -3,8 +3,8 @@ use Rattle.std.specs.Prelude.{◌≡◌, ℕ, List, [], ◌++◌, Option, Some, 
 use Rattle.str0m_values.specs.CutsParts.{IsWord}
 
 -- a text stands for itself
-abbrev pub IsSame : List ℕ → List ℕ → Type 0
-IsSame text x = x ≡ text
+abbrev pub IsSameLabel : List ℕ → List ℕ → Type 0
+IsSameLabel text x = x ≡ text
 
 -- a label, and after it a word with its value by F
 abbrev pub IsLabelled : {B : Type 0} → List ℕ → (List ℕ → B → Type 0) → List ℕ → B → Type 0
@@ -16,8 +16,8 @@ IsOptional label F part None = part ≡ []
 IsOptional label F part (Some x) = IsLabelled label F part x
 
 -- the same with any word, which isn't kept
-abbrev pub IsLeftOut : List ℕ → List ℕ → Type 0
-IsLeftOut label part = (word : Option (List ℕ)) × IsOptional label IsSame part word
+abbrev pub IsOptionalUnkept : List ℕ → List ℕ → Type 0
+IsOptionalUnkept label part = (word : Option (List ℕ)) × IsOptional label IsSameLabel part word
 
 -- a label and a value's text, or nothing
 abbrev pub optional_text : {B : Type 0} → List ℕ → (B → List ℕ) → Option B → List ℕ

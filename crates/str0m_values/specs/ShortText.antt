@@ -11,8 +11,8 @@ pub record IsLongestBeginning (room : ℕ) (text kept : List ℕ) : Type 0 where
   pub longest : (n : ℕ) → length kept < n → n ≤ room → ¬ (IsCharBoundary text n)
 
 -- that beginning as a function, which readings of lines compute with
-unfoldable pub beginning_of : ℕ → List ℕ → List ℕ
-beginning_of room text = if nat_le (length text) room then text else take (floor_char_boundary text room) text
+unfoldable pub text_beginning_of : ℕ → List ℕ → List ℕ
+text_beginning_of room text = if nat_le (length text) room then text else take (floor_char_boundary text room) text
 
 -- the sixteen bytes that hold a short text: its own, and zeros after them
 abbrev pub cells_of : List ℕ → List ℕ

@@ -3,7 +3,7 @@ ghost use Rattle.std.specs.Fmt.{digit_glyph};
 ghost use Rattle.std.specs.List.{AllZip};
 ghost use Rattle.std.specs.Prelude.{◌≡◌, ◌<◌, ◌∷◌, ◌↔◌, IfOk, IfSome, IsErr, IsErrOf, IsTrue, Some, true, flat_map};
 ghost use Rattle.str0m_values.specs.CutsParts.{Lacks};
-ghost use Rattle.str0m_values.specs.Fingerprint.{IsFingerprint, IsHexByte, IsWrittenBy, HasBadByte, IsBytesReading, IsFingerprintReading, Gives, CanBeReadBack, fingerprint_text, hex_pair, pairs_text, pieces_of, preference_of};
+ghost use Rattle.str0m_values.specs.Fingerprint.{IsFingerprint, IsHexByte, IsFingerprintWrittenBy, HasBadByte, IsBytesReading, IsFingerprintReading, Gives, CanBeReadBack, fingerprint_text, hex_pair, pairs_text, pieces_of, preference_of};
 ghost use Rattle.str0m_values.specs.declared.fingerprint.Fingerprint.{Fingerprint};
 ghost use Rattle.str0m_values.specs.declared.fingerprint.FingerprintError.TheVariants.{NoSpace, BadByte, Memory};
 
@@ -125,7 +125,7 @@ fn read_bytes(alloc: Global, text: &str) -> Result<Items<u8>, FingerprintError>
 /// The byte that two hex digits write.
 #[inline(always)]
 fn pair_byte(high: u8, low: u8) -> Option<u8>
-    ensures { IfSome result (IsWrittenBy high low) }
+    ensures { IfSome result (IsFingerprintWrittenBy high low) }
 {
     let high = (high as char).to_digit(16)?;
     let low = (low as char).to_digit(16)?;

@@ -26,8 +26,8 @@ NegotiatesUntil text before refused after =
     (outcomes : List Outcome) × NegotiatedText text before outcomes after × IsFirstRefusal outcomes refused
 
 -- Ok where no round was refused, else the first refusal; what isn't read changes nothing
-abbrev pub ComesTo : List ℕ → List PayloadParams → Result (Unit {0}) CallError → List PayloadParams → Type 0
-ComesTo text before (Ok done) after = NegotiatesUntil text before None after
-ComesTo text before (Err (Refused cause)) after = NegotiatesUntil text before (Some cause) after
-ComesTo text before (Err (NotRead error)) after = Refuses error (Described text) × (after ≡ before)
-ComesTo text before (Err Memory) after = ⊥
+abbrev pub ComesToRound : List ℕ → List PayloadParams → Result (Unit {0}) CallError → List PayloadParams → Type 0
+ComesToRound text before (Ok done) after = NegotiatesUntil text before None after
+ComesToRound text before (Err (Refused cause)) after = NegotiatesUntil text before (Some cause) after
+ComesToRound text before (Err (NotRead error)) after = Refuses error (Described text) × (after ≡ before)
+ComesToRound text before (Err Memory) after = ⊥

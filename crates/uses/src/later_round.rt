@@ -3,7 +3,7 @@
 ghost use Rattle.std.specs.Prelude.{◌≡◌};
 ghost use Rattle.str0m_formats.specs.round.RoundsPromises.{LockedStay};
 ghost use Rattle.str0m_signal.specs.back.ReadBack.{MayBePrinted};
-ghost use Rattle.uses.specs.LaterRound.{ComesTo, IsFirstRefusal, refusal};
+ghost use Rattle.uses.specs.LaterRound.{ComesToRound, IsFirstRefusal, refusal};
 
 use crate::call_error::CallError;
 use str0m_signal::{CodecConfig, NegotiationError, negotiate_text};
@@ -34,7 +34,7 @@ fn first_refusal(outcomes: &[Result<(), NegotiationError>]) -> Option<Negotiatio
 /// has run then, and nothing has changed. `Refused` with the cause of the first round that was
 /// refused, which may be out of memory.
 pub fn negotiate_again(config: &mut CodecConfig, offer: &str) -> Result<(), CallError>
-    ensures outcome { ComesTo offer.now config.old.params.items result config.new.params.items }
+    ensures outcome { ComesToRound offer.now config.old.params.items result config.new.params.items }
     ensures else_same { config.new ≡ record config.old { params = config.new.params } }
     ensures stay { LockedStay config.old.params.items config.new.params.items }
     ensures printable { MayBePrinted config.old.params.items → MayBePrinted config.new.params.items }

@@ -6,14 +6,14 @@ use Rattle.exchange.proofs.Common.{AllZip, cons_option, flat_map, list_any, ◌&
 use Rattle.exchange.proofs.Common.{direction_attribute, MediaAttribute, Proto, Srtp, Sctp, Setup, SimulcastLayer, EXTMAP_ALLOW_MIXED, FIR}
 use Rattle.exchange.proofs.Common.{NACK, PLI, REMB, TRANSPORT_CC, MediaLine, Sdp, is_mid, maps, is_of_type, made, feedback_attrs}
 use Rattle.exchange.proofs.Common.{feedback_line, fmtp_line, format_attrs, format_values, red_attrs, red_lines, row_attrs, rtx_attrs}
-use Rattle.exchange.proofs.Common.{rtx_lines, AreDistinct, section_mids, receives, Candidate, Direction}
-use Rattle.exchange.proofs.offer.OfferNameLaws.{Differ, Other, differ_from}
+use Rattle.exchange.proofs.Common.{rtx_lines, AreMidsDistinct, section_mids, receives, Candidate, Direction}
+use Rattle.exchange.proofs.offer.OfferNameLaws.{NamesDiffer, Other, name_differ_from}
 use Rattle.exchange.proofs.offer.RuleLaws.{sections_shape}
 use Rattle.exchange.specs.answer.Accepted.{are_layers_told, candidate_line, channel_lines, first_lines, framed, layer_lines, media_lines}
 use Rattle.exchange.specs.answer.Accepted.{msid_lines, track_id}
 use Rattle.exchange.specs.answer.AcceptedOffer.{section_tracks, track_of}
-use Rattle.exchange.specs.answer.AnsweredSection.{AnswersSection, SaysChoice}
-use Rattle.exchange.specs.answer.Layers.{answered_layers, answered_rid, answered_rids, is_left, is_named, layers_line, received_layers}
+use Rattle.exchange.specs.answer.AnsweredSection.{AnswersSection, SaysSectionChoice}
+use Rattle.exchange.specs.answer.Layers.{answered_layers, answered_rid, answered_rids, is_rid_left, is_named, layers_line, received_layers}
 use Rattle.exchange.specs.answer.Layers.{sent_layers, types_left}
 use Rattle.exchange.specs.answer.RejectedSection.{direction_over, first_type, line_that, rejecting}
 use Rattle.exchange.specs.declared.answer.choice.Choice.{Choice}
@@ -107,7 +107,7 @@ rids_trackless : (sent : List SimulcastLayer) (rows : List PayloadParams) (attrs
     → Trackless (filter_map (answered_rid sent rows) attrs)
 rids_trackless sent rows [] = refl
 rids_trackless sent rows (media.Rid id direction pts restrictions ∷ attrs) =
-    go (bytes_eq direction (codes "send") && (list_any (is_named id.0) sent && is_left rows pts)) (rids_trackless sent rows attrs) where
+    go (bytes_eq direction (codes "send") && (list_any (is_named id.0) sent && is_rid_left rows pts)) (rids_trackless sent rows attrs) where
       go : (b : Bool) → Trackless (filter_map (answered_rid sent rows) attrs)
           → Trackless (cons_option (cond b (Some (media.Rid id (codes "recv") (types_left rows pts) restrictions)) None)
           (filter_map (answered_rid sent rows) attrs))
@@ -209,23 +209,24 @@ channels_trackless own offered mid role channels =
     trackless_both (first_lines own mid role ++ channel_lines channels) (map candidate_line own.candidates) refl
     (candidates_trackless own.candidates)
 
-choice_so : (own : OwnSide) (offer : Sdp) (offered answered : MediaLine) (choice : Choice) → SaysChoice own offer offered choice answered
+offer_choice_so : (own : OwnSide) (offer : Sdp) (offered answered : MediaLine) (choice : Choice)
+    → SaysSectionChoice own offer offered choice answered
     → TracksSo answered
-choice_so own offer offered answered Rejected says = subst TracksSo (sym says) (inl (rejected_trackless offered))
-choice_so own offer offered answered (Media mid rows) says = subst TracksSo (sym says.says)
+offer_choice_so own offer offered answered Rejected says = subst TracksSo (sym says) (inl (rejected_trackless offered))
+offer_choice_so own offer offered answered (Media mid rows) says = subst TracksSo (sym says.says)
     (media_so own offered mid says.role says.direction rows)
-choice_so own offer offered answered (Channels mid channels) says = subst TracksSo (sym says.says)
+offer_choice_so own offer offered answered (Channels mid channels) says = subst TracksSo (sym says.says)
     (inl (channels_trackless own offered mid says.role channels))
 
 -- ---- all sections
 
-all_so : (own : OwnSide) (ours : List PayloadParams) (offer : Sdp) (offered answered : List MediaLine)
+offer_all_so : (own : OwnSide) (ours : List PayloadParams) (offer : Sdp) (offered answered : List MediaLine)
     → AllZip (AnswersSection own ours offer) offered answered → All TracksSo answered
-all_so own ours offer [] [] zip = All-nil TracksSo
-all_so own ours offer [] (m ∷ ms) zip = absurd zip
-all_so own ours offer (theirs ∷ more) [] zip = absurd zip
-all_so own ours offer (theirs ∷ more) (m ∷ ms) zip =
-    All-cons TracksSo m ms (choice_so own offer theirs m zip.0.choice zip.0.says) (all_so own ours offer more ms zip.1)
+offer_all_so own ours offer [] [] zip = All-nil TracksSo
+offer_all_so own ours offer [] (m ∷ ms) zip = absurd zip
+offer_all_so own ours offer (theirs ∷ more) [] zip = absurd zip
+offer_all_so own ours offer (theirs ∷ more) (m ∷ ms) zip =
+    All-cons TracksSo m ms (offer_choice_so own offer theirs m zip.0.choice zip.0.says) (offer_all_so own ours offer more ms zip.1)
 
 same_mids : (offered answered : List MediaLine) → AllZip HasShapeOf offered answered → section_mids answered ≡ section_mids offered
 same_mids [] [] zip = refl
@@ -252,13 +253,13 @@ track_apart mid (m ∷ ms) other so =
           subst (All P) (sym said.2) (All-cons P (track_id said.0) []
           (λ e. differs (sym (append_cancel_left (codes "track-") mid said.0 e))) (All-nil P))
 
-distinct_tracks : (ms : List MediaLine) → Differ ms → All TracksSo ms → AreDistinct (flat_map section_tracks ms)
+distinct_tracks : (ms : List MediaLine) → NamesDiffer ms → All TracksSo ms → AreMidsDistinct (flat_map section_tracks ms)
 distinct_tracks [] differ so = λ i j d lt within. absurd (omega arith)
 distinct_tracks (m ∷ ms) differ so = go (All-head TracksSo m ms so) (distinct_tracks ms differ.1 (All-tail TracksSo m ms so)) where
-  go : TracksSo m → AreDistinct (flat_map section_tracks ms) → AreDistinct (section_tracks m ++ flat_map section_tracks ms)
-  go (inl none) rec = subst (λ (found : List (List ℕ)). AreDistinct (found ++ flat_map section_tracks ms)) (sym none) rec
+  go : TracksSo m → AreMidsDistinct (flat_map section_tracks ms) → AreMidsDistinct (section_tracks m ++ flat_map section_tracks ms)
+  go (inl none) rec = subst (λ (found : List (List ℕ)). AreMidsDistinct (found ++ flat_map section_tracks ms)) (sym none) rec
   go (inr said) rec =
-      subst (λ (found : List (List ℕ)). AreDistinct (found ++ flat_map section_tracks ms)) (sym said.2)
+      subst (λ (found : List (List ℕ)). AreMidsDistinct (found ++ flat_map section_tracks ms)) (sym said.2)
       (AllPairs-cons (λ (a b : List ℕ). a ≢ b) (track_id said.0) (flat_map section_tracks ms)
       (track_apart said.0 ms (subst (λ (name : Option (List ℕ)). All (Other name) ms) said.1 differ.0) (All-tail TracksSo m ms so)) rec)
 
@@ -270,7 +271,7 @@ same_names own ours offer answered answers = same_mids offer.media_lines answere
 
 pub tracks_differ : (own : OwnSide) (ours : List PayloadParams) (offer : Sdp) (answered : List MediaLine)
     → AllZip (AnswersSection own ours offer) offer.media_lines answered
-    → AreDistinct (section_mids offer.media_lines) → AreDistinct (flat_map section_tracks answered)
+    → AreMidsDistinct (section_mids offer.media_lines) → AreMidsDistinct (flat_map section_tracks answered)
 tracks_differ own ours offer answered answers distinct =
-    distinct_tracks answered (differ_from answered (subst AreDistinct (sym (same_names own ours offer answered answers)) distinct))
-    (all_so own ours offer offer.media_lines answered answers)
+    distinct_tracks answered (name_differ_from answered (subst AreMidsDistinct (sym (same_names own ours offer answered answers)) distinct))
+    (offer_all_so own ours offer offer.media_lines answered answers)

@@ -7,7 +7,7 @@ use Rattle.exchange.specs.answer.OfferedFeedback.{offered_feedback, with_offered
 use Rattle.exchange.specs.answer.Rows.{are, is_offered, offers, value_of_all}
 use Rattle.exchange.specs.declared.answer.offered_feedback.OfferedFeedback.{OfferedFeedback}
 use Rattle.std.proofs.Math.Bool.{or_comm}
-use Rattle.str0m_sdp.proofs.{any_more, any_same}
+use Rattle.str0m_sdp.proofs.{mark_any_more, mark_any_same}
 
 -- ---- one line more
 
@@ -27,9 +27,9 @@ by_value pt words (Unused text) = refl
 by_value pt words _ = refl
 
 -- before any line nothing is offered
-before_all : (pt : ℕ) → none_offered ≡ offered_feedback [] pt
+feedback_before_all : (pt : ℕ) → none_offered ≡ offered_feedback [] pt
 unfolding is_offered
-before_all pt = refl
+feedback_before_all pt = refl
 
 -- a line without such a value changes nothing
 same_feedback : (attrs : List MediaAttribute) (i : ℕ) (attr : MediaAttribute) (pt : ℕ) → i < length attrs → attr ≡ get_or attrs i attr
@@ -37,7 +37,7 @@ same_feedback : (attrs : List MediaAttribute) (i : ℕ) (attr : MediaAttribute) 
     → offered_feedback (take (i + 1) attrs) pt ≡ offered_feedback (take i attrs) pt
 unfolding is_offered
 same_feedback attrs i attr pt lt at says = λ j. offered_feedback_by
-    (λ words. any_same (offers pt words) attrs i attr lt at (by_value pt words attr ∙ ap (are words) says) j)
+    (λ words. mark_any_same (offers pt words) attrs i attr lt at (by_value pt words attr ∙ ap (are words) says) j)
 
 -- a line adds what it says
 feedback_more : (attrs : List MediaAttribute) (i : ℕ) (attr : MediaAttribute) (pt : ℕ) (said : List ℕ) → i < length attrs
@@ -45,7 +45,7 @@ feedback_more : (attrs : List MediaAttribute) (i : ℕ) (attr : MediaAttribute) 
     → offered_feedback (take (i + 1) attrs) pt ≡ either_offered (offered_feedback (take i attrs) pt) (named_offered said)
 unfolding is_offered
 feedback_more attrs i attr pt said lt at says = λ j. offered_feedback_by (λ words.
-    (any_more (offers pt words) attrs i attr lt at
+    (mark_any_more (offers pt words) attrs i attr lt at
     ∙ ap (λ (b : Bool). is_offered (take i attrs) pt words || b) (by_value pt words attr ∙ ap (are words) says)) j)
 
 line_value_more : (attrs : List MediaAttribute) (i : ℕ) (attr : MediaAttribute) (pt : ℕ) (said : Option (List ℕ)) → i < length attrs
@@ -56,36 +56,36 @@ line_value_more attrs i attr pt (Some words) lt at says = feedback_more attrs i 
 
 -- ---- what either names
 
-or_swap : (a b c : Bool) → ((a || b) || c) ≡ ((a || c) || b)
-or_swap true b c = refl
-or_swap false b c = or_comm b c
+feedback_or_swap : (a b c : Bool) → ((a || b) || c) ≡ ((a || c) || b)
+feedback_or_swap true b c = refl
+feedback_or_swap false b c = or_comm b c
 
-or_join : (a b c : Bool) → (a || (b || c)) ≡ ((a || b) || c)
-or_join true b c = refl
-or_join false b c = refl
+feedback_or_join : (a b c : Bool) → (a || (b || c)) ≡ ((a || b) || c)
+feedback_or_join true b c = refl
+feedback_or_join false b c = refl
 
-either_swap : (f g h : OfferedFeedback) → either_offered (either_offered f g) h ≡ either_offered (either_offered f h) g
-either_swap f g h = λ j. record {
-  transport_cc = or_swap f.transport_cc g.transport_cc h.transport_cc j;
-  fir = or_swap f.fir g.fir h.fir j;
-  nack = or_swap f.nack g.nack h.nack j;
-  pli = or_swap f.pli g.pli h.pli j;
-  remb = or_swap f.remb g.remb h.remb j;
+feedback_either_swap : (f g h : OfferedFeedback) → either_offered (either_offered f g) h ≡ either_offered (either_offered f h) g
+feedback_either_swap f g h = λ j. record {
+  transport_cc = feedback_or_swap f.transport_cc g.transport_cc h.transport_cc j;
+  fir = feedback_or_swap f.fir g.fir h.fir j;
+  nack = feedback_or_swap f.nack g.nack h.nack j;
+  pli = feedback_or_swap f.pli g.pli h.pli j;
+  remb = feedback_or_swap f.remb g.remb h.remb j;
 }
 
-either_join : (f g h : OfferedFeedback) → either_offered f (either_offered g h) ≡ either_offered (either_offered f g) h
-either_join f g h = λ j. record {
-  transport_cc = or_join f.transport_cc g.transport_cc h.transport_cc j;
-  fir = or_join f.fir g.fir h.fir j;
-  nack = or_join f.nack g.nack h.nack j;
-  pli = or_join f.pli g.pli h.pli j;
-  remb = or_join f.remb g.remb h.remb j;
+feedback_either_join : (f g h : OfferedFeedback) → either_offered f (either_offered g h) ≡ either_offered (either_offered f g) h
+feedback_either_join f g h = λ j. record {
+  transport_cc = feedback_or_join f.transport_cc g.transport_cc h.transport_cc j;
+  fir = feedback_or_join f.fir g.fir h.fir j;
+  nack = feedback_or_join f.nack g.nack h.nack j;
+  pli = feedback_or_join f.pli g.pli h.pli j;
+  remb = feedback_or_join f.remb g.remb h.remb j;
 }
 
 with_either : (f g : OfferedFeedback) (said : Option (List ℕ))
     → either_offered f (with_offered g said) ≡ with_offered (either_offered f g) said
 with_either f g None = refl
-with_either f g (Some words) = either_join f g (named_offered words)
+with_either f g (Some words) = feedback_either_join f g (named_offered words)
 
 -- ---- the table of types
 
@@ -96,7 +96,7 @@ none_gathered of_types of_all table all = record {
   each = λ pt lt.
       ap (λ (f : OfferedFeedback). either_offered f of_all) (ap (λ (rows : List OfferedFeedback). get_or rows pt none_offered) table
       ∙ get_or-replicate 256 pt none_offered none_offered lt)
-      ∙ ap (λ (f : OfferedFeedback). either_offered none_offered f) all ∙ before_all pt;
+      ∙ ap (λ (f : OfferedFeedback). either_offered none_offered f) all ∙ feedback_before_all pt;
 }
 
 -- a line of a type adds to that type
@@ -109,18 +109,18 @@ type_more attrs of_types of_all i n value attr lt at variant small so_far =
     ap (λ (f : OfferedFeedback). either_offered f of_all)
     (get_or-set_same of_types n (either_offered (get_or of_types n none_offered) (named_offered value)) none_offered
     (subst (λ (m : ℕ). n < m) (sym so_far.whole) small))
-    ∙ either_swap (get_or of_types n none_offered) (named_offered value) of_all
+    ∙ feedback_either_swap (get_or of_types n none_offered) (named_offered value) of_all
     ∙ ap (λ (f : OfferedFeedback). either_offered f (named_offered value)) (so_far.each n small)
     ∙ sym (feedback_more attrs i attr n value lt at (ap (value_for n) variant
     ∙ ap (λ (b : Bool). if b then Some value else None) (eq-eqb n n refl)))
 
 -- and leaves the others
-apart_more : (attrs : List MediaAttribute) (of_types : List OfferedFeedback) (of_all : OfferedFeedback) (i n : ℕ) (value : List ℕ)
+feedback_apart_more : (attrs : List MediaAttribute) (of_types : List OfferedFeedback) (of_all : OfferedFeedback) (i n : ℕ) (value : List ℕ)
     (attr : MediaAttribute)
     → i < length attrs → attr ≡ get_or attrs i attr → attr ≡ RtcpFb n value → IsGathered (take i attrs) of_types of_all
     → (added : OfferedFeedback) (pt : ℕ) → pt < 256 → (n ≡ pt → ⊥)
     → either_offered (get_or (set of_types n added) pt none_offered) of_all ≡ offered_feedback (take (i + 1) attrs) pt
-apart_more attrs of_types of_all i n value attr lt at variant so_far added pt within apart =
+feedback_apart_more attrs of_types of_all i n value attr lt at variant so_far added pt within apart =
     ap (λ (f : OfferedFeedback). either_offered f of_all) (get_or-set_other of_types n pt added none_offered (λ is. apart (sym is)))
     ∙ so_far.each pt within
     ∙ sym (same_feedback attrs i attr pt lt at (ap (value_for pt) variant
@@ -138,7 +138,7 @@ typed_more attrs of_types of_all i n value attr lt at variant small so_far = rec
         (get_or (set of_types n (either_offered (get_or of_types n none_offered) (named_offered value))) k none_offered) of_all
         ≡ offered_feedback (take (i + 1) attrs) k) is
         (type_more attrs of_types of_all i n value attr lt at variant small so_far)
-    | inr apart ↦ apart_more attrs of_types of_all i n value attr lt at variant so_far _ pt within apart
+    | inr apart ↦ feedback_apart_more attrs of_types of_all i n value attr lt at variant so_far _ pt within apart
   ];
 }
 
@@ -150,11 +150,12 @@ value_of_any pt (Unused text) other = refl
 value_of_any pt _ other = refl
 
 -- it says it for each type
-pub other_more : (attrs : List MediaAttribute) (of_types : List OfferedFeedback) (of_all : OfferedFeedback) (i : ℕ) (attr : MediaAttribute)
+pub feedback_other_more : (attrs : List MediaAttribute) (of_types : List OfferedFeedback) (of_all : OfferedFeedback) (i : ℕ)
+    (attr : MediaAttribute)
     → i < length attrs → attr ≡ get_or attrs i attr → ((n : ℕ) (value : List ℕ) → attr ≡ RtcpFb n value → ⊥)
     → IsGathered (take i attrs) of_types of_all
     → IsGathered (take (i + 1) attrs) of_types (with_offered of_all (value_for_all attr))
-other_more attrs of_types of_all i attr lt at other so_far = record {
+feedback_other_more attrs of_types of_all i attr lt at other so_far = record {
   whole = so_far.whole;
   each = λ pt within.
       with_either (get_or of_types pt none_offered) of_all (value_for_all attr)

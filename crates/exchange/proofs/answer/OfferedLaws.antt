@@ -7,7 +7,7 @@ use Rattle.exchange.proofs.Common.{REMB, TRANSPORT_CC, MediaLine, is_of_type, ma
 use Rattle.exchange.proofs.Common.{format_values, red_attrs, red_lines, row_attrs, rtx_attrs, rtx_lines, receives, Candidate, Direction}
 use Rattle.exchange.specs.answer.Accepted.{are_layers_told, candidate_line, channel_lines, first_lines, framed, layer_lines, media_lines}
 use Rattle.exchange.specs.answer.Accepted.{msid_lines}
-use Rattle.exchange.specs.answer.Layers.{answered_layers, answered_rid, answered_rids, is_left, is_named, layers_line, received_layers}
+use Rattle.exchange.specs.answer.Layers.{answered_layers, answered_rid, answered_rids, is_rid_left, is_named, layers_line, received_layers}
 use Rattle.exchange.specs.answer.Layers.{sent_layers, types_left}
 use Rattle.exchange.specs.declared.state.own_side.DataChannels.{DataChannels}
 use Rattle.exchange.specs.declared.state.own_side.OwnSide.{OwnSide}
@@ -20,9 +20,10 @@ abbrev WasOffered : MediaLine → MediaAttribute → Type 0
 WasOffered offered line = needs_offer line ≡ true → Contains offered.attrs line
 
 -- lines none of which needs the offer
-from_none : (offered : MediaLine) (lines : List MediaAttribute) → list_any needs_offer lines ≡ false → All (WasOffered offered) lines
-from_none offered [] none = All-nil (WasOffered offered)
-from_none offered (line ∷ lines) none = go (needs_offer line) refl none (from_none offered lines) where
+offered_from_none : (offered : MediaLine) (lines : List MediaAttribute) → list_any needs_offer lines ≡ false
+    → All (WasOffered offered) lines
+offered_from_none offered [] none = All-nil (WasOffered offered)
+offered_from_none offered (line ∷ lines) none = go (needs_offer line) refl none (offered_from_none offered lines) where
   go : (b : Bool) → needs_offer line ≡ b → (b || list_any needs_offer lines) ≡ false
       → (list_any needs_offer lines ≡ false → All (WasOffered offered) lines)
       → All (WasOffered offered) (line ∷ lines)
@@ -95,7 +96,7 @@ rids_none : (sent : List SimulcastLayer) (rows : List PayloadParams) (attrs : Li
     → list_any needs_offer (filter_map (answered_rid sent rows) attrs) ≡ false
 rids_none sent rows [] = refl
 rids_none sent rows (media.Rid id direction pts restrictions ∷ attrs) =
-    go (bytes_eq direction (codes "send") && (list_any (is_named id.0) sent && is_left rows pts)) (rids_none sent rows attrs) where
+    go (bytes_eq direction (codes "send") && (list_any (is_named id.0) sent && is_rid_left rows pts)) (rids_none sent rows attrs) where
       go : (b : Bool) → list_any needs_offer (filter_map (answered_rid sent rows) attrs) ≡ false
           → list_any needs_offer (cons_option (cond b (Some (media.Rid id (codes "recv") (types_left rows pts) restrictions)) None)
           (filter_map (answered_rid sent rows) attrs)) ≡ false
@@ -135,10 +136,11 @@ media_lines_offered own offered mid direction rows =
     All-append P (a ++ b ++ c ++ d) e
     (All-append P (a ++ b ++ c) d
     (All-append P (a ++ b) c
-    (All-append P a b (from_none offered a (direction_none direction)) (from_none offered b (candidates_none own.candidates)))
+    (All-append P a b (offered_from_none offered a (direction_none direction))
+    (offered_from_none offered b (candidates_none own.candidates)))
     (repeated_offered own.extensions offered))
-    (from_none offered d (msid_none own direction mid)))
-    (from_none offered e (layer_lines_none own direction offered rows))
+    (offered_from_none offered d (msid_none own direction mid)))
+    (offered_from_none offered e (layer_lines_none own direction offered rows))
 
 pub accepted_media_offered : (own : OwnSide) (offered : MediaLine) (mid : List ℕ) (role : Setup) (direction : Direction)
     (rows : List PayloadParams)
@@ -149,12 +151,12 @@ accepted_media_offered own offered mid role direction rows =
     let lines : List MediaAttribute = media_lines own offered mid direction rows in
     All-append P (filter (λ attr. not (is_of_type attr)) (head ++ lines)) (flat_map row_attrs rows)
     (All-filter (λ attr. not (is_of_type attr)) P (head ++ lines)
-    (All-append P head lines (from_none offered head refl) (media_lines_offered own offered mid direction rows)))
-    (from_none offered (flat_map row_attrs rows) (rows_none rows))
+    (All-append P head lines (offered_from_none offered head refl) (media_lines_offered own offered mid direction rows)))
+    (offered_from_none offered (flat_map row_attrs rows) (rows_none rows))
 
 pub accepted_channels_offered : (own : OwnSide) (offered : MediaLine) (mid : List ℕ) (role : Setup) (channels : DataChannels)
     → SaysOnlyOffered offered (framed offered (first_lines own mid role ++ channel_lines channels ++ map candidate_line own.candidates))
 accepted_channels_offered own offered mid role channels =
     All-append (WasOffered offered) (first_lines own mid role ++ channel_lines channels) (map candidate_line own.candidates)
-    (from_none offered (first_lines own mid role ++ channel_lines channels) refl)
-    (from_none offered (map candidate_line own.candidates) (candidates_none own.candidates))
+    (offered_from_none offered (first_lines own mid role ++ channel_lines channels) refl)
+    (offered_from_none offered (map candidate_line own.candidates) (candidates_none own.candidates))

@@ -1,10 +1,11 @@
 -- A section that rejects a consistent one is consistent.
 use Rattle.exchange.proofs.Common.{arith, ◌≡◌, ◌+◌, ◌≤◌, inl, inr, ℕ, Bool, true, false, cond, List, [], ◌∷◌, ◌++◌, Option, Some, None, All}
 use Rattle.exchange.proofs.Common.{IfSome, find, count_by, option_to_list, refl, subst, sym, ap, ◌∙◌, false≢true, All-append, All-cons}
-use Rattle.exchange.proofs.Common.{All-head, All-nil, list_any, is_some, count-append, uncounted, MediaAttribute, MediaType, Application}
+use Rattle.exchange.proofs.Common.{All-head, All-nil, list_any, is_some, count-append, rows_uncounted, MediaAttribute, MediaType}
+use Rattle.exchange.proofs.Common.{Application}
 use Rattle.exchange.proofs.Common.{Audio, Video, Unknown, Proto, Srtp, Sctp, MediaLine, Consistent, is_mid, maps}
 use Rattle.exchange.proofs.answer.RowsListLaws.{found, is_some_find}
-use Rattle.exchange.specs.answer.RejectedSection.{direction_over, first_type, line_that, listed_alone, rejecting}
+use Rattle.exchange.specs.answer.RejectedSection.{direction_over, first_type, line_that, rejected_type_alone, rejecting}
 use Rattle.str0m_formats.specs.declared.codec.Codec.TheVariants.{PCMU}
 use Rattle.str0m_formats.specs.format.FormatParams.{empty}
 use Rattle.str0m_sdp.specs.declared.attribute.MediaAttribute.TheVariants as media
@@ -13,18 +14,18 @@ use Rattle.str0m_sdp.specs.section.Consistency.{AgreesOnApt, IsMapped, NeedsNoMa
 -- ---- what a line counts for
 
 -- which kinds of line one is, and that it names no other primary type
-record Counts (pt : ℕ) (line : MediaAttribute) (mid setup direction mapping : Bool) : Type 0 where
+record CountsAmongLines (pt : ℕ) (line : MediaAttribute) (mid setup direction mapping : Bool) : Type 0 where
   pub mid_is : is_mid line ≡ mid
   pub setup_is : is_setup line ≡ setup
   pub direction_is : is_direction line ≡ direction
   pub mapping_is : maps pt line ≡ mapping
   pub agrees : (lines : List MediaAttribute) → AgreesOnApt lines line
 
-of_mid : (pt : ℕ) (line : MediaAttribute) → is_mid line ≡ true → Counts pt line true false false false
+of_mid : (pt : ℕ) (line : MediaAttribute) → is_mid line ≡ true → CountsAmongLines pt line true false false false
 of_mid pt (media.Mid mid) h = record { mid_is = refl; setup_is = refl; direction_is = refl; mapping_is = refl; agrees = λ lines. tt }
 of_mid pt _ h = absurd (false≢true h)
 
-of_mapping : (pt : ℕ) (line : MediaAttribute) → maps pt line ≡ true → Counts pt line false false false true
+of_mapping : (pt : ℕ) (line : MediaAttribute) → maps pt line ≡ true → CountsAmongLines pt line false false false true
 of_mapping pt (media.RtpMap n value) h = record {
   mid_is = refl;
   setup_is = refl;
@@ -37,22 +38,23 @@ of_mapping pt _ h = absurd (false≢true h)
 -- ---- a line that is found
 
 -- of the line that is found, where none counts, and where each does
-count_none : (test : MediaAttribute → Bool) (o : Option MediaAttribute) → IfSome o (λ line. test line ≡ false)
+rejected_counts_none : (test : MediaAttribute → Bool) (o : Option MediaAttribute) → IfSome o (λ line. test line ≡ false)
     → count_by test (option_to_list o) ≡ 0
-count_none test None h = refl
-count_none test (Some line) h = ap (λ (b : Bool). 0 + cond {A = ℕ} b 1 0) h
+rejected_counts_none test None h = refl
+rejected_counts_none test (Some line) h = ap (λ (b : Bool). 0 + cond {A = ℕ} b 1 0) h
 
-count_one : (test : MediaAttribute → Bool) (o : Option MediaAttribute) → is_some o ≡ true → IfSome o (λ line. test line ≡ true)
+rejected_counts_one : (test : MediaAttribute → Bool) (o : Option MediaAttribute) → is_some o ≡ true → IfSome o (λ line. test line ≡ true)
     → count_by test (option_to_list o) ≡ 1
-count_one test None there h = absurd (false≢true there)
-count_one test (Some line) there h = ap (λ (b : Bool). 0 + cond {A = ℕ} b 1 0) h
+rejected_counts_one test None there h = absurd (false≢true there)
+rejected_counts_one test (Some line) there h = ap (λ (b : Bool). 0 + cond {A = ℕ} b 1 0) h
 
 -- where one is counted, one is found
-there_is : (test : MediaAttribute → Bool) (lines : List MediaAttribute) → count_by test lines ≡ 1 → is_some (find test lines) ≡ true
-there_is test lines one = go (list_any test lines) refl where
+rejected_counted_line_is_there : (test : MediaAttribute → Bool) (lines : List MediaAttribute) → count_by test lines ≡ 1
+    → is_some (find test lines) ≡ true
+rejected_counted_line_is_there test lines one = go (list_any test lines) refl where
   go : (b : Bool) → list_any test lines ≡ b → is_some (find test lines) ≡ true
   go true e = is_some_find test lines ∙ e
-  go false e = let none = uncounted test lines e in absurd (omega arith)
+  go false e = let none = rows_uncounted test lines e in absurd (omega arith)
 
 line_weaker : (P Q : MediaAttribute → Type 0) → ((line : MediaAttribute) → P line → Q line) → (o : Option MediaAttribute) → IfSome o P
     → IfSome o Q
@@ -74,10 +76,10 @@ module _ (offered : MediaLine) (is : Consistent offered) where
   abbrev its_lines : List MediaAttribute
   its_lines = option_to_list mid_found ++ (direction_over offered.proto ++ option_to_list mapping_found)
 
-  mid_counts : IfSome mid_found (λ line. Counts pt line true false false false)
+  mid_counts : IfSome mid_found (λ line. CountsAmongLines pt line true false false false)
   mid_counts = line_weaker _ _ (λ line h. of_mid pt line h.0) mid_found (found is_mid offered.attrs)
 
-  mapping_counts : IfSome mapping_found (λ line. Counts pt line false false false true)
+  mapping_counts : IfSome mapping_found (λ line. CountsAmongLines pt line false false false true)
   mapping_counts = line_weaker _ _ (λ line h. of_mapping pt line h.0) mapping_found (found (maps pt) offered.attrs)
 
   lines_counted : (test : MediaAttribute → Bool) → count_by test its_lines ≡ count_by test (option_to_list mid_found)
@@ -107,29 +109,30 @@ module _ (offered : MediaLine) (is : Consistent offered) where
 
   one_mid_line : count_by is_mid its_lines ≡ 1
   one_mid_line =
-      let here = count_one is_mid mid_found (there_is is_mid offered.attrs is.mid)
+      let here = rejected_counts_one is_mid mid_found (rejected_counted_line_is_there is_mid offered.attrs is.mid)
       (line_weaker _ _ (λ line h. h.mid_is) mid_found mid_counts) in
-      let neither = count_none is_mid mapping_found (line_weaker _ _ (λ line h. h.mid_is) mapping_found mapping_counts) in
+      let neither = rejected_counts_none is_mid mapping_found (line_weaker _ _ (λ line h. h.mid_is) mapping_found mapping_counts) in
       let none = (directed offered.proto).mids in
       omega (arith, lines_counted is_mid, here, neither, none)
 
   few_setups : count_by is_setup its_lines ≤ 1
   few_setups =
-      let here = count_none is_setup mid_found (line_weaker _ _ (λ line h. h.setup_is) mid_found mid_counts) in
-      let neither = count_none is_setup mapping_found (line_weaker _ _ (λ line h. h.setup_is) mapping_found mapping_counts) in
+      let here = rejected_counts_none is_setup mid_found (line_weaker _ _ (λ line h. h.setup_is) mid_found mid_counts) in
+      let neither = rejected_counts_none is_setup mapping_found (line_weaker _ _ (λ line h. h.setup_is) mapping_found mapping_counts) in
       let none = (directed offered.proto).setups in
       omega (arith, lines_counted is_setup, here, neither, none)
 
   one_direction : offered.proto ≡ Srtp → count_by is_direction its_lines ≡ 1
   one_direction srtp =
-      let here = count_none is_direction mid_found (line_weaker _ _ (λ line h. h.direction_is) mid_found mid_counts) in
-      let neither = count_none is_direction mapping_found (line_weaker _ _ (λ line h. h.direction_is) mapping_found mapping_counts) in
+      let here = rejected_counts_none is_direction mid_found (line_weaker _ _ (λ line h. h.direction_is) mid_found mid_counts) in
+      let neither = rejected_counts_none is_direction mapping_found
+      (line_weaker _ _ (λ line h. h.direction_is) mapping_found mapping_counts) in
       let one = (directed offered.proto).one srtp in
       omega (arith, lines_counted is_direction, here, neither, one)
 
   mappings : count_by (maps pt) its_lines ≡ count_by (maps pt) (option_to_list mapping_found)
   mappings =
-      let here = count_none (maps pt) mid_found (line_weaker _ _ (λ line h. h.mapping_is) mid_found mid_counts) in
+      let here = rejected_counts_none (maps pt) mid_found (line_weaker _ _ (λ line h. h.mapping_is) mid_found mid_counts) in
       let none = (directed offered.proto).mappings in
       omega (arith, lines_counted (maps pt), here, none)
 
@@ -138,17 +141,17 @@ module _ (offered : MediaLine) (is : Consistent offered) where
   needs_no_mapping [] e none = (record { codec = PCMU; clock_rate = 8000; channels = None; format = empty }, (refl, refl, refl))
   needs_no_mapping (t ∷ ts) e none = go (All-head (IsMapped offered.attrs) t ts (subst (All (IsMapped offered.attrs)) e is.mapped)) where
     go : IsMapped offered.attrs t → NeedsNoMapping t
-    go (inl one) = absurd (false≢true (sym none ∙ there_is (maps t) offered.attrs one))
+    go (inl one) = absurd (false≢true (sym none ∙ rejected_counted_line_is_there (maps t) offered.attrs one))
     go (inr h) = h.1
 
   type_mapped : IsMapped its_lines pt
   type_mapped = go mapping_found refl mapping_counts mappings where
-    go : (o : Option MediaAttribute) → mapping_found ≡ o → IfSome o (λ line. Counts pt line false false false true)
+    go : (o : Option MediaAttribute) → mapping_found ≡ o → IfSome o (λ line. CountsAmongLines pt line false false false true)
         → count_by (maps pt) its_lines ≡ count_by (maps pt) (option_to_list o) → IsMapped its_lines pt
     go None e h n = inr (n, needs_no_mapping offered.pts refl (ap (λ (o : Option MediaAttribute). is_some o) e))
-    go (Some line) e h n = inl (n ∙ count_one (maps pt) (Some line) refl h.mapping_is)
+    go (Some line) e h n = inl (n ∙ rejected_counts_one (maps pt) (Some line) refl h.mapping_is)
 
-  listed_mapped : (typ : MediaType) → All (IsMapped its_lines) (listed_alone typ offered.pts)
+  listed_mapped : (typ : MediaType) → All (IsMapped its_lines) (rejected_type_alone typ offered.pts)
   listed_mapped Application = All-nil (IsMapped its_lines)
   listed_mapped Audio = All-cons (IsMapped its_lines) pt [] type_mapped (All-nil (IsMapped its_lines))
   listed_mapped Video = All-cons (IsMapped its_lines) pt [] type_mapped (All-nil (IsMapped its_lines))
@@ -185,13 +188,14 @@ abbrev pub of_parts : Proto → MediaType → List ℕ → List MediaAttribute �
 of_parts proto typ pts lines = record { typ = typ; disabled = true; proto = proto; pts = pts; bw = None; attrs = lines }
 
 pub made_of_parts : (offered : MediaLine) (typ : MediaType) (pts listed : List ℕ) (attrs lines : List MediaAttribute) (pt : ℕ)
-    → typ ≡ offered.typ → listed ≡ offered.pts → lines ≡ offered.attrs → pt ≡ first_type listed → pts ≡ listed_alone offered.typ listed
+    → typ ≡ offered.typ → listed ≡ offered.pts → lines ≡ offered.attrs → pt ≡ first_type listed
+    → pts ≡ rejected_type_alone offered.typ listed
     → attrs ≡ line_that is_mid lines ++ (direction_over offered.proto ++ line_that (maps pt) lines)
     → of_parts offered.proto typ pts attrs ≡ rejecting offered
 made_of_parts offered typ pts listed attrs lines alone_type same_typ same_pts same_lines is_first alone all =
     ap (λ (x : MediaType). of_parts offered.proto x pts attrs) same_typ
-    ∙ ap (λ (x : List ℕ). of_parts offered.proto offered.typ x attrs) (alone ∙ ap (listed_alone offered.typ) same_pts)
-    ∙ ap (of_parts offered.proto offered.typ (listed_alone offered.typ offered.pts))
+    ∙ ap (λ (x : List ℕ). of_parts offered.proto offered.typ x attrs) (alone ∙ ap (rejected_type_alone offered.typ) same_pts)
+    ∙ ap (of_parts offered.proto offered.typ (rejected_type_alone offered.typ offered.pts))
     (all
     ∙ ap (λ (x : ℕ). line_that is_mid lines ++ (direction_over offered.proto ++ line_that (maps x) lines))
     (is_first ∙ ap first_type same_pts)

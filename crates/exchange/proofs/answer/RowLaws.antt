@@ -1,10 +1,11 @@
 -- What holds of the rows that answer a section.
 use Rattle.exchange.proofs.Common.{arith, ◌≡◌, ◌≢◌, ◌==◌, ◌&&◌, ◌≤◌, ℕ, Bool, true, false, List, Option, Some, None, All, IfSome}
 use Rattle.exchange.proofs.Common.{if◌then◌else◌, filter, find, refl, subst, sym, ap, ◌∙◌, option_map, and_parts, eqb-true, eq-eqb}
-use Rattle.exchange.proofs.Common.{false≢true, All-contains_itself, Contains, is_some, PayloadParams, AllDistinct, has, times, distinct}
+use Rattle.exchange.proofs.Common.{false≢true, All-contains_itself, Contains, is_some, PayloadParams, AllTypesDistinct, has, type_times}
+use Rattle.exchange.proofs.Common.{distinct}
 use Rattle.exchange.proofs.Common.{MediaLine, rows, ◌>>=◌}
 use Rattle.exchange.proofs.answer.RowsListLaws.{All-distinct, All-filter_map, contains_type, distinct-once, found, found_some, kept_type}
-use Rattle.exchange.proofs.answer.RowsListLaws.{marks, times-filter}
+use Rattle.exchange.proofs.answer.RowsListLaws.{list_marks, times-filter}
 use Rattle.exchange.specs.answer.Rows.{IsAgreed, Belongs, SaysWhatIsOffered, agreed_type, answer_to, answer_under, answered_rows}
 use Rattle.exchange.specs.answer.Rows.{as_answered, is_answered, is_carried_in, matches, own_types}
 use Rattle.str0m_formats.specs.round.MatchScore.{score}
@@ -19,8 +20,8 @@ some : {A : Type 0} (o : Option A) → o ≢ None → is_some o ≡ true
 some None h = absurd (h refl)
 some (Some x) h = refl
 
-and_both : {a b : Bool} → a ≡ true → b ≡ true → (a && b) ≡ true
-and_both {a} {b} e f = ap (λ (x : Bool). x && b) e ∙ f
+row_and_both : {a b : Bool} → a ≡ true → b ≡ true → (a && b) ≡ true
+row_and_both {a} {b} e f = ap (λ (x : Bool). x && b) e ∙ f
 
 -- a type that is agreed on stands in the m-line
 in_m_line : (listed : List ℕ) (ours theirs : Option ℕ) → IfSome (agreed_type listed ours theirs) (Contains listed)
@@ -51,14 +52,14 @@ unfolding as_answered
 under_own_type section theirs ours = refl
 
 -- what is found of an answer under a type
-pub record Found (own : List PayloadParams) (section : MediaLine) (pt : ℕ) (row : PayloadParams) : Type 0 where
+pub record FoundRow (own : List PayloadParams) (section : MediaLine) (pt : ℕ) (row : PayloadParams) : Type 0 where
   pub agreed : Contains section.pts pt → IsAgreed own section row
   pub under : row.pt ≡ pt
   pub offered : SaysWhatIsOffered section row
 
 matched : (own : List PayloadParams) (section : MediaLine) (theirs ours : PayloadParams) → Contains own ours
     → Contains (rows section) theirs
-    → matches section.typ theirs ours ≡ true → Found own section theirs.pt (as_answered section theirs ours)
+    → matches section.typ theirs ours ≡ true → FoundRow own section theirs.pt (as_answered section theirs ours)
 matched own section theirs ours known offered h =
     let locked = and_parts ours.locked _ h in
     let typed = and_parts (ours.pt == theirs.pt) _ locked.1 in
@@ -83,20 +84,20 @@ matched own section theirs ours known offered h =
 
 answered : (own : List PayloadParams) (section : MediaLine) (pt : ℕ) (theirs : PayloadParams) → theirs.pt ≡ pt
     → Contains (rows section) theirs
-    → IfSome (answer_to own section theirs) (Found own section pt)
+    → IfSome (answer_to own section theirs) (FoundRow own section pt)
 answered own section pt theirs is offered = go (find (matches section.typ theirs) own) (found (matches section.typ theirs) own) where
   go : (o : Option PayloadParams) → IfSome o (λ ours. (matches section.typ theirs ours ≡ true) × Contains own ours)
-      → IfSome (option_map (as_answered section theirs) o) (Found own section pt)
+      → IfSome (option_map (as_answered section theirs) o) (FoundRow own section pt)
   go None h = tt
-  go (Some ours) h = subst (λ (n : ℕ). Found own section n (as_answered section theirs ours)) is
+  go (Some ours) h = subst (λ (n : ℕ). FoundRow own section n (as_answered section theirs ours)) is
       (matched own section theirs ours h.1 offered h.0)
 
-found_under : (own : List PayloadParams) (section : MediaLine) (pt : ℕ)
-    → IfSome (answer_under own section (rows section) pt) (Found own section pt)
+row_found_under : (own : List PayloadParams) (section : MediaLine) (pt : ℕ)
+    → IfSome (answer_under own section (rows section) pt) (FoundRow own section pt)
 unfolding answer_under
-found_under own section pt = go (find (λ row. row.pt == pt) (rows section)) (found (λ row. row.pt == pt) (rows section)) where
+row_found_under own section pt = go (find (λ row. row.pt == pt) (rows section)) (found (λ row. row.pt == pt) (rows section)) where
   go : (o : Option PayloadParams) → IfSome o (λ theirs. ((theirs.pt == pt) ≡ true) × Contains (rows section) theirs)
-      → IfSome (o >>= answer_to own section) (Found own section pt)
+      → IfSome (o >>= answer_to own section) (FoundRow own section pt)
   go None h = tt
   go (Some theirs) h = answered own section pt theirs (eqb-true _ _ h.0) h.1
 
@@ -118,17 +119,17 @@ pub all_agreed : (own : List PayloadParams) (section : MediaLine) (answer : List
 unfolding answered_rows
 all_agreed own section answer is = subst (All (IsAgreed own section)) (sym is)
     (All-filter_map (Contains section.pts) (IsAgreed own section) (answer_under own section (rows section))
-    (λ pt listed. IfSome_weaker (Found own section pt) (IsAgreed own section) (λ row h. h.agreed listed)
-    (answer_under own section (rows section) pt) (found_under own section pt))
+    (λ pt listed. IfSome_weaker (FoundRow own section pt) (IsAgreed own section) (λ row h. h.agreed listed)
+    (answer_under own section (rows section) pt) (row_found_under own section pt))
     (types_once section) (listed_once section))
 
-pub all_say : (own : List PayloadParams) (section : MediaLine) (answer : List PayloadParams) → answer ≡ answered_rows own section
+pub answered_rows_say : (own : List PayloadParams) (section : MediaLine) (answer : List PayloadParams) → answer ≡ answered_rows own section
     → All (SaysWhatIsOffered section) answer
 unfolding answered_rows
-all_say own section answer is = subst (All (SaysWhatIsOffered section)) (sym is)
+answered_rows_say own section answer is = subst (All (SaysWhatIsOffered section)) (sym is)
     (All-filter_map (Contains section.pts) (SaysWhatIsOffered section) (answer_under own section (rows section))
-    (λ pt listed. IfSome_weaker (Found own section pt) (SaysWhatIsOffered section) (λ row h. h.offered)
-    (answer_under own section (rows section) pt) (found_under own section pt))
+    (λ pt listed. IfSome_weaker (FoundRow own section pt) (SaysWhatIsOffered section) (λ row h. h.offered)
+    (answer_under own section (rows section) pt) (row_found_under own section pt))
     (types_once section) (listed_once section))
 
 pub in_order : (own : List PayloadParams) (section : MediaLine) (answer : List PayloadParams) → answer ≡ answered_rows own section
@@ -136,19 +137,19 @@ pub in_order : (own : List PayloadParams) (section : MediaLine) (answer : List P
 unfolding answered_rows
 in_order own section answer is =
     ap own_types is
-    ∙ marks (λ row. row.pt) (answer_under own section (rows section))
-    (λ pt. IfSome_weaker (Found own section pt) (λ row. row.pt ≡ pt) (λ row h. h.under) (answer_under own section (rows section) pt)
-    (found_under own section pt))
+    ∙ list_marks (λ row. row.pt) (answer_under own section (rows section))
+    (λ pt. IfSome_weaker (FoundRow own section pt) (λ row. row.pt ≡ pt) (λ row h. h.under) (answer_under own section (rows section) pt)
+    (row_found_under own section pt))
     (types_once section)
 
 pub answers_once : (own : List PayloadParams) (section : MediaLine) (answer : List PayloadParams) → answer ≡ answered_rows own section
-    → AllDistinct (own_types answer)
+    → AllTypesDistinct (own_types answer)
 answers_once own section answer is = λ t. go t (in_order own section answer is) where
-  go : (t : ℕ) → own_types answer ≡ filter (is_answered own section) (distinct ◌==◌ section.pts) → times (own_types answer) t ≤ 1
+  go : (t : ℕ) → own_types answer ≡ filter (is_answered own section) (distinct ◌==◌ section.pts) → type_times (own_types answer) t ≤ 1
   go t e =
       let fewer = times-filter (is_answered own section) (types_once section) t in
       let once = distinct-once section.pts t in
-      let same = ap (λ (ts : List ℕ). times ts t) e in
+      let same = ap (λ (ts : List ℕ). type_times ts t) e in
       omega (arith, fewer, once, same)
 
 -- a row that belongs in the answer has an answer
@@ -167,11 +168,12 @@ has_answer own section ours b = ap (λ (o : Option PayloadParams). is_some (o >>
           b.offered (found (λ row. row.pt == ours.pt) (rows section))).0
 
       passes : matches section.typ b.theirs ours ≡ true
-      passes = and_both b.locked (and_both (eq-eqb _ _ (sym (eqb-true _ _ is_under)))
-          (and_both b.carried (some (score ours.spec b.theirs.spec) b.match)))
+      passes = row_and_both b.locked (row_and_both (eq-eqb _ _ (sym (eqb-true _ _ is_under)))
+          (row_and_both b.carried (some (score ours.spec b.theirs.spec) b.match)))
 
-pub all_stand : (own : List PayloadParams) (section : MediaLine) (answer : List PayloadParams) → answer ≡ answered_rows own section
+pub answered_rows_stand : (own : List PayloadParams) (section : MediaLine) (answer : List PayloadParams)
+    → answer ≡ answered_rows own section
     → (ours : PayloadParams) → Belongs own section ours → Contains (own_types answer) ours.pt
-all_stand own section answer is ours b =
+answered_rows_stand own section answer is ours b =
     subst (λ (ts : List ℕ). Contains ts ours.pt) (sym (in_order own section answer is))
     (kept_type (is_answered own section) section.pts ours.pt b.listed (has_answer own section ours b))

@@ -6,7 +6,7 @@ use Rattle.exchange.proofs.answer.RowLaws.{all_agreed}
 use Rattle.exchange.proofs.answer.RowsListLaws.{is_some_find}
 use Rattle.exchange.specs.answer.Rows.{IsAgreed, KeepsPlain, agreed_type, answered_rows, as_answered}
 use Rattle.str0m_formats.specs.codec.Codec.{content, video}
-use Rattle.str0m_formats.specs.row.PayloadParams.{AllSmall}
+use Rattle.str0m_formats.specs.row.PayloadParams.{AllTypesSmall}
 
 abbrev is_large : ℕ → Bool
 is_large = nat_lt 127
@@ -14,8 +14,8 @@ is_large = nat_lt 127
 none_large : (ts : List ℕ) → find is_large ts ≡ None → list_any is_large ts ≡ false
 none_large ts e = sym (is_some_find is_large ts) ∙ ap (λ (o : Option ℕ). is_some o) e
 
-all_below : (ts : List ℕ) → list_any is_large ts ≡ false → find is_large ts ≡ None
-all_below ts e = go (find is_large ts) (is_some_find is_large ts ∙ e) where
+all_types_below : (ts : List ℕ) → list_any is_large ts ≡ false → find is_large ts ≡ None
+all_types_below ts e = go (find is_large ts) (is_some_find is_large ts ∙ e) where
   go : (o : Option ℕ) → is_some o ≡ false → o ≡ None
   go None h = refl
   go (Some t) h = absurd (false≢true (sym h))
@@ -30,11 +30,11 @@ agreed_small listed (Some a) (Some b) small = go (a == b && has listed a) where
   go true = small
   go false = refl
 
-both_small : (a b : Bool) → a ≡ false → b ≡ false → (a || b) ≡ false
-both_small a b e f = ap (λ (x : Bool). x || b) e ∙ f
+both_types_small : (a b : Bool) → a ≡ false → b ≡ false → (a || b) ≡ false
+both_types_small a b e f = ap (λ (x : Bool). x || b) e ∙ f
 
-answered_small : (section : MediaLine) (theirs ours : PayloadParams) → AllSmall (types_of ours)
-    → AllSmall (types_of (as_answered section theirs ours))
+answered_small : (section : MediaLine) (theirs ours : PayloadParams) → AllTypesSmall (types_of ours)
+    → AllTypesSmall (types_of (as_answered section theirs ours))
 unfolding as_answered
 answered_small section theirs ours small =
     let resend = agreed_type section.pts ours.resend theirs.resend in
@@ -42,10 +42,11 @@ answered_small section theirs ours small =
     let parts = or_parts (is_large ours.pt) _ (none_large (types_of ours) small) in
     let others = or_parts (list_any is_large (option_to_list ours.resend)) _
     (sym (list_any-append is_large (option_to_list ours.resend) (option_to_list ours.red)) ∙ parts.1) in
-    all_below (types_of (as_answered section theirs ours))
-    (both_small (is_large ours.pt) _ parts.0
+    all_types_below (types_of (as_answered section theirs ours))
+    (both_types_small (is_large ours.pt) _ parts.0
     (list_any-append is_large (option_to_list resend) (option_to_list red)
-    ∙ both_small _ _ (agreed_small section.pts ours.resend theirs.resend others.0) (agreed_small section.pts ours.red theirs.red others.1)))
+    ∙ both_types_small _ _ (agreed_small section.pts ours.resend theirs.resend others.0)
+    (agreed_small section.pts ours.red theirs.red others.1)))
 
 answer_plain : (section : MediaLine) (theirs ours : PayloadParams) → IsPlain ours
     → (content ours.spec.codec ≡ video → HasVideoFeedback (as_answered section theirs ours)) → IsPlain (as_answered section theirs ours)

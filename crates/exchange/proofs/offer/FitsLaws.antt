@@ -31,11 +31,11 @@ all_in_place names local remote offer n past kept at = elim (cases_lt at n) [
 -- ---- the rules of a section
 
 -- the first that isn't kept
-pub first_broken : (ours : List PayloadParams) (answer : Sdp) (offered answered : MediaLine) (i : ℕ) → i < length rules_asked
+pub first_rule_broken : (ours : List PayloadParams) (answer : Sdp) (offered answered : MediaLine) (i : ℕ) → i < length rules_asked
     → All (Keeps ours answer offered answered) (take i rules_asked)
     → (Keeps ours answer offered answered (get_or rules_asked i rule.Sections) → ⊥)
     → BreaksFirst ours answer offered answered (get_or rules_asked i rule.Sections)
-first_broken ours answer offered answered i lt kept broken =
+first_rule_broken ours answer offered answered i lt kept broken =
     record { place = i; stands = slice_get-get_or rules_asked i rule.Sections lt; earlier = kept; broken = broken }
 
 -- each rule is among those that are asked, or asks nothing

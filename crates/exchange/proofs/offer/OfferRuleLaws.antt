@@ -14,8 +14,8 @@ use Rattle.exchange.specs.declared.state.own_side.DataChannels.{DataChannels}
 use Rattle.exchange.specs.declared.state.own_side.SectionDirection.{SectionDirection}
 use Rattle.exchange.specs.offer.Added.{placed_under}
 use Rattle.exchange.specs.offer.MadeOffer.{MakesOffer, ready_with, sections_added}
-use Rattle.exchange.specs.offer.OfferPlaces.{FillsPlace, FillsPlaces, theirs_at}
-use Rattle.exchange.specs.offer.OfferRules.{HasNewName, IsNewName, IsOffered, KeepsOffered, KeepsPlace, KeepsPlaces}
+use Rattle.exchange.specs.offer.OfferPlaces.{FillsPlace, FillsPlaces, their_section_at}
+use Rattle.exchange.specs.offer.OfferRules.{HasNewName, IsNewName, IsOffered, KeepsOffered, KeepsOfferPlace, KeepsOfferPlaces}
 use Rattle.exchange.specs.offer.OfferSection.{asked_lines, kept_lines, new_section, next_section, offered_channels, offered_media}
 use Rattle.exchange.specs.offer.OfferSection.{section_by, section_for, section_with}
 use Rattle.exchange.specs.offer.Rules.{HasShapeOf}
@@ -78,40 +78,41 @@ all_named P old ready extensions (name ∷ names) (it ∷ more) all =
     (sym (new_section_name old ready extensions (record { mid = name; added = it }))) (All-head P name names all))
     (all_named P old ready extensions names more (All-tail P name names all))
 
-record KeptPlace (old : Exchange) (at : ℕ) (mine said : MediaLine) (left : List MediaLine) : Type 0 where
-  place : KeepsPlace old at mine said
+record KeptOfferPlace (old : Exchange) (at : ℕ) (mine said : MediaLine) (left : List MediaLine) : Type 0 where
+  place : KeepsOfferPlace old at mine said
   later : All (HasNewName old) left
 
-place_kept : (old : Exchange) (ready : List SectionDirection) (at : ℕ) (mine : MediaLine) (added : List MediaLine) (said : MediaLine)
+offer_place_kept : (old : Exchange) (ready : List SectionDirection) (at : ℕ) (mine : MediaLine) (added : List MediaLine) (said : MediaLine)
     (left : List MediaLine)
-    → All (HasNewName old) added → FillsPlace old ready at mine added said left → KeptPlace old at mine said left
-place_kept old ready at mine added said left new (inl (runs, is, same)) =
+    → All (HasNewName old) added → FillsPlace old ready at mine added said left → KeptOfferPlace old at mine said left
+offer_place_kept old ready at mine added said left new (inl (runs, is, same)) =
     record {
-      place = inl (subst (HasShapeOf mine) (sym is) (next_shape old ready (theirs_at old.remote at) mine));
+      place = inl (subst (HasShapeOf mine) (sym is) (next_shape old ready (their_section_at old.remote at) mine));
       later = subst (All (HasNewName old)) (sym same) new;
     }
-place_kept old ready at mine [] said left new (inr (over, is, same)) =
+offer_place_kept old ready at mine [] said left new (inr (over, is, same)) =
     record { place = inl (subst (HasShapeOf mine) (sym is) (rejecting_shape mine)); later = subst (All (HasNewName old)) (sym same) new }
-place_kept old ready at mine (x ∷ xs) said left new (inr (over, is, same)) =
+offer_place_kept old ready at mine (x ∷ xs) said left new (inr (over, is, same)) =
     record {
       place = inr (over, subst (HasNewName old) (sym is) (All-head (HasNewName old) x xs new));
       later = subst (All (HasNewName old)) (sym same) (All-tail (HasNewName old) x xs new);
     }
 
-places_kept : (old : Exchange) (ready : List SectionDirection) (at : ℕ) (ms added filled left : List MediaLine)
-    → All (HasNewName old) added → FillsPlaces old ready at ms added filled left → KeepsPlaces old at ms (filled ++ left)
-places_kept old ready at [] added [] left new fills = tt
-places_kept old ready at [] added (x ∷ filled) left new fills = absurd fills
-places_kept old ready at (m ∷ ms) added [] left new fills = absurd fills
-places_kept old ready at (m ∷ ms) added (x ∷ filled) left new fills =
-    let kept : KeptPlace old at m x fills.0 = place_kept old ready at m added x fills.0 new fills.1 in
-    (kept.place, places_kept old ready (at + 1) ms fills.0 filled left kept.later fills.2)
+offer_places_kept : (old : Exchange) (ready : List SectionDirection) (at : ℕ) (ms added filled left : List MediaLine)
+    → All (HasNewName old) added → FillsPlaces old ready at ms added filled left → KeepsOfferPlaces old at ms (filled ++ left)
+offer_places_kept old ready at [] added [] left new fills = tt
+offer_places_kept old ready at [] added (x ∷ filled) left new fills = absurd fills
+offer_places_kept old ready at (m ∷ ms) added [] left new fills = absurd fills
+offer_places_kept old ready at (m ∷ ms) added (x ∷ filled) left new fills =
+    let kept : KeptOfferPlace old at m x fills.0 = offer_place_kept old ready at m added x fills.0 new fills.1 in
+    (kept.place, offer_places_kept old ready (at + 1) ms fills.0 filled left kept.later fills.2)
 
 pub offer_places : (old : Exchange) (names : List (List ℕ)) (offer : Sdp) → All (IsNewName old) names → MakesOffer old names offer
-    → KeepsPlaces old 0 (sections_of old.local) offer.media_lines
+    → KeepsOfferPlaces old 0 (sections_of old.local) offer.media_lines
 offer_places old names offer new makes =
-    subst (KeepsPlaces old 0 (sections_of old.local)) (sym makes.sections.all)
-    (places_kept old (ready_with old names) 0 (sections_of old.local) (sections_added old names) makes.sections.filled makes.sections.left
+    subst (KeepsOfferPlaces old 0 (sections_of old.local)) (sym makes.sections.all)
+    (offer_places_kept old (ready_with old names) 0 (sections_of old.local) (sections_added old names) makes.sections.filled
+    makes.sections.left
     (all_named (IsNewName old) old (ready_with old names) _ names old.added new) makes.sections.fills)
 
 -- ---- sections with a port
@@ -177,15 +178,15 @@ all_offered old ready extensions (it ∷ more) =
     All-cons (IsOffered old ready) (new_section old ready extensions it) (map (new_section old ready extensions) more)
     (offered_for old ready extensions it.mid it.added) (all_offered old ready extensions more)
 
-abbrev IsAny : MediaLine → Type 0
-IsAny m = Unit {0}
+abbrev IsAnySection : MediaLine → Type 0
+IsAnySection m = Unit {0}
 
 pub offer_rules : (old : Exchange) (names : List (List ℕ)) (offer : Sdp) → MakesOffer old names offer
     → All (IsOffered old (ready_with old names)) offer.media_lines
 offer_rules old names offer makes =
     let ready : List SectionDirection = ready_with old names in
     subst (All (IsOffered old ready)) (sym makes.sections.all)
-    (places_hold (IsOffered old ready) IsAny old ready
+    (places_hold (IsOffered old ready) IsAnySection old ready
     (λ theirs mine any. offered_by old ready theirs mine (name_of mine) mine.typ mine.proto)
     (λ mine any. rejecting_offered old ready mine)
     0 (sections_of old.local) (sections_added old names) makes.sections.filled makes.sections.left

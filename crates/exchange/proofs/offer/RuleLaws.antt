@@ -7,7 +7,7 @@ use Rattle.exchange.proofs.Common.{row_attrs, section_direction, AnswersDirectio
 use Rattle.exchange.proofs.answer.OfferedLaws.{accepted_channels_offered, accepted_media_offered}
 use Rattle.exchange.specs.answer.Accepted.{AcceptsChannels, AcceptsMedia, candidate_line, first_lines, framed, layer_lines, media_lines}
 use Rattle.exchange.specs.answer.Accepted.{msid_lines}
-use Rattle.exchange.specs.answer.AnsweredSection.{AnswersSection, SaysChoice}
+use Rattle.exchange.specs.answer.AnsweredSection.{AnswersSection, SaysSectionChoice}
 use Rattle.exchange.specs.answer.Choice.{IsSectionChoice, choice_by_kind, by_name, channels_or_none, rows_or_none}
 use Rattle.exchange.specs.answer.RejectedSection.{direction_over, first_type, line_that, rejecting}
 use Rattle.exchange.specs.answer.Rows.{answered_rows}
@@ -25,12 +25,12 @@ use Rattle.str0m_values.specs.declared.direction.Direction.TheVariants as way
 -- ---- lists place by place
 
 -- what follows from a relation holds at each place
-pub all_zip_weaker : {A B : Type 0} (R S : A → B → Type 0) → ((x : A) (y : B) → R x y → S x y) → (xs : List A) (ys : List B)
+pub rule_all_zip_weaker : {A B : Type 0} (R S : A → B → Type 0) → ((x : A) (y : B) → R x y → S x y) → (xs : List A) (ys : List B)
     → AllZip R xs ys → AllZip S xs ys
-all_zip_weaker R S weaker [] [] zip = zip
-all_zip_weaker R S weaker [] (y ∷ ys) zip = zip
-all_zip_weaker R S weaker (x ∷ xs) [] zip = zip
-all_zip_weaker R S weaker (x ∷ xs) (y ∷ ys) zip = (weaker x y zip.0, all_zip_weaker R S weaker xs ys zip.1)
+rule_all_zip_weaker R S weaker [] [] zip = zip
+rule_all_zip_weaker R S weaker [] (y ∷ ys) zip = zip
+rule_all_zip_weaker R S weaker (x ∷ xs) [] zip = zip
+rule_all_zip_weaker R S weaker (x ∷ xs) (y ∷ ys) zip = (weaker x y zip.0, rule_all_zip_weaker R S weaker xs ys zip.1)
 
 -- ---- what is chosen
 
@@ -179,8 +179,8 @@ direction_said own mid role way.Inactive behind rows = refl
 
 -- ---- the rules
 
-true_false : (b : Bool) → b ≡ true → b ≡ false → ⊥
-true_false b t f = cc
+rule_true_false : (b : Bool) → b ≡ true → b ≡ false → ⊥
+rule_true_false b t f = cc
 
 rejected_keeps : (own : OwnSide) (ours : List PayloadParams) (offer : Sdp) (offered answered : MediaLine)
     → IsSectionChoice own ours offer offered Rejected
@@ -190,11 +190,11 @@ rejected_keeps own ours offer offered answered is says =
     record {
       shape = subst (HasShapeOf offered) (sym says) (rejecting_shape offered);
       exactly = (
-        λ on. absurd (true_false answered.disabled off on),
+        λ on. absurd (rule_true_false answered.disabled off on),
         λ fits. absurd (not_rejected own (answered_rows ours offered) (name_of offered) offered.typ offered.proto (is.open_so fits.runs)
             fits.named_so fits.answerable),
       );
-      accepted = λ on. absurd (true_false answered.disabled off on);
+      accepted = λ on. absurd (rule_true_false answered.disabled off on);
     }
 
 media_keeps : (own : OwnSide) (ours : List PayloadParams) (offer : Sdp) (offered answered : MediaLine) (mid : List ℕ)
@@ -250,24 +250,26 @@ channels_keep own ours offer offered answered mid channels is accepts =
       );
       accepted = λ on. record {
         reachable = reachable;
-        flows = λ typ. absurd (true_false (is_media offered.typ) typ chosen.no_media);
-        types_are = λ typ. absurd (true_false (is_media offered.typ) typ chosen.no_media);
+        flows = λ typ. absurd (rule_true_false (is_media offered.typ) typ chosen.no_media);
+        types_are = λ typ. absurd (rule_true_false (is_media offered.typ) typ chosen.no_media);
         offered_so = subst (SaysOnlyOffered offered) (sym accepts.says) (accepted_channels_offered own offered mid accepts.role channels);
       };
     }
 
-choice_keeps : (own : OwnSide) (ours : List PayloadParams) (offer : Sdp) (offered answered : MediaLine) (choice : Choice)
-    → IsSectionChoice own ours offer offered choice → SaysChoice own offer offered choice answered
+rule_choice_keeps : (own : OwnSide) (ours : List PayloadParams) (offer : Sdp) (offered answered : MediaLine) (choice : Choice)
+    → IsSectionChoice own ours offer offered choice → SaysSectionChoice own offer offered choice answered
     → KeepsRules own ours offer offered answered
-choice_keeps own ours offer offered answered Rejected is says = rejected_keeps own ours offer offered answered is says
-choice_keeps own ours offer offered answered (Media mid rows) is says = media_keeps own ours offer offered answered mid rows is says
-choice_keeps own ours offer offered answered (Channels mid channels) is says = channels_keep own ours offer offered answered mid channels is
+rule_choice_keeps own ours offer offered answered Rejected is says = rejected_keeps own ours offer offered answered is says
+rule_choice_keeps own ours offer offered answered (Media mid rows) is says = media_keeps own ours offer offered answered mid rows is says
+rule_choice_keeps own ours offer offered answered (Channels mid channels) is says = channels_keep own ours offer offered answered mid
+    channels is
     says
 
 pub section_keeps_rules : (own : OwnSide) (ours : List PayloadParams) (offer : Sdp) (offered answered : MediaLine)
     → AnswersSection own ours offer offered answered
     → KeepsRules own ours offer offered answered
-section_keeps_rules own ours offer offered answered answers = choice_keeps own ours offer offered answered answers.choice answers.is_choice
+section_keeps_rules own ours offer offered answered answers = rule_choice_keeps own ours offer offered answered answers.choice
+    answers.is_choice
     answers.says
 
 -- each section keeps them
@@ -275,19 +277,19 @@ pub sections_keep : (own : OwnSide) (ours : List PayloadParams) (offer : Sdp) (a
     → AllZip (AnswersSection own ours offer) offer.media_lines answered
     → AllZip (KeepsRules own ours offer) offer.media_lines answered
 sections_keep own ours offer answered answers =
-    all_zip_weaker (AnswersSection own ours offer) (KeepsRules own ours offer)
+    rule_all_zip_weaker (AnswersSection own ours offer) (KeepsRules own ours offer)
     (λ theirs said. section_keeps_rules own ours offer theirs said) offer.media_lines answered answers
 
 pub sections_shape : (own : OwnSide) (ours : List PayloadParams) (offer : Sdp) (answered : List MediaLine)
     → AllZip (AnswersSection own ours offer) offer.media_lines answered
     → AllZip HasShapeOf offer.media_lines answered
 sections_shape own ours offer answered answers =
-    all_zip_weaker (AnswersSection own ours offer) HasShapeOf
+    rule_all_zip_weaker (AnswersSection own ours offer) HasShapeOf
     (λ theirs said each. (section_keeps_rules own ours offer theirs said each).shape) offer.media_lines answered answers
 
 pub sections_exact : (own : OwnSide) (ours : List PayloadParams) (offer : Sdp) (answered : List MediaLine)
     → AllZip (AnswersSection own ours offer) offer.media_lines answered
     → AllZip (IsAcceptedExactly own ours offer) offer.media_lines answered
 sections_exact own ours offer answered answers =
-    all_zip_weaker (AnswersSection own ours offer) (IsAcceptedExactly own ours offer)
+    rule_all_zip_weaker (AnswersSection own ours offer) (IsAcceptedExactly own ours offer)
     (λ theirs said each. (section_keeps_rules own ours offer theirs said each).exactly) offer.media_lines answered answers

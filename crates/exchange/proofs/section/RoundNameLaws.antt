@@ -1,6 +1,6 @@
 -- One name for each outcome of a text's rounds.
 use Rattle.exchange.proofs.Common.{◌≡◌, suc, Bool, true, false, cond, List, [], ◌∷◌, Some, None, filter, filter_map, length, map, refl, sym}
-use Rattle.exchange.proofs.Common.{ap, ◌∙◌, cons_option, Round, PayloadParams, Outcome, Reached, is_media, MediaLine, Sdp}
+use Rattle.exchange.proofs.Common.{ap, ◌∙◌, cons_option, Round, PayloadParams, Outcome, RunReached, is_media, MediaLine, Sdp}
 use Rattle.exchange.proofs.Common.{section_direction, rows, Negotiated}
 use Rattle.exchange.specs.section.RoundNames.{has_round, negotiated_names}
 use Rattle.exchange.specs.section.Stopped.{name_of}
@@ -21,15 +21,16 @@ as_many_brought [] = refl
 as_many_brought (round ∷ rounds) = ap suc (as_many_brought rounds)
 
 ended : (before : List PayloadParams) (rounds : List Round) (outcomes : List Outcome) (after : List PayloadParams)
-    → Reached before rounds outcomes after
+    → RunReached before rounds outcomes after
     → length rounds ≡ length outcomes
 ended before [] [] after reached = refl
 ended before (round ∷ rounds) (outcome ∷ outcomes) after reached = ap suc (ended reached.0 rounds outcomes after reached.2)
 ended before [] (outcome ∷ outcomes) after reached = absurd reached
 ended before (round ∷ rounds) [] after reached = absurd reached
 
-pub one_each : (sdp : Sdp) (before after : List PayloadParams) (outcomes : List Outcome) → Negotiated sdp.media_lines before outcomes after
+pub one_name_each : (sdp : Sdp) (before after : List PayloadParams) (outcomes : List Outcome)
+    → Negotiated sdp.media_lines before outcomes after
     → length (negotiated_names sdp) ≡ length outcomes
-one_each sdp before after outcomes negotiated =
+one_name_each sdp before after outcomes negotiated =
     as_many_named sdp.media_lines ∙ sym (ap length negotiated.rounds_are) ∙ as_many_brought negotiated.rounds
     ∙ ended before negotiated.rounds outcomes after negotiated.reached

@@ -26,11 +26,11 @@ read_so said text read rest (Some whole) reading one (same, none_left, alike) = 
 )
 
 -- where it is, it is alike
-pub alike_so : (said read : Sdp) (rest : List ℕ) (found : Option Sdp)
+pub read_back_alike_so : (said read : Sdp) (rest : List ℕ) (found : Option Sdp)
     → MatchOption found ((rest ≡ []) × IsWholeReadAs said read → ⊥) (λ whole. (whole ≡ read) × (rest ≡ []) × IsWholeReadAs said read)
     → IfSome found (IsWholeReadAs said)
-alike_so said read rest None lost = tt
-alike_so said read rest (Some whole) (same, none_left, alike) = subst (λ (other : Sdp). IsWholeReadAs said other) (sym same) alike
+read_back_alike_so said read rest None lost = tt
+read_back_alike_so said read rest (Some whole) (same, none_left, alike) = subst (λ (other : Sdp). IsWholeReadAs said other) (sym same) alike
 
 -- a text that is refused has none
 pub refused_so : {E : Type 0} (said : Sdp) (text : List ℕ) (error : SdpError) (r : Result (Option Sdp) E) → Refuses error (Reading text)
@@ -52,9 +52,9 @@ pub found_back : (said : Sdp) (text : List ℕ) (found : Option Sdp) (read : Sdp
 found_back said text found read is told = subst (TellsReading said text) is told
 
 -- and alike
-pub found_alike : (said : Sdp) (found : Option Sdp) (read : Sdp) → found ≡ Some read → IfSome found (IsWholeReadAs said)
+pub read_back_found_alike : (said : Sdp) (found : Option Sdp) (read : Sdp) → found ≡ Some read → IfSome found (IsWholeReadAs said)
     → IsWholeReadAs said read
-found_alike said found read is alike = subst (λ (o : Option Sdp). IfSome o (IsWholeReadAs said)) is alike
+read_back_found_alike said found read is alike = subst (λ (o : Option Sdp). IfSome o (IsWholeReadAs said)) is alike
 
 -- a copy that was found is what was said, and is read back
 pub copied : (said : Sdp) (text : List ℕ) (found : Option Sdp) (copy : Sdp) → found ≡ Some copy

@@ -12,9 +12,9 @@ abbrev pub accepted_names : List MediaLine → List Bool → List (List ℕ)
 accepted_names sections accepted = filter_map name_if_accepted (zip sections accepted)
 
 -- the names of a group that are those of accepted sections, in the group's order; none where there is no group
-abbrev pub listed_among : List (List ℕ) → Option (List (List ℕ)) → List (List ℕ)
-listed_among names None = []
-listed_among names (Some group) = filter (λ mid. is_listed names (Some mid)) group
+abbrev pub answered_bundle_among : List (List ℕ) → Option (List (List ℕ)) → List (List ℕ)
+answered_bundle_among names None = []
+answered_bundle_among names (Some group) = filter (λ mid. is_listed names (Some mid)) group
 
 abbrev pub answered_bundle : Sdp → List Bool → List (List ℕ)
-answered_bundle offer accepted = listed_among (accepted_names offer.media_lines accepted) (bundle_group offer)
+answered_bundle offer accepted = answered_bundle_among (accepted_names offer.media_lines accepted) (bundle_group offer)

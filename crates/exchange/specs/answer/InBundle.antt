@@ -22,10 +22,10 @@ is_tagged names m = is_same_name (first names) (name_of m)
 abbrev pub tagged_section : Sdp → Option MediaLine
 tagged_section sdp = find (is_tagged (bundle_names sdp)) sdp.media_lines
 
-abbrev pub is_so_of : (MediaLine → Bool) → Option MediaLine → Bool
-is_so_of test None = false
-is_so_of test (Some m) = test m
+abbrev pub is_so_of_tagged : (MediaLine → Bool) → Option MediaLine → Bool
+is_so_of_tagged test None = false
+is_so_of_tagged test (Some m) = test m
 
 -- what is so of a section, or of the one whose transport it shares (RFC 9143, section 7.1.3)
-abbrev pub is_so_for : (MediaLine → Bool) → Sdp → MediaLine → Bool
-is_so_for test sdp m = test m || (is_listed (bundle_names sdp) (name_of m) && is_so_of test (tagged_section sdp))
+abbrev pub is_so_in_bundle : (MediaLine → Bool) → Sdp → MediaLine → Bool
+is_so_in_bundle test sdp m = test m || (is_listed (bundle_names sdp) (name_of m) && is_so_of_tagged test (tagged_section sdp))

@@ -26,13 +26,13 @@ abbrev pub types_left : List PayloadParams → List ℕ → List ℕ
 types_left rows pts = filter (is_type_of rows) pts
 
 -- a rid line that lists no types allows any; one whose types are all gone is removed
-abbrev pub is_left : List PayloadParams → List ℕ → Bool
-is_left rows pts = length pts == 0 || list_any (is_type_of rows) pts
+abbrev pub is_rid_left : List PayloadParams → List ℕ → Bool
+is_rid_left rows pts = length pts == 0 || list_any (is_type_of rows) pts
 
 -- the rid line of a layer that is sent, turned round: received here, under the types that are left
 abbrev pub answered_rid : List SimulcastLayer → List PayloadParams → MediaAttribute → Option MediaAttribute
 answered_rid sent rows (Rid id direction pts restrictions) =
-    if bytes_eq direction (codes "send") && (list_any (is_named id.0) sent && is_left rows pts)
+    if bytes_eq direction (codes "send") && (list_any (is_named id.0) sent && is_rid_left rows pts)
     then Some (Rid id (codes "recv") (types_left rows pts) restrictions) else None
 answered_rid sent rows _ = None
 
@@ -69,7 +69,7 @@ pub record IsTurnedRid (rows : List PayloadParams) (offered : MediaLine) (line :
   pub restrictions : List (List ℕ × List ℕ)
   pub offered_so : Contains offered.attrs (Rid id (codes "send") pts restrictions)
   pub named : list_any (is_named id.0) (sent_layers offered) ≡ true
-  pub left : is_left rows pts ≡ true
+  pub left : is_rid_left rows pts ≡ true
   pub said : line ≡ Rid id (codes "recv") (types_left rows pts) restrictions
 
 -- a line of layers that the offer sends, received
@@ -79,5 +79,5 @@ pub record IsTurnedLayers (offered : MediaLine) (line : MediaAttribute) : Type 0
   pub offered_so : All (Contains (sent_layers offered)) received
   pub said : line ≡ Simulcast (record { send = record { 0 = [] }; recv = record { 0 = received }; is_munged = false })
 
-abbrev pub IsTurned : List PayloadParams → MediaLine → MediaAttribute → Type 0
-IsTurned rows offered line = IsTurnedRid rows offered line ⊎ IsTurnedLayers offered line
+abbrev pub IsTurnedLine : List PayloadParams → MediaLine → MediaAttribute → Type 0
+IsTurnedLine rows offered line = IsTurnedRid rows offered line ⊎ IsTurnedLayers offered line

@@ -1,5 +1,5 @@
 -- Offers that are read whole, and their rounds.
-use Rattle.exchange.specs.Prelude.{IsReading, Line, Lines, MediaLine, Outcome, PayloadParams, Reached, Reading, Refuses, RunPromises, Sdp, is_media, rows, section_direction}
+use Rattle.exchange.specs.Prelude.{IsReading, Line, Lines, MediaLine, Outcome, PayloadParams, RunReached, Reading, Refuses, RunPromises, Sdp, is_media, rows, section_direction}
 use Rattle.exchange.specs.declared.state.exchange_error.ExchangeError.{ExchangeError}
 use Rattle.exchange.specs.declared.state.exchange_error.ExchangeError.TheVariants.{NotRead, Unread, WrongState, DoesNotFit, NoRows, NoChannels, NoName, NotPrintable, Memory}
 use Rattle.exchange.specs.section.Stopped.{IsStopped}
@@ -55,5 +55,5 @@ pub record NegotiatesOffer (offer : Sdp) (before after : List PayloadParams) : T
   pub rounds : List Round
   pub rounds_are : AreOfferRounds offer offer.media_lines rounds
   pub outcomes : List Outcome
-  pub reached : Reached before rounds outcomes after
+  pub reached : RunReached before rounds outcomes after
   pub promises : RunPromises before rounds outcomes after

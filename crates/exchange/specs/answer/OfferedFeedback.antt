@@ -52,5 +52,5 @@ pub record IsGathered (attrs : List MediaAttribute) (of_types : List OfferedFeed
   pub whole : length of_types ≡ 256
   pub each : (pt : ℕ) → pt < 256 → either_offered (get_or of_types pt none_offered) of_all ≡ offered_feedback attrs pt
 
-abbrev pub TellsOf : MediaLine → SectionFeedback → Type 0
-TellsOf section feedback = IsGathered section.attrs feedback.of_types feedback.of_all
+abbrev pub TellsFeedbackOf : MediaLine → SectionFeedback → Type 0
+TellsFeedbackOf section feedback = IsGathered section.attrs feedback.of_types feedback.of_all

@@ -11,9 +11,9 @@ first_type [] = 0
 first_type (pt ∷ pts) = pt
 
 -- that type alone; none for a data channel, whose m-line lists no types (RFC 8841, section 4.3)
-abbrev pub listed_alone : MediaType → List ℕ → List ℕ
-listed_alone Application pts = []
-listed_alone _ pts = first_type pts ∷ []
+abbrev pub rejected_type_alone : MediaType → List ℕ → List ℕ
+rejected_type_alone Application pts = []
+rejected_type_alone _ pts = first_type pts ∷ []
 
 -- over Srtp a section has a direction (RFC 8866, section 6.7)
 abbrev pub direction_over : Proto → List MediaAttribute
@@ -30,7 +30,7 @@ rejecting offered = record {
   typ = offered.typ;
   disabled = true;
   proto = offered.proto;
-  pts = listed_alone offered.typ offered.pts;
+  pts = rejected_type_alone offered.typ offered.pts;
   bw = None;
   attrs = line_that is_mid offered.attrs ++ (direction_over offered.proto ++ line_that (maps (first_type offered.pts)) offered.attrs);
 }

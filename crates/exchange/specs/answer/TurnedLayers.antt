@@ -31,10 +31,10 @@ abbrev pub layers_received : MediaLine → List SimulcastLayer
 layers_received m = received_by (last (filter_map simulcast_of m.attrs))
 
 -- each layer has the name of one of the others
-abbrev pub AreAmong : List SimulcastLayer → List SimulcastLayer → Type 0
-AreAmong others layers = All (λ layer. list_any (is_named layer.restriction_id.0) others ≡ true) layers
+abbrev pub AreLayersAmong : List SimulcastLayer → List SimulcastLayer → Type 0
+AreLayersAmong others layers = All (λ layer. list_any (is_named layer.restriction_id.0) others ≡ true) layers
 
 pub record TurnsLayers (offered answered : MediaLine) : Type 0 where
   pub rids : All (λ line. is_turned offered.attrs line ≡ true) answered.attrs
-  pub sent : AreAmong (layers_received offered) (sent_layers answered)
-  pub received : AreAmong (sent_layers offered) (layers_received answered)
+  pub sent : AreLayersAmong (layers_received offered) (sent_layers answered)
+  pub received : AreLayersAmong (sent_layers offered) (layers_received answered)

@@ -1,5 +1,5 @@
 -- Answers to an offer of this side.
-use Rattle.exchange.specs.Prelude.{AllDistinct, IsPlain, LockedStay, PayloadParams, Reading, Sdp, types}
+use Rattle.exchange.specs.Prelude.{AllTypesDistinct, IsPlain, LockedStay, PayloadParams, Reading, Sdp, types}
 use Rattle.exchange.specs.answer.Offered.{NegotiatesOffer, RefusesText}
 use Rattle.exchange.specs.declared.offer.added.Placed.{Placed}
 use Rattle.exchange.specs.declared.offer.pending.Pending.{Pending}
@@ -54,13 +54,13 @@ RefusesAnswer old text NotPrintable = ⊥
 RefusesAnswer old text Memory = Unit {0}
 
 -- the text is an answer that fits the open offer, and its rounds lead to this configuration
-pub record IsTakenWith (old : Exchange) (text : List ℕ) (answer : Sdp) (after : CodecConfig) : Type 0 where
+pub record IsAnswerTakenWith (old : Exchange) (text : List ℕ) (answer : Sdp) (after : CodecConfig) : Type 0 where
   pub offer : Pending
   pub open_so : old.pending ≡ Some offer
   pub read : IsAnswer text answer
   pub fits : FitsOffer after.params.items offer.sdp answer
   pub negotiated : NegotiatesOffer answer old.config.params.items after.params.items
   pub stay : LockedStay old.config.params.items after.params.items
-  pub distinct : AllDistinct (types old.config.params.items) → AllDistinct (types after.params.items)
+  pub distinct : AllTypesDistinct (types old.config.params.items) → AllTypesDistinct (types after.params.items)
   pub plain : All IsPlain old.config.params.items → All IsPlain after.params.items
   pub distances : after.red_distances ≡ old.config.red_distances

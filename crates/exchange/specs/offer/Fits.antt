@@ -1,7 +1,7 @@
 -- The rules that an answer to an offer of this side keeps.
 use Rattle.exchange.specs.Prelude.{Direction, MediaLine, PayloadParams, Sdp, is_listed, is_media, receives, section_direction, sends}
 use Rattle.exchange.specs.answer.Accepted.{setup_in_force}
-use Rattle.exchange.specs.answer.InBundle.{bundle_names, is_so_for}
+use Rattle.exchange.specs.answer.InBundle.{bundle_names, is_so_in_bundle}
 use Rattle.exchange.specs.answer.Rows.{answered_rows}
 use Rattle.exchange.specs.answer.TurnedLayers.{TurnsLayers}
 use Rattle.exchange.specs.declared.offer.rule.Rule.{Rule}
@@ -20,8 +20,8 @@ pub record FlowsWithin (offered answered : Direction) : Type 0 where
   pub receiving : receives answered ≡ true → sends offered ≡ true
 
 -- where a section is accepted, by its port (RFC 3264, section 6)
-abbrev pub IfAccepted : MediaLine → Type 0 → Type 0
-IfAccepted answered Holds = answered.disabled ≡ false → Holds
+abbrev pub FitsIfAccepted : MediaLine → Type 0 → Type 0
+FitsIfAccepted answered Holds = answered.disabled ≡ false → Holds
 
 -- what each rule asks of a section, where `ours` are this side's rows after the rounds of the answer
 abbrev pub Keeps : List PayloadParams → Sdp → MediaLine → MediaLine → Rule → Type 0
@@ -30,14 +30,14 @@ Keeps ours answer offered answered rule.Protocol = answered.proto ≡ offered.pr
 Keeps ours answer offered answered rule.Name = name_of answered ≡ name_of offered
 Keeps ours answer offered answered rule.Stopped = offered.disabled ≡ true → answered.disabled ≡ true
 Keeps ours answer offered answered rule.Direction =
-    IfAccepted answered (is_media answered.typ ≡ true → FlowsWithin (section_direction offered.attrs) (section_direction answered.attrs))
+    FitsIfAccepted answered (is_media answered.typ ≡ true → FlowsWithin (section_direction offered.attrs) (section_direction answered.attrs))
 -- none said means active (RFC 4145, section 4.1)
-Keeps ours answer offered answered rule.Role = IfAccepted answered (setup_in_force answer answered ≢ Some ActPass)
-Keeps ours answer offered answered rule.Formats = IfAccepted answered (is_media answered.typ ≡ true → answered_rows ours answered ≢ [])
-Keeps ours answer offered answered rule.Lines = IfAccepted answered (SaysOnlyOffered offered answered)
-Keeps ours answer offered answered rule.Layers = IfAccepted answered (TurnsLayers offered answered)
-Keeps ours answer offered answered rule.Credentials = IfAccepted answered (is_so_for (has_creds answer.session) answer answered ≡ true)
-Keeps ours answer offered answered rule.Fingerprint = IfAccepted answered (is_so_for (has_fingerprint answer.session) answer answered ≡ true)
+Keeps ours answer offered answered rule.Role = FitsIfAccepted answered (setup_in_force answer answered ≢ Some ActPass)
+Keeps ours answer offered answered rule.Formats = FitsIfAccepted answered (is_media answered.typ ≡ true → answered_rows ours answered ≢ [])
+Keeps ours answer offered answered rule.Lines = FitsIfAccepted answered (SaysOnlyOffered offered answered)
+Keeps ours answer offered answered rule.Layers = FitsIfAccepted answered (TurnsLayers offered answered)
+Keeps ours answer offered answered rule.Credentials = FitsIfAccepted answered (is_so_in_bundle (has_creds answer.session) answer answered ≡ true)
+Keeps ours answer offered answered rule.Fingerprint = FitsIfAccepted answered (is_so_in_bundle (has_fingerprint answer.session) answer answered ≡ true)
 -- those of the whole answer and of later offers ask nothing of a section by itself
 Keeps ours answer offered answered rule.Sections = Unit {0}
 Keeps ours answer offered answered rule.Bundle = Unit {0}

@@ -3,19 +3,19 @@ use Rattle.exchange.specs.Prelude.{is_listed}
 use Rattle.std.specs.Prelude.{◌≡◌, ◌≤◌, ◌<◌, ◌+◌, ◌^◌, ℕ, Bool, true, false, List, [], ◌∷◌, Some, decimal, length}
 
 -- whether the number is one of these names
-abbrev pub is_taken : List (List ℕ) → ℕ → Bool
-is_taken names n = is_listed names (Some (decimal n))
+abbrev pub is_number_taken : List (List ℕ) → ℕ → Bool
+is_number_taken names n = is_listed names (Some (decimal n))
 
 -- the least number of 32 bits that is none, from one on
 pub record IsNextFree (names : List (List ℕ)) (from n : ℕ) : Type 0 where
   pub behind : from ≤ n
   pub bounded : n < 2 ^ 32
-  pub free : is_taken names n ≡ false
-  pub least : (k : ℕ) → from ≤ k → k < n → is_taken names k ≡ true
+  pub free : is_number_taken names n ≡ false
+  pub least : (k : ℕ) → from ≤ k → k < n → is_number_taken names k ≡ true
 
 -- there is none
-abbrev pub AreAllTaken : List (List ℕ) → ℕ → Type 0
-AreAllTaken names from = (k : ℕ) → from ≤ k → k < 2 ^ 32 → is_taken names k ≡ true
+abbrev pub AreAllNumbersTaken : List (List ℕ) → ℕ → Type 0
+AreAllNumbersTaken names from = (k : ℕ) → from ≤ k → k < 2 ^ 32 → is_number_taken names k ≡ true
 
 -- the next free numbers, from one to another
 abbrev pub AreFresh : List (List ℕ) → ℕ → List (List ℕ) → ℕ → Type 0
@@ -28,4 +28,4 @@ pub record AreTooFew (names : List (List ℕ)) (count : ℕ) : Type 0 where
   pub to : ℕ
   pub are_fresh : AreFresh names 0 fresh to
   pub fewer : length fresh < count
-  pub none_left : AreAllTaken names to
+  pub none_left : AreAllNumbersTaken names to

@@ -7,7 +7,7 @@ use Rattle.exchange.specs.declared.state.exchange.Exchange.{Exchange}
 use Rattle.exchange.specs.declared.state.own_side.SectionDirection.{SectionDirection}
 use Rattle.exchange.specs.offer.Added.{placed_under, with_placed}
 use Rattle.exchange.specs.offer.OfferExtensions.{extension_lines}
-use Rattle.exchange.specs.offer.OfferPlaces.{FillsAll}
+use Rattle.exchange.specs.offer.OfferPlaces.{FillsAllPlaces}
 use Rattle.exchange.specs.offer.OfferSection.{new_section}
 use Rattle.exchange.specs.state.State.{sections_of, session_of}
 use Rattle.std.specs.Prelude.{◌≡◌, ℕ, List, ◌++◌, None, map}
@@ -39,5 +39,5 @@ offer_session old sections = record {
 
 -- the description offers what was added, under these names, and what goes on of the last exchange
 pub record MakesOffer (old : Exchange) (names : List (List ℕ)) (offer : Sdp) : Type 0 where
-  pub sections : FillsAll old (ready_with old names) (sections_of old.local) (sections_added old names) offer.media_lines
+  pub sections : FillsAllPlaces old (ready_with old names) (sections_of old.local) (sections_added old names) offer.media_lines
   pub session : offer.session ≡ offer_session old offer.media_lines

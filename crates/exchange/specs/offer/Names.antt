@@ -8,5 +8,5 @@ abbrev pub new_name : List (List ℕ) → MediaLine → Option (List ℕ)
 new_name names m = cond (is_listed names (name_of m)) None (name_of m)
 
 -- the names with those of sections that are new, after them and in order
-abbrev pub grown : List (List ℕ) → List MediaLine → List (List ℕ)
-grown names sections = names ++ filter_map (new_name names) sections
+abbrev pub grown_names : List (List ℕ) → List MediaLine → List (List ℕ)
+grown_names names sections = names ++ filter_map (new_name names) sections

@@ -75,15 +75,15 @@ abbrev pub is_extension : ℕ → List ℕ → MediaAttribute → Bool
 is_extension number uri (media.ExtMap id ext) = id == number && bytes_eq ext.uri uri
 is_extension number uri _ = false
 
-abbrev pub is_same : MediaAttribute → MediaAttribute → Bool
-is_same media.RtcpMux other = is_mux other
-is_same media.RtcpRsize other = is_rsize other
-is_same (media.ExtMap id ext) other = is_extension id ext.uri other
-is_same _ other = false
+abbrev pub is_same_shared_line : MediaAttribute → MediaAttribute → Bool
+is_same_shared_line media.RtcpMux other = is_mux other
+is_same_shared_line media.RtcpRsize other = is_rsize other
+is_same_shared_line (media.ExtMap id ext) other = is_extension id ext.uri other
+is_same_shared_line _ other = false
 
-abbrev pub is_said : Option MediaLine → MediaAttribute → Bool
-is_said None line = false
-is_said (Some theirs) line = list_any (is_same line) theirs.attrs
+abbrev pub is_said_by_theirs : Option MediaLine → MediaAttribute → Bool
+is_said_by_theirs None line = false
+is_said_by_theirs (Some theirs) line = list_any (is_same_shared_line line) theirs.attrs
 
 -- those that this side says alone: its layers (RFC 8851; RFC 8853), and that extensions of both lengths may be mixed (RFC 8285,
 -- section 6)
@@ -94,11 +94,11 @@ is_own (media.Unused text) = bytes_eq text EXTMAP_ALLOW_MIXED.now
 is_own _ = false
 
 -- what this side said last and goes on saying: of what both have to say, what both said
-abbrev pub is_said_again : Option MediaLine → MediaAttribute → Bool
-is_said_again theirs line = is_said theirs line || is_own line
+abbrev pub is_line_said_again : Option MediaLine → MediaAttribute → Bool
+is_line_said_again theirs line = is_said_by_theirs theirs line || is_own line
 
 abbrev pub kept_lines : Option MediaLine → MediaLine → List MediaAttribute
-kept_lines theirs mine = filter (is_said_again theirs) mine.attrs
+kept_lines theirs mine = filter (is_line_said_again theirs) mine.attrs
 
 -- by its name, its type and its protocol, which stay (RFC 3264, section 8; RFC 8829, section 5.2.2)
 abbrev pub section_by : Exchange → List SectionDirection → Option MediaLine → MediaLine → Option (List ℕ) → MediaType → Proto → MediaLine

@@ -1,5 +1,5 @@
 -- What an exchange of offers and answers comes to.
-use Rattle.exchange.specs.Prelude.{AreDistinct, MediaKind, MediaLine, PayloadParams, Sdp, kind_rows, section_mids, versioned_text}
+use Rattle.exchange.specs.Prelude.{AreMidsDistinct, MediaKind, MediaLine, PayloadParams, Sdp, kind_rows, section_mids, versioned_text}
 use Rattle.exchange.specs.answer.AnsweredSection.{AnswersSection}
 use Rattle.exchange.specs.answer.AnsweredSession.{answered_session}
 use Rattle.exchange.specs.answer.Offered.{IsOffer, NegotiatesOffer, RefusesText}
@@ -13,7 +13,7 @@ use Rattle.exchange.specs.declared.state.signaling_state.SignalingState.TheVaria
 use Rattle.exchange.specs.offer.FreshNames.{AreFresh, AreTooFew}
 use Rattle.exchange.specs.offer.MadeOffer.{MakesOffer}
 use Rattle.exchange.specs.offer.OwnNames.{IsNamedAgain}
-use Rattle.exchange.specs.section.Places.{MovesAt}
+use Rattle.exchange.specs.section.Places.{MovesPlaceAt}
 use Rattle.exchange.specs.state.ReadBack.{IsReadBack}
 use Rattle.exchange.specs.state.State.{sections_of, state_of, taken_names}
 use Rattle.std.specs.List.{AllZip}
@@ -52,8 +52,8 @@ pub record IsUnprintable (old : Exchange) (text : List ℕ) : Type 0 where
 -- and it isn't in its place after the last exchange
 abbrev pub OfferBreaksAt : List (List ℕ) → List MediaLine → Option Sdp → Sdp → ℕ → Rule → Type 0
 OfferBreaksAt names local remote offer section OwnName = IsNamedAgain offer.media_lines section
-OfferBreaksAt names local remote offer section Place = AreDistinct (section_mids offer.media_lines)
-    × MovesAt names local remote offer section
+OfferBreaksAt names local remote offer section Place = AreMidsDistinct (section_mids offer.media_lines)
+    × MovesPlaceAt names local remote offer section
 OfferBreaksAt names local remote offer section _ = ⊥
 
 -- why the sections of an offer aren't taken

@@ -9,7 +9,10 @@ use std::alloc::{AllocError, Global};
 use str0m_signal::{Items, MediaLine, Mid, Sdp, Session, SessionAttribute, Text};
 
 /// Whether each section is accepted.
-pub(crate) fn are_accepted(alloc: Global, sections: &[MediaLine]) -> Result<Vec<bool>, AllocError>
+pub(crate) fn session_sections_accepted(
+    alloc: Global,
+    sections: &[MediaLine],
+) -> Result<Vec<bool>, AllocError>
     ensures { IfOk result (λ accepted. accepted.items ≡ map is_accepted sections.now) }
 {
     let mut accepted = Vec::new(alloc);
@@ -69,7 +72,7 @@ pub(crate) fn answered_session(
 ) -> Result<Session, AllocError>
     ensures { IfOk result (λ session. session ≡ answered_session own.now offer.now sections.now) }
 {
-    let accepted = are_accepted(alloc, sections)?;
+    let accepted = session_sections_accepted(alloc, sections)?;
     let mids = answered_bundle(alloc, offer, accepted.as_slice())?;
     let mut attrs = group_lines(alloc, mids)?;
     attrs.append(&mut mixed_lines(alloc, offer.session.attrs.as_slice())?)?;

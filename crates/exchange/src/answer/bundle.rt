@@ -1,10 +1,10 @@
 //! The names that the group of an answer lists.
 
-ghost use Rattle.exchange.specs.Prelude.{Holds, is_listed};
-ghost use Rattle.exchange.specs.answer.Bundle.{accepted_names, answered_bundle, listed_among, name_if_accepted};
+ghost use Rattle.exchange.specs.Prelude.{HoldsMids, is_listed};
+ghost use Rattle.exchange.specs.answer.Bundle.{accepted_names, answered_bundle, answered_bundle_among, name_if_accepted};
 ghost use Rattle.std.specs.Prelude.{◌≡◌, IfOk, Some};
 
-use crate::offer::names::{is_held, ordered};
+use crate::offer::names::{is_held, ordered_names};
 use crate::section::stopped::name_of;
 use std::alloc::{AllocError, Global};
 use std::collections::BTreeSet;
@@ -41,17 +41,21 @@ pub(crate) fn accepted_names(
 
 /// Whether a name is among others, which `listed` has in order.
 fn is_listed(names: &[Mid], listed: &BTreeSet<&str>, mid: Mid) -> bool
-    requires { Holds listed.now names.now }
+    requires { HoldsMids listed.now names.now }
     ensures { result ≡ is_listed names.now (Some mid) }
 {
     is_held(listed, Some(mid))
 }
 
 /// The names of a group that are among others, in the group's order.
-fn listed_among(alloc: Global, names: &[Mid], group: &[Mid]) -> Result<Vec<Mid>, AllocError>
-    ensures { IfOk result (λ mids. mids.items ≡ listed_among names.now (Some group.now)) }
+fn answered_bundle_among(
+    alloc: Global,
+    names: &[Mid],
+    group: &[Mid],
+) -> Result<Vec<Mid>, AllocError>
+    ensures { IfOk result (λ mids. mids.items ≡ answered_bundle_among names.now (Some group.now)) }
 {
-    let listed = ordered(alloc, names)?;
+    let listed = ordered_names(alloc, names)?;
     let mut mids = Vec::new(alloc);
     for mid in group {
         if is_listed(names, &listed, *mid) {
@@ -76,6 +80,6 @@ pub fn answered_bundle(
         return Ok(Items::empty(alloc));
     };
     let names = accepted_names(alloc, offer.media_lines.as_slice(), accepted)?;
-    let mids = listed_among(alloc, names.as_slice(), group)?;
+    let mids = answered_bundle_among(alloc, names.as_slice(), group)?;
     Ok(Items::from(mids))
 }

@@ -1,5 +1,5 @@
 //! What a section is answered with.
-ghost use Rattle.exchange.specs.Prelude.{Holds, is_media, rows};
+ghost use Rattle.exchange.specs.Prelude.{HoldsMids, is_media, rows};
 ghost use Rattle.exchange.specs.answer.Choice.{IsSectionChoice, channels_or_none, open_choice, rows_or_none};
 ghost use Rattle.exchange.specs.answer.InBundle.{bundle_names};
 ghost use Rattle.exchange.specs.answer.Offered.{BringsRound};
@@ -83,7 +83,7 @@ pub(crate) fn choice_of(
     section: &MediaLine,
     theirs: &[PayloadParams],
 ) -> Result<Choice, AllocError>
-    requires group { Holds group.now (bundle_names offer.now) }
+    requires group { HoldsMids group.now (bundle_names offer.now) }
     requires rows { BringsRound offer.now section.now → theirs.now ≡ rows section.now }
     ensures { IfOk result (IsSectionChoice own.now config.now.params.items offer.now section.now) }
 {

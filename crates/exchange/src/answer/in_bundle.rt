@@ -1,9 +1,9 @@
 //! Sections that share the transport of a bundle.
-ghost use Rattle.exchange.specs.Prelude.{Holds};
+ghost use Rattle.exchange.specs.Prelude.{HoldsMids};
 ghost use Rattle.exchange.specs.answer.InBundle.{bundle_names, is_same_name, is_tagged, tagged_section};
 ghost use Rattle.std.specs.Prelude.{◌≡◌, IfOk, option_copied};
 
-use crate::offer::names::ordered;
+use crate::offer::names::ordered_names;
 use crate::section::stopped::name_of;
 use std::alloc::{AllocError, Global};
 use std::collections::BTreeSet;
@@ -21,9 +21,9 @@ pub(crate) fn bundle_names(sdp: &Sdp) -> &[Mid]
 
 /// The same in the order of their bytes.
 pub(crate) fn ordered_bundle(alloc: Global, sdp: &Sdp) -> Result<BTreeSet<&str>, AllocError>
-    ensures { IfOk result (λ group. Holds group (bundle_names sdp.now)) }
+    ensures { IfOk result (λ group. HoldsMids group (bundle_names sdp.now)) }
 {
-    ordered(alloc, bundle_names(sdp))
+    ordered_names(alloc, bundle_names(sdp))
 }
 
 fn is_same_name(name: Option<Mid>, other: Option<Mid>) -> bool

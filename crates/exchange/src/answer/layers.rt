@@ -1,6 +1,6 @@
 //! The layers of a stream that is received in several.
 ghost use Rattle.exchange.specs.Prelude.{rid_name_of};
-ghost use Rattle.exchange.specs.answer.Layers.{IsTurned, answered_layers, answered_rid, answered_rids, has_name, is_rid_answered, is_left, is_named, is_type_of, layers_line, received_layers, sent_layers, types_left};
+ghost use Rattle.exchange.specs.answer.Layers.{IsTurnedLine, answered_layers, answered_rid, answered_rids, has_name, is_rid_answered, is_rid_left, is_named, is_type_of, layers_line, received_layers, sent_layers, types_left};
 ghost use Rattle.std.specs.List.{list_any};
 ghost use Rattle.std.specs.Prelude.{◌≡◌, ◌++◌, ◌==◌, ℕ, IfOk, List, OnOk, filter, filter_map, option_to_list, All, []};
 
@@ -51,8 +51,8 @@ fn has_type_of(rows: &[PayloadParams], pts: &[Pt]) -> bool
 }
 
 /// Whether a rid line with these types stays: it lists none, or some of them stand among the rows.
-fn is_left(rows: &[PayloadParams], pts: &[Pt]) -> bool
-    ensures { result ≡ is_left rows.now pts.now }
+fn is_rid_left(rows: &[PayloadParams], pts: &[Pt]) -> bool
+    ensures { result ≡ is_rid_left rows.now pts.now }
 {
     pts.is_empty() || has_type_of(rows, pts)
 }
@@ -86,7 +86,7 @@ fn answered_rid(
             restriction,
         } => {
             let (name, listed) = (id.0.as_str(), pt.as_slice());
-            if direction.as_str() == "send" && is_sent(sent, name) && is_left(rows, listed) {
+            if direction.as_str() == "send" && is_sent(sent, name) && is_rid_left(rows, listed) {
                 Ok(Some(MediaAttribute::Rid {
                     id: id.clone()?,
                     direction: Word("recv"),
@@ -206,7 +206,7 @@ pub fn answered_layers(
     rows: &[PayloadParams],
 ) -> Result<Vec<MediaAttribute>, AllocError>
     ensures exact { IfOk result (λ lines. lines.items ≡ answered_layers rows.now offered.now) }
-    ensures turned { IfOk result (λ lines. All (IsTurned rows.now offered.now) lines.items) }
+    ensures turned { IfOk result (λ lines. All (IsTurnedLine rows.now offered.now) lines.items) }
     ensures none { sent_layers offered.now ≡ [] → IfOk result (λ lines. lines.items ≡ []) }
 {
     let lines = lines_of_layers(alloc, offered, rows)?;

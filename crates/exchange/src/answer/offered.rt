@@ -1,5 +1,5 @@
 //! Offers that are read whole, and their rounds.
-ghost use Rattle.exchange.specs.Prelude.{AllDistinct, HasBoundedRows, Holds, IsFromLine, IsPlain, LockedStay, MediaLine, rows, types};
+ghost use Rattle.exchange.specs.Prelude.{AllTypesDistinct, HasBoundedRows, HoldsMids, IsFromLine, IsPlain, LockedStay, MediaLine, rows, types};
 ghost use Rattle.exchange.specs.answer.InBundle.{bundle_names};
 ghost use Rattle.exchange.specs.answer.Offered.{AreOfferRounds, BringsRound, IsOffer, IsRoundOf, NegotiatesOffer, RefusesText};
 ghost use Rattle.std.specs.Prelude.{◌≡◌, ◌≢◌, ◌==◌, ◌+◌, ◌∷◌, ◌↔◌, [], IfErr, IfOk, IsTrue, List, OnOk, All, count_by, length};
@@ -51,7 +51,7 @@ pub(crate) fn whole_description(alloc: Global, text: &str) -> Result<Sdp, Exchan
 
 /// Whether a section brings a round, where `group` has the names of the offer's group in order.
 fn is_negotiated(group: &BTreeSet<&str>, offer: &Sdp, section: &MediaLine) -> bool
-    requires { Holds group.now (bundle_names offer.now) }
+    requires { HoldsMids group.now (bundle_names offer.now) }
     ensures { IsTrue result ↔ BringsRound offer.now section.now }
 {
     !is_stopped_in(group, offer, section)
@@ -83,7 +83,7 @@ pub(crate) fn rounds_of(alloc: Global, offer: &Sdp) -> Result<Vec<Round>, AllocE
     Ok(rounds)
 }
 
-fn lacked_memory(outcomes: &[Result<(), NegotiationError>]) -> bool {
+fn round_lacked_memory(outcomes: &[Result<(), NegotiationError>]) -> bool {
     outcomes
         .iter()
         .any(|outcome| matches!(outcome, Err(NegotiationError::Memory)))
@@ -97,7 +97,7 @@ pub(crate) fn rows_of_next<'a>(
     section: &MediaLine,
     rounds: &'a [Round],
 ) -> (&'a [PayloadParams], &'a [Round])
-    requires { Holds group.now (bundle_names offer.now) }
+    requires { HoldsMids group.now (bundle_names offer.now) }
     ensures rows { (later : List MediaLine) → AreOfferRounds offer.now (section.now ∷ later) rounds.now → BringsRound offer.now section.now
         → result.0.now ≡ rows section.now }
     ensures later { (later : List MediaLine) → AreOfferRounds offer.now (section.now ∷ later) rounds.now → AreOfferRounds offer.now later result.1.now }
@@ -120,12 +120,12 @@ pub(crate) fn negotiate(
     requires { AreOfferRounds offer.now offer.now.media_lines rounds.now }
     ensures ok { OnOk result (NegotiatesOffer offer.now config.old.params.items config.new.params.items) }
     ensures stay { OnOk result (LockedStay config.old.params.items config.new.params.items) }
-    ensures distinct { AllDistinct (types config.old.params.items) → OnOk result (AllDistinct (types config.new.params.items)) }
+    ensures distinct { AllTypesDistinct (types config.old.params.items) → OnOk result (AllTypesDistinct (types config.new.params.items)) }
     ensures plain { All HasBoundedRows offer.now.media_lines → All IsPlain config.old.params.items → OnOk result (All IsPlain config.new.params.items) }
     ensures else_same { config.new ≡ record config.old { params = config.new.params } }
 {
     let outcomes = config.update_all(rounds)?;
-    if lacked_memory(outcomes.as_slice()) {
+    if round_lacked_memory(outcomes.as_slice()) {
         return Err(AllocError);
     }
     Ok(())

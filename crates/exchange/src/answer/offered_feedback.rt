@@ -1,5 +1,5 @@
 //! The feedback that a section offers for each payload type, by one pass over its lines.
-ghost use Rattle.exchange.specs.answer.OfferedFeedback.{IsGathered, TellsOf, either_offered, named_offered, none_offered, offered_feedback, with_offered, value_for_all};
+ghost use Rattle.exchange.specs.answer.OfferedFeedback.{IsGathered, TellsFeedbackOf, either_offered, named_offered, none_offered, offered_feedback, with_offered, value_for_all};
 ghost use Rattle.std.specs.Prelude.{◌≡◌, ◌<◌, get_or, set, option_copied};
 
 use str0m_sdp::label::{FIR, NACK, PLI, REMB, TRANSPORT_CC};
@@ -122,7 +122,7 @@ fn gathered(attrs: &[MediaAttribute]) -> SectionFeedback
 
 /// What a section offers.
 pub(crate) fn section_feedback(section: &MediaLine) -> SectionFeedback
-    ensures { TellsOf section.now result }
+    ensures { TellsFeedbackOf section.now result }
 {
     gathered(section.attrs.as_slice())
 }
@@ -131,7 +131,7 @@ impl SectionFeedback {
     /// What the section offers for a payload type, by lines of its own or of all types.
     #[tactic(auto, using(crate::proofs::answer::OfferedFeedbackLaws::feedback_told))]
     pub(crate) fn for_type(&self, section: &MediaLine, pt: Pt) -> OfferedFeedback
-        requires { TellsOf section.now self.now }
+        requires { TellsFeedbackOf section.now self.now }
         ensures { result ≡ offered_feedback section.now.attrs pt }
     {
         let own = self.of_types[place(pt)];

@@ -26,7 +26,7 @@ fn has_line(lines: &[MediaAttribute], line: &MediaAttribute) -> bool
     lines.iter().any(|other| is_equal_line(other, line))
 }
 
-fn may_be_said(offered: &[MediaAttribute], line: &MediaAttribute) -> bool
+fn line_may_be_said(offered: &[MediaAttribute], line: &MediaAttribute) -> bool
     ensures { IsTrue result ↔ (needs_offer line.now ≡ true → Contains offered.now line.now) }
 {
     !needs_offer(line) || has_line(offered, line)
@@ -37,5 +37,5 @@ pub(crate) fn says_only_offered(offered: &MediaLine, answered: &MediaLine) -> bo
     ensures { IsTrue result ↔ SaysOnlyOffered offered.now answered.now }
 {
     let (offers, answers) = (offered.attrs.as_slice(), answered.attrs.as_slice());
-    answers.iter().all(|line| may_be_said(offers, line))
+    answers.iter().all(|line| line_may_be_said(offers, line))
 }

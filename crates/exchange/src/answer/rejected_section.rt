@@ -1,6 +1,6 @@
 //! The section that rejects an offered one.
 ghost use Rattle.exchange.specs.Prelude.{Consistent, is_mid, maps};
-ghost use Rattle.exchange.specs.answer.RejectedSection.{direction_over, first_type, line_that, listed_alone, rejecting};
+ghost use Rattle.exchange.specs.answer.RejectedSection.{direction_over, first_type, line_that, rejected_type_alone, rejecting};
 ghost use Rattle.std.specs.Prelude.{◌≡◌, ◌++◌, IfOk, OnOk, find, option_to_list, option_copied};
 
 use std::alloc::{AllocError, Global};
@@ -45,8 +45,8 @@ fn first_type(listed: &[Pt]) -> Pt
 }
 
 /// The payload types that the m-line lists.
-fn listed_alone(alloc: Global, typ: &MediaType, listed: &[Pt]) -> Result<Vec<Pt>, AllocError>
-    ensures { IfOk result (λ alone. alone.items ≡ listed_alone typ.now listed.now) }
+fn rejected_type_alone(alloc: Global, typ: &MediaType, listed: &[Pt]) -> Result<Vec<Pt>, AllocError>
+    ensures { IfOk result (λ alone. alone.items ≡ rejected_type_alone typ.now listed.now) }
 {
     let mut alone = Vec::new(alloc);
     match typ {
@@ -106,7 +106,7 @@ fn rejecting(alloc: Global, offered: &MediaLine) -> Result<MediaLine, AllocError
         typ: offered.typ.clone()?,
         disabled: true,
         proto: offered.proto,
-        pts: Items(listed_alone(alloc, &offered.typ, listed)?),
+        pts: Items(rejected_type_alone(alloc, &offered.typ, listed)?),
         bw: None,
         attrs: Items(attrs),
     })

@@ -1,6 +1,6 @@
 //! The rows that answer a section.
-ghost use Rattle.exchange.specs.Prelude.{AllDistinct, IsPlain, PayloadParams, distinct, has, locked_types, rows, types};
-ghost use Rattle.exchange.specs.answer.OfferedFeedback.{TellsOf};
+ghost use Rattle.exchange.specs.Prelude.{AllTypesDistinct, IsPlain, PayloadParams, distinct, has, locked_types, rows, types};
+ghost use Rattle.exchange.specs.answer.OfferedFeedback.{TellsFeedbackOf};
 ghost use Rattle.exchange.specs.answer.Rows.{IsAgreed, Belongs, KeepsPlain, SaysWhatIsOffered, agreed_type, as_answered, is_answered, is_carried_in, matches, answer_to, answer_under, answered_rows, own_types};
 ghost use Rattle.std.specs.Prelude.{◌≡◌, ◌==◌, ◌++◌, ◌∷◌, [], All, Contains, IfOk, OnOk, filter, filter_map, find, if◌then◌else◌, option_to_list, option_copied};
 
@@ -38,7 +38,7 @@ fn as_answered(
     theirs: &PayloadParams,
     ours: &PayloadParams,
 ) -> PayloadParams
-    requires { TellsOf section.now feedback.now }
+    requires { TellsFeedbackOf section.now feedback.now }
     ensures { result ≡ as_answered section.now theirs.now ours.now }
 {
     let (pt, listed) = (ours.pt(), section.pts.as_slice());
@@ -101,7 +101,7 @@ fn answer_to(
     feedback: &SectionFeedback,
     theirs: &PayloadParams,
 ) -> Option<PayloadParams>
-    requires { TellsOf section.now feedback.now }
+    requires { TellsFeedbackOf section.now feedback.now }
     ensures { result ≡ answer_to own.now section.now theirs.now }
 {
     match our_match(own, &section.typ, theirs) {
@@ -119,7 +119,7 @@ fn answer_under(
     offered: &[PayloadParams],
     pt: Pt,
 ) -> Option<PayloadParams>
-    requires { TellsOf section.now feedback.now }
+    requires { TellsFeedbackOf section.now feedback.now }
     ensures { result ≡ answer_under own.now section.now offered.now pt }
 {
     match offered_under(offered, pt) {
@@ -129,7 +129,7 @@ fn answer_under(
 }
 
 /// A payload type after the others, unless it stands among them.
-fn push_new(once: &mut Vec<Pt>, pt: Pt) -> Result<(), AllocError>
+fn push_new_type(once: &mut Vec<Pt>, pt: Pt) -> Result<(), AllocError>
     ensures { OnOk result (once.new.items ≡ once.old.items ++ (if has once.old.items pt then [] else pt ∷ [])) }
 {
     if !is_type_listed(once.as_slice(), pt) {
@@ -144,7 +144,7 @@ fn each_once(alloc: Global, listed: &[Pt]) -> Result<Vec<Pt>, AllocError>
 {
     let mut once = Vec::with_capacity(alloc, listed.len())?;
     for pt in listed {
-        push_new(&mut once, *pt)?;
+        push_new_type(&mut once, *pt)?;
     }
     Ok(once)
 }
@@ -169,7 +169,7 @@ fn answers_under(
     offered: &[PayloadParams],
     listed: &[Pt],
 ) -> Result<Vec<PayloadParams>, AllocError>
-    requires { TellsOf section.now feedback.now }
+    requires { TellsFeedbackOf section.now feedback.now }
     ensures { IfOk result (λ rows. rows.items ≡ filter_map (answer_under own.now section.now offered.now) listed.now) }
 {
     let mut rows = Vec::with_capacity(*section.attrs.allocator(), offered.len())?;
@@ -213,9 +213,9 @@ pub fn rows_for(config: &CodecConfig, section: &MediaLine) -> Result<Vec<Payload
     ensures agreed { IfOk result (λ rows. All (IsAgreed config.now.params.items section.now) rows.items) }
     ensures offered { IfOk result (λ rows. All (SaysWhatIsOffered section.now) rows.items) }
     ensures ordered { IfOk result (λ rows. own_types rows.items ≡ filter (is_answered config.now.params.items section.now) (distinct ◌==◌ section.now.pts)) }
-    ensures distinct { IfOk result (λ rows. AllDistinct (own_types rows.items)) }
+    ensures distinct { IfOk result (λ rows. AllTypesDistinct (own_types rows.items)) }
     // So no type of any role stands twice, where rounds have locked the rows.
-    ensures apart { AllDistinct (locked_types config.now.params.items) → IfOk result (λ rows. AllDistinct (types rows.items)) }
+    ensures apart { AllTypesDistinct (locked_types config.now.params.items) → IfOk result (λ rows. AllTypesDistinct (types rows.items)) }
     // Rows of video need all their feedback for that, and not each section offers it.
     ensures plain { All IsPlain config.now.params.items → IfOk result (λ rows. All KeepsPlain rows.items) }
     ensures complete { IfOk result (λ rows. (ours : PayloadParams) → Belongs config.now.params.items section.now ours → Contains (own_types rows.items) ours.pt) }

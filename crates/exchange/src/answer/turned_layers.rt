@@ -1,6 +1,6 @@
 //! Layers of an answer beside those of its offer.
 ghost use Rattle.exchange.specs.answer.Layers.{is_named};
-ghost use Rattle.exchange.specs.answer.TurnedLayers.{AreAmong, TurnsLayers, are_opposite, is_opposite, is_turned, layers_received};
+ghost use Rattle.exchange.specs.answer.TurnedLayers.{AreLayersAmong, TurnsLayers, are_opposite, is_opposite, is_turned, layers_received};
 ghost use Rattle.std.specs.List.{list_any};
 ghost use Rattle.std.specs.Prelude.{◌≡◌, ◌↔◌, IfOk, IsTrue, All, true};
 
@@ -64,17 +64,17 @@ fn layers_received(alloc: Global, section: &MediaLine) -> Result<Items<Simulcast
     }
 }
 
-fn is_among(others: &[SimulcastLayer], layer: &SimulcastLayer) -> bool
+fn is_layer_among(others: &[SimulcastLayer], layer: &SimulcastLayer) -> bool
     ensures { result ≡ list_any (is_named layer.now.restriction_id.0) others.now }
 {
     is_sent(others, layer.restriction_id.0.as_str())
 }
 
 /// Whether each layer has the name of one of the others.
-fn are_among(others: &[SimulcastLayer], layers: &[SimulcastLayer]) -> bool
-    ensures { IsTrue result ↔ AreAmong others.now layers.now }
+fn are_layers_among(others: &[SimulcastLayer], layers: &[SimulcastLayer]) -> bool
+    ensures { IsTrue result ↔ AreLayersAmong others.now layers.now }
 {
-    layers.iter().all(|layer| is_among(others, layer))
+    layers.iter().all(|layer| is_layer_among(others, layer))
 }
 
 /// Whether the rids and the layers of an answer are those of the offer, received where they are sent there.
@@ -91,7 +91,7 @@ pub(crate) fn turns_layers(
     let may_receive = sent_layers(alloc, offered)?;
     Ok(
         are_turned(offered.attrs.as_slice(), answered.attrs.as_slice())
-            && are_among(may_send.as_slice(), sent.as_slice())
-            && are_among(may_receive.as_slice(), received.as_slice()),
+            && are_layers_among(may_send.as_slice(), sent.as_slice())
+            && are_layers_among(may_receive.as_slice(), received.as_slice()),
     )
 }

@@ -1,11 +1,11 @@
 //! Answers to offers of this side.
-ghost use Rattle.exchange.specs.Prelude.{AllDistinct, IsPlain, LockedStay, types};
+ghost use Rattle.exchange.specs.Prelude.{AllTypesDistinct, IsPlain, LockedStay, types};
 ghost use Rattle.exchange.specs.answer.Offered.{NegotiatesOffer};
 ghost use Rattle.exchange.specs.declared.state.signaling_state.SignalingState.TheVariants.{HaveLocalOffer, Stable};
-ghost use Rattle.exchange.specs.offer.AcceptedAnswer.{IsAnswer, IsTakenWith, RefusesAnswer, RefusesFit, placed_of};
+ghost use Rattle.exchange.specs.offer.AcceptedAnswer.{IsAnswer, IsAnswerTakenWith, RefusesAnswer, RefusesFit, placed_of};
 ghost use Rattle.exchange.specs.offer.Added.{with_placed};
 ghost use Rattle.exchange.specs.offer.Fits.{FitsOffer};
-ghost use Rattle.exchange.specs.offer.Names.{grown};
+ghost use Rattle.exchange.specs.offer.Names.{grown_names};
 ghost use Rattle.exchange.specs.state.ExchangeFollows.{Follows, IsSound};
 ghost use Rattle.exchange.specs.state.State.{pending_sdp, sections_of, state_of};
 ghost use Rattle.std.specs.Prelude.{All, ◌≡◌, IfErr, IfOk, IsSomeAnd, None, OnErr, OnOk, drop, length, option_map};
@@ -13,7 +13,7 @@ ghost use Rattle.std.specs.Prelude.{All, ◌≡◌, IfErr, IfOk, IsSomeAnd, None
 use crate::answer::offered::whole_description;
 use crate::offer::added::{Added, with_placed};
 use crate::offer::fits::first_misfit;
-use crate::offer::names::grown;
+use crate::offer::names::grown_names;
 use crate::offer::pending::Pending;
 use crate::state::exchange::{Exchange, negotiated};
 use crate::state::exchange_error::ExchangeError;
@@ -42,7 +42,11 @@ fn check_fit(
 }
 
 /// What was added after the first so many.
-fn added_behind(alloc: Global, added: &[Added], placed: usize) -> Result<Items<Added>, AllocError>
+fn added_sections_behind(
+    alloc: Global,
+    added: &[Added],
+    placed: usize,
+) -> Result<Items<Added>, AllocError>
     ensures { IfOk result (λ left. left ≡ drop placed added.now) }
 {
     if added.len() <= placed {
@@ -79,8 +83,8 @@ struct Fitting {
 impl Exchange {
     /// The answer that a text is, where it fits the open offer.
     fn fitting(&self, answer: &str) -> Result<Fitting, ExchangeError>
-        ensures taken { IfOk result (λ it. IsTakenWith self.now answer.now it.remote it.config) }
-        ensures names { IfOk result (λ it. it.names ≡ grown self.now.names (sections_of (pending_sdp self.now))) }
+        ensures taken { IfOk result (λ it. IsAnswerTakenWith self.now answer.now it.remote it.config) }
+        ensures names { IfOk result (λ it. it.names ≡ grown_names self.now.names (sections_of (pending_sdp self.now))) }
         ensures directions { IfOk result (λ it. it.directions ≡ with_placed self.now.own.directions (placed_of self.now)) }
         ensures added { IfOk result (λ it. it.added ≡ drop (length (placed_of self.now)) self.now.added) }
         ensures refused { IfErr result (RefusesAnswer self.now answer.now) }
@@ -92,10 +96,10 @@ impl Exchange {
         let remote = whole_description(alloc, answer)?;
         let config = negotiated(&self.config, &remote)?;
         check_fit(alloc, &config, &pending.sdp, &remote)?;
-        let names = grown(alloc, &self.names, pending.sdp.media_lines.as_slice())?;
+        let names = grown_names(alloc, &self.names, pending.sdp.media_lines.as_slice())?;
         let placed = pending.placed.as_slice();
         let directions = with_placed(alloc, self.own.directions.as_slice(), placed)?;
-        let added = added_behind(alloc, self.added.as_slice(), placed.len())?;
+        let added = added_sections_behind(alloc, self.added.as_slice(), placed.len())?;
         Ok(Fitting {
             remote,
             config,
@@ -127,12 +131,12 @@ impl Exchange {
         ensures negotiated { OnOk result (IsSomeAnd self.new.remote (λ remote.
             NegotiatesOffer remote self.old.config.params.items self.new.config.params.items)) }
         ensures stay { OnOk result (LockedStay self.old.config.params.items self.new.config.params.items) }
-        ensures distinct { AllDistinct (types self.old.config.params.items) → OnOk result (AllDistinct (types self.new.config.params.items)) }
+        ensures distinct { AllTypesDistinct (types self.old.config.params.items) → OnOk result (AllTypesDistinct (types self.new.config.params.items)) }
         ensures plain { All IsPlain self.old.config.params.items → OnOk result (All IsPlain self.new.config.params.items) }
         ensures distances { self.new.config.red_distances ≡ self.old.config.red_distances }
         ensures local { OnOk result (self.new.local ≡ pending_sdp self.old) }
         ensures stable { OnOk result (state_of self.new ≡ Stable) }
-        ensures names { OnOk result (self.new.names ≡ grown self.old.names (sections_of self.new.local)) }
+        ensures names { OnOk result (self.new.names ≡ grown_names self.old.names (sections_of self.new.local)) }
         ensures own { OnOk result (self.new.own ≡ record self.old.own { directions = with_placed self.old.own.directions (placed_of self.old) }) }
         ensures added { OnOk result (self.new.added ≡ drop (length (placed_of self.old)) self.old.added) }
         ensures version_same { self.new.version ≡ self.old.version }

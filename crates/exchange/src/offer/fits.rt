@@ -1,5 +1,5 @@
 //! Whether an answer fits the offer of this side.
-ghost use Rattle.exchange.specs.Prelude.{Holds};
+ghost use Rattle.exchange.specs.Prelude.{HoldsMids};
 ghost use Rattle.exchange.specs.answer.Bundled.{IsBundledBy};
 ghost use Rattle.exchange.specs.answer.InBundle.{bundle_names};
 ghost use Rattle.exchange.specs.offer.Fits.{Breaks, BreaksAt, BreaksFirstAt, BundlesSo, FitsAt, FitsOffer, IsBundledSo, accepted_name, unrejected_names};
@@ -8,7 +8,7 @@ ghost use Rattle.std.specs.Prelude.{◌≡◌, ◌↔◌, ℕ, IfOk, IsTrue, Mat
 use crate::answer::bundled::{Bundled, shared_by};
 use crate::answer::in_bundle::bundle_names;
 use crate::offer::fits_section::broken_rule;
-use crate::offer::names::{is_held, ordered, push_name};
+use crate::offer::names::{is_held, ordered_names, push_name};
 use crate::offer::rule::{Misfit, Rule};
 use crate::section::stopped::name_of;
 use std::alloc::{AllocError, Global};
@@ -16,7 +16,7 @@ use std::collections::BTreeSet;
 use str0m_signal::{CodecConfig, MediaLine, Mid, Sdp};
 
 /// The first rule that the section at a place breaks.
-fn broken_at(
+fn misfit_at(
     ours: &CodecConfig,
     offer: &Sdp,
     answer: &Sdp,
@@ -44,7 +44,7 @@ fn broken_section(
 {
     let bundled = shared_by(alloc, answer)?;
     for section in 0..offer.media_lines.len() {
-        if let Some(rule) = broken_at(ours, offer, answer, &bundled, section)? {
+        if let Some(rule) = misfit_at(ours, offer, answer, &bundled, section)? {
             return Ok(Some(Misfit { section, rule }));
         }
     }
@@ -79,8 +79,8 @@ fn is_bundled_so(
     offered: &BTreeSet<&str>,
     mid: Mid,
 ) -> bool
-    requires accepted { Holds accepted.now (unrejected_names answer.now) }
-    requires offered { Holds offered.now (bundle_names offer.now) }
+    requires accepted { HoldsMids accepted.now (unrejected_names answer.now) }
+    requires offered { HoldsMids offered.now (bundle_names offer.now) }
     ensures { IsTrue result ↔ IsBundledSo offer.now answer.now mid }
 {
     is_held(accepted, Some(mid)) && is_held(offered, Some(mid))
@@ -91,8 +91,8 @@ fn bundles_so(alloc: Global, offer: &Sdp, answer: &Sdp) -> Result<bool, AllocErr
     ensures { IfOk result (λ bundles. IsTrue bundles ↔ BundlesSo offer.now answer.now) }
 {
     let names = unrejected_names(alloc, answer.media_lines.as_slice())?;
-    let accepted = ordered(alloc, names.as_slice())?;
-    let offered = ordered(alloc, bundle_names(offer))?;
+    let accepted = ordered_names(alloc, names.as_slice())?;
+    let offered = ordered_names(alloc, bundle_names(offer))?;
     let listed = bundle_names(answer);
     for mid in listed {
         if !is_bundled_so(offer, answer, &accepted, &offered, *mid) {

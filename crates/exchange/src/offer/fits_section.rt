@@ -2,10 +2,10 @@
 ghost use Rattle.exchange.specs.Prelude.{is_media, section_direction};
 ghost use Rattle.exchange.specs.answer.Accepted.{setup_in_force};
 ghost use Rattle.exchange.specs.answer.Bundled.{IsBundledBy};
-ghost use Rattle.exchange.specs.answer.InBundle.{is_so_for};
+ghost use Rattle.exchange.specs.answer.InBundle.{is_so_in_bundle};
 ghost use Rattle.exchange.specs.answer.Rows.{answered_rows};
 ghost use Rattle.exchange.specs.answer.TurnedLayers.{TurnsLayers};
-ghost use Rattle.exchange.specs.offer.Fits.{BreaksFirst, KeepsEveryRule, FlowsWithin, IfAccepted, Keeps};
+ghost use Rattle.exchange.specs.offer.Fits.{BreaksFirst, KeepsEveryRule, FlowsWithin, FitsIfAccepted, Keeps};
 ghost use Rattle.exchange.specs.offer.Rules.{SaysOnlyOffered};
 ghost use Rattle.exchange.specs.section.Reached.{has_creds, has_fingerprint};
 ghost use Rattle.std.specs.Prelude.{◌≡◌, ◌≢◌, ◌↔◌, [], IfOk, IsTrue, MatchOption, Some, true};
@@ -47,7 +47,7 @@ fn flows_within(offered: Direction, answered: Direction) -> bool
 
 /// Whether an accepted section of media flows so.
 fn keeps_direction(offered: &MediaLine, answered: &MediaLine) -> bool
-    ensures { IsTrue result ↔ IfAccepted answered.now (is_media answered.now.typ ≡ true → FlowsWithin (section_direction offered.now.attrs) (section_direction answered.now.attrs)) }
+    ensures { IsTrue result ↔ FitsIfAccepted answered.now (is_media answered.now.typ ≡ true → FlowsWithin (section_direction offered.now.attrs) (section_direction answered.now.attrs)) }
 {
     answered.disabled
         || !answered.typ.is_media()
@@ -56,14 +56,14 @@ fn keeps_direction(offered: &MediaLine, answered: &MediaLine) -> bool
 
 /// Whether one of the two roles is said for an accepted section, or none.
 fn keeps_role(answer: &Sdp, answered: &MediaLine) -> bool
-    ensures { IsTrue result ↔ IfAccepted answered.now (setup_in_force answer.now answered.now ≢ Some ActPass) }
+    ensures { IsTrue result ↔ FitsIfAccepted answered.now (setup_in_force answer.now answered.now ≢ Some ActPass) }
 {
     answered.disabled || !matches!(setup_in_force(answer, answered), Some(Setup::ActPass))
 }
 
 /// Whether an accepted section of media has rows that both sides have.
 fn keeps_formats(ours: &CodecConfig, answered: &MediaLine) -> Result<bool, AllocError>
-    ensures { IfOk result (λ keeps. IsTrue keeps ↔ IfAccepted answered.now (is_media answered.now.typ ≡ true → answered_rows ours.now.params.items answered.now ≢ [])) }
+    ensures { IfOk result (λ keeps. IsTrue keeps ↔ FitsIfAccepted answered.now (is_media answered.now.typ ≡ true → answered_rows ours.now.params.items answered.now ≢ [])) }
 {
     if answered.disabled || !answered.typ.is_media() {
         return Ok(true);
@@ -73,13 +73,13 @@ fn keeps_formats(ours: &CodecConfig, answered: &MediaLine) -> Result<bool, Alloc
 }
 
 fn keeps_lines(offered: &MediaLine, answered: &MediaLine) -> bool
-    ensures { IsTrue result ↔ IfAccepted answered.now (SaysOnlyOffered offered.now answered.now) }
+    ensures { IsTrue result ↔ FitsIfAccepted answered.now (SaysOnlyOffered offered.now answered.now) }
 {
     answered.disabled || says_only_offered(offered, answered)
 }
 
 fn keeps_layers(offered: &MediaLine, answered: &MediaLine) -> Result<bool, AllocError>
-    ensures { IfOk result (λ keeps. IsTrue keeps ↔ IfAccepted answered.now (TurnsLayers offered.now answered.now)) }
+    ensures { IfOk result (λ keeps. IsTrue keeps ↔ FitsIfAccepted answered.now (TurnsLayers offered.now answered.now)) }
 {
     if answered.disabled {
         return Ok(true);
@@ -89,14 +89,14 @@ fn keeps_layers(offered: &MediaLine, answered: &MediaLine) -> Result<bool, Alloc
 
 fn keeps_creds(answer: &Sdp, bundled: &Bundled<'_>, answered: &MediaLine) -> bool
     requires { IsBundledBy answer.now bundled.now }
-    ensures { IsTrue result ↔ IfAccepted answered.now (is_so_for (has_creds answer.now.session) answer.now answered.now ≡ true) }
+    ensures { IsTrue result ↔ FitsIfAccepted answered.now (is_so_in_bundle (has_creds answer.now.session) answer.now answered.now ≡ true) }
 {
     answered.disabled || bundled.have_creds(answer, answered)
 }
 
 fn keeps_fingerprint(answer: &Sdp, bundled: &Bundled<'_>, answered: &MediaLine) -> bool
     requires { IsBundledBy answer.now bundled.now }
-    ensures { IsTrue result ↔ IfAccepted answered.now (is_so_for (has_fingerprint answer.now.session) answer.now answered.now ≡ true) }
+    ensures { IsTrue result ↔ FitsIfAccepted answered.now (is_so_in_bundle (has_fingerprint answer.now.session) answer.now answered.now ≡ true) }
 {
     answered.disabled || bundled.have_fingerprint(answer, answered)
 }

@@ -1,6 +1,6 @@
 //! The sections of an offer.
 ghost use Rattle.exchange.specs.Prelude.{kind_rows};
-ghost use Rattle.exchange.specs.offer.OfferSection.{asked_lines, flow_lines, is_extension, is_mux, is_own, is_rsize, is_said, is_same, kept_lines, new_section, next_section, offered_channels, offered_media, section_with, type_of};
+ghost use Rattle.exchange.specs.offer.OfferSection.{asked_lines, flow_lines, is_extension, is_mux, is_own, is_rsize, is_said_by_theirs, is_same_shared_line, kept_lines, new_section, next_section, offered_channels, offered_media, section_with, type_of};
 ghost use Rattle.std.specs.List.{list_any};
 ghost use Rattle.std.specs.Prelude.{◌≡◌, ◌≢◌, [], IfOk, false, true, option_copied};
 
@@ -179,8 +179,8 @@ fn is_extension(number: u8, ext: &Extension, line: &MediaAttribute) -> bool
 }
 
 /// Whether both are one line of those that both sides have to say.
-fn is_same(line: &MediaAttribute, other: &MediaAttribute) -> bool
-    ensures { result ≡ is_same line.now other.now }
+fn is_same_shared_line(line: &MediaAttribute, other: &MediaAttribute) -> bool
+    ensures { result ≡ is_same_shared_line line.now other.now }
 {
     match line {
         MediaAttribute::RtcpMux => is_mux(other),
@@ -191,14 +191,14 @@ fn is_same(line: &MediaAttribute, other: &MediaAttribute) -> bool
 }
 
 fn says(section: &MediaLine, line: &MediaAttribute) -> bool
-    ensures { result ≡ list_any (is_same line.now) section.now.attrs }
+    ensures { result ≡ list_any (is_same_shared_line line.now) section.now.attrs }
 {
     let attrs = section.attrs.as_slice();
-    attrs.iter().any(|other| is_same(line, other))
+    attrs.iter().any(|other| is_same_shared_line(line, other))
 }
 
-fn is_said(theirs: Option<&MediaLine>, line: &MediaAttribute) -> bool
-    ensures { result ≡ is_said (option_copied theirs.entry) line.now }
+fn is_said_by_theirs(theirs: Option<&MediaLine>, line: &MediaAttribute) -> bool
+    ensures { result ≡ is_said_by_theirs (option_copied theirs.entry) line.now }
 {
     match theirs {
         Some(theirs) => says(theirs, line),
@@ -227,7 +227,7 @@ fn kept_lines(
 {
     let mut lines = Vec::new(alloc);
     for line in mine.attrs.as_slice() {
-        if is_said(theirs, line) || is_own(line) {
+        if is_said_by_theirs(theirs, line) || is_own(line) {
             lines.push(line.clone()?)?;
         }
     }

@@ -1,5 +1,5 @@
 //! Whether each section of a description has a name of its own (RFC 5888, section 4).
-ghost use Rattle.exchange.specs.Prelude.{AreDistinct, section_mids};
+ghost use Rattle.exchange.specs.Prelude.{AreMidsDistinct, section_mids};
 ghost use Rattle.exchange.specs.offer.OwnNames.{IsNamedAgain};
 ghost use Rattle.exchange.specs.section.Stopped.{name_of};
 ghost use Rattle.std.specs.Prelude.{◌≡◌, IfOk, MatchOption, map};
@@ -25,7 +25,7 @@ pub(crate) fn first_named_again(
     alloc: Global,
     sections: &[MediaLine],
 ) -> Result<Option<usize>, AllocError>
-    ensures { IfOk result (λ found. MatchOption found (AreDistinct (section_mids sections.now)) (IsNamedAgain sections.now)) }
+    ensures { IfOk result (λ found. MatchOption found (AreMidsDistinct (section_mids sections.now)) (IsNamedAgain sections.now)) }
 {
     let names = names_of(alloc, sections)?;
     let mut before = BTreeSet::new(alloc);

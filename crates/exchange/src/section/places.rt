@@ -1,12 +1,12 @@
 //! The places of sections over several exchanges.
-ghost use Rattle.exchange.specs.Prelude.{Holds};
-ghost use Rattle.exchange.specs.section.Places.{HasNameAt, HoldsGroup, IsFree, IsOver, StaysInPlace, StaysInPlaceAt, StaysInPlaces, MovesAt};
+ghost use Rattle.exchange.specs.Prelude.{HoldsMids};
+ghost use Rattle.exchange.specs.section.Places.{HasNameAt, HoldsGroup, IsFree, IsPlaceOver, StaysInPlace, StaysInPlaceAt, StaysInPlaces, MovesPlaceAt};
 ghost use Rattle.exchange.specs.section.Stopped.{IsStoppedAt};
 ghost use Rattle.exchange.specs.state.State.{sections_of};
 ghost use Rattle.std.specs.Prelude.{◌≡◌, ◌↔◌, IfOk, IsSomeAnd, IsTrue, MatchOption};
 
 use crate::answer::in_bundle::ordered_bundle;
-use crate::offer::names::{is_held, ordered};
+use crate::offer::names::{is_held, ordered_names};
 use crate::section::stopped::{is_stopped_at, name_of};
 use std::alloc::{AllocError, Global};
 use std::collections::BTreeSet;
@@ -35,7 +35,7 @@ pub(crate) fn remote_bundle(
     }
 }
 
-fn is_stopped_by(remote: &Option<Sdp>, group: &BTreeSet<&str>, at: usize) -> bool
+fn is_place_stopped(remote: &Option<Sdp>, group: &BTreeSet<&str>, at: usize) -> bool
     requires { HoldsGroup remote.now group.now }
     ensures { IsTrue result ↔ IsSomeAnd remote.now (λ sdp. IsStoppedAt sdp at) }
 {
@@ -54,9 +54,9 @@ pub(crate) fn is_over(
     mine: &MediaLine,
 ) -> bool
     requires { HoldsGroup remote.now group.now }
-    ensures { IsTrue result ↔ IsOver remote.now at mine.now }
+    ensures { IsTrue result ↔ IsPlaceOver remote.now at mine.now }
 {
-    mine.disabled || is_stopped_by(remote, group, at)
+    mine.disabled || is_place_stopped(remote, group, at)
 }
 
 fn is_free(local: &[MediaLine], remote: &Option<Sdp>, group: &BTreeSet<&str>, at: usize) -> bool
@@ -98,7 +98,7 @@ fn keeps_place(
     at: usize,
     section: &MediaLine,
 ) -> bool
-    requires names { Holds names.now had.now }
+    requires names { HoldsMids names.now had.now }
     requires group { HoldsGroup remote.now group.now }
     ensures { IsTrue result ↔ StaysInPlace had.now local.now remote.now at section.now }
 {
@@ -115,7 +115,7 @@ fn keeps_place_at(
     offer: &Sdp,
     at: usize,
 ) -> bool
-    requires names { Holds names.now had.now }
+    requires names { HoldsMids names.now had.now }
     requires group { HoldsGroup remote.now group.now }
     ensures { IsTrue result ↔ StaysInPlaceAt had.now local.now remote.now offer.now at }
 {
@@ -127,16 +127,16 @@ fn keeps_place_at(
 
 /// The first section of an offer that isn't in its place after the last exchange, with these sections of this side
 /// and this description of the other, where sections have had these names; where it has too few sections, their number.
-pub(crate) fn first_moved(
+pub(crate) fn first_moved_place(
     alloc: Global,
     had: &[Mid],
     local: &[MediaLine],
     remote: &Option<Sdp>,
     offer: &Sdp,
 ) -> Result<Option<usize>, AllocError>
-    ensures { IfOk result (λ found. MatchOption found (StaysInPlaces had.now local.now remote.now offer.now) (MovesAt had.now local.now remote.now offer.now)) }
+    ensures { IfOk result (λ found. MatchOption found (StaysInPlaces had.now local.now remote.now offer.now) (MovesPlaceAt had.now local.now remote.now offer.now)) }
 {
-    let names = ordered(alloc, had)?;
+    let names = ordered_names(alloc, had)?;
     let group = remote_bundle(alloc, remote)?;
     let many = offer.media_lines.len();
     for at in 0..many {

@@ -7,7 +7,7 @@ use std::alloc::{AllocError, Global};
 use str0m_sdp::label::EXTMAP_ALLOW_MIXED;
 use str0m_signal::{MediaAttribute, MediaLine, Text};
 
-fn is_known(known: &[Text], uri: &str) -> bool
+fn is_known_extension(known: &[Text], uri: &str) -> bool
     ensures { result ≡ list_any (λ other. bytes_eq other uri.now) known.now }
 {
     known.iter().any(|other| other.as_str() == uri)
@@ -18,7 +18,7 @@ pub(crate) fn is_repeated(known: &[Text], line: &MediaAttribute) -> bool
 {
     match line {
         MediaAttribute::RtcpMux | MediaAttribute::RtcpRsize => true,
-        MediaAttribute::ExtMap { ext, .. } => is_known(known, ext.as_uri()),
+        MediaAttribute::ExtMap { ext, .. } => is_known_extension(known, ext.as_uri()),
         MediaAttribute::Unused(text) => text.as_str() == EXTMAP_ALLOW_MIXED,
         _ => false,
     }

@@ -1,12 +1,12 @@
 //! Exchanges of offers and answers.
-ghost use Rattle.exchange.specs.Prelude.{AllDistinct, AreDistinct, HasBoundedRows, IsPlain, LockedStay, kind_rows, section_mids, types, versioned_text};
+ghost use Rattle.exchange.specs.Prelude.{AllTypesDistinct, AreMidsDistinct, HasBoundedRows, IsPlain, LockedStay, kind_rows, section_mids, types, versioned_text};
 ghost use Rattle.exchange.specs.answer.Offered.{AreOfferRounds, NegotiatesOffer};
 ghost use Rattle.exchange.specs.declared.state.exchange_error.ExchangeError.TheVariants.{Memory, WrongState};
 ghost use Rattle.exchange.specs.declared.state.signaling_state.SignalingState.TheVariants.{Stable};
 ghost use Rattle.exchange.specs.offer.Added.{with_channels, with_media};
 ghost use Rattle.exchange.specs.offer.FreshNames.{AreFresh};
 ghost use Rattle.exchange.specs.offer.MadeOffer.{MakesOffer, placed_as, ready_with};
-ghost use Rattle.exchange.specs.offer.OfferRules.{IsNewName, IsOffered, IsOfferedWith, KeepsPlaces};
+ghost use Rattle.exchange.specs.offer.OfferRules.{IsNewName, IsOffered, IsOfferedWith, KeepsOfferPlaces};
 ghost use Rattle.exchange.specs.state.Exchange.{RefusesChannels, RefusesMedia, RefusesToOffer};
 ghost use Rattle.exchange.specs.state.ExchangeFollows.{Follows, IsSound};
 ghost use Rattle.exchange.specs.state.OwnSide.{with_entry};
@@ -87,7 +87,7 @@ pub(crate) fn negotiated_by(
     requires { AreOfferRounds offer.now offer.now.media_lines rounds.now }
     ensures rounds { IfOk result (λ after. NegotiatesOffer offer.now config.now.params.items after.params.items) }
     ensures stay { IfOk result (λ after. LockedStay config.now.params.items after.params.items) }
-    ensures distinct { AllDistinct (types config.now.params.items) → IfOk result (λ after. AllDistinct (types after.params.items)) }
+    ensures distinct { AllTypesDistinct (types config.now.params.items) → IfOk result (λ after. AllTypesDistinct (types after.params.items)) }
     ensures plain { All HasBoundedRows offer.now.media_lines → All IsPlain config.now.params.items → IfOk result (λ after. All IsPlain after.params.items) }
     ensures distances { IfOk result (λ after. after.red_distances ≡ config.now.red_distances) }
 {
@@ -100,7 +100,7 @@ pub(crate) fn negotiated_by(
 pub(crate) fn negotiated(config: &CodecConfig, offer: &Sdp) -> Result<CodecConfig, AllocError>
     ensures rounds { IfOk result (λ after. NegotiatesOffer offer.now config.now.params.items after.params.items) }
     ensures stay { IfOk result (λ after. LockedStay config.now.params.items after.params.items) }
-    ensures distinct { AllDistinct (types config.now.params.items) → IfOk result (λ after. AllDistinct (types after.params.items)) }
+    ensures distinct { AllTypesDistinct (types config.now.params.items) → IfOk result (λ after. AllTypesDistinct (types after.params.items)) }
     ensures plain { All HasBoundedRows offer.now.media_lines → All IsPlain config.now.params.items → IfOk result (λ after. All IsPlain after.params.items) }
     ensures distances { IfOk result (λ after. after.red_distances ≡ config.now.red_distances) }
 {
@@ -293,9 +293,9 @@ impl Exchange {
         ensures new { IfOk result (λ offer. All (IsNewName self.old) offer.added) }
         // Section by section, and as a whole with its bundle.
         ensures says { IfOk result (λ offer. MakesOffer self.old offer.added offer.sdp) }
-        ensures places { IfOk result (λ offer. KeepsPlaces self.old 0 (sections_of self.old.local) offer.sdp.media_lines) }
+        ensures places { IfOk result (λ offer. KeepsOfferPlaces self.old 0 (sections_of self.old.local) offer.sdp.media_lines) }
         ensures rules { IfOk result (λ offer. All (IsOffered self.old (ready_with self.old offer.added)) offer.sdp.media_lines) }
-        ensures different { AreDistinct (section_mids (sections_of self.old.local)) → IfOk result (λ offer. AreDistinct (section_mids offer.sdp.media_lines)) }
+        ensures different { AreMidsDistinct (section_mids (sections_of self.old.local)) → IfOk result (λ offer. AreMidsDistinct (section_mids offer.sdp.media_lines)) }
         ensures read_back { IfOk result (λ offer. IsReadBack offer.sdp (versioned_text offer.version offer.sdp)) }
         ensures version { IfOk result (λ offer. offer.version ≡ self.old.version) }
         ensures waits { IfOk result (λ offer. self.new ≡ record self.old {

@@ -1,5 +1,5 @@
 //! What this side says of itself.
-ghost use Rattle.exchange.specs.state.OwnSide.{direction_among, is_entry_of, kind_direction, own_direction, said_of, with_entry};
+ghost use Rattle.exchange.specs.state.OwnSide.{direction_among, is_entry_of, kind_direction, own_direction, direction_said_of, with_entry};
 ghost use Rattle.std.specs.Prelude.{◌≡◌, IfOk, find, option_copied};
 
 use crate::section::stopped::name_of;
@@ -86,8 +86,8 @@ pub(crate) fn with_entry(
 }
 
 /// What the entries say of a name, if anything.
-fn said_of(entries: &[SectionDirection], mid: Option<Mid>) -> Option<Direction>
-    ensures { result ≡ said_of entries.now mid }
+fn direction_said_of(entries: &[SectionDirection], mid: Option<Mid>) -> Option<Direction>
+    ensures { result ≡ direction_said_of entries.now mid }
 {
     let entry = entry_of(entries, mid?)?;
     Some(entry.direction)
@@ -114,7 +114,7 @@ impl OwnSide {
     ) -> Direction
         ensures { result ≡ direction_among self.now entries.now mid typ.now }
     {
-        match said_of(entries, mid) {
+        match direction_said_of(entries, mid) {
             Some(direction) => direction,
             None => self.kind_direction(typ),
         }

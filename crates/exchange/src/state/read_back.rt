@@ -12,7 +12,7 @@ use str0m_signal::{
 };
 
 /// Whether the attributes are alike one by one.
-fn are_alike(said: &[MediaAttribute], read: &[MediaAttribute]) -> bool
+fn are_attributes_alike(said: &[MediaAttribute], read: &[MediaAttribute]) -> bool
     ensures { IsTrue result ↔ AllZip Alike said.now read.now }
 {
     let mut left = said;
@@ -75,7 +75,7 @@ fn is_section_read_as(said: &MediaLine, read: &MediaLine) -> bool
 {
     is_same_head(said, read)
         && is_same_bandwidth(&read.bw, &said.bw)
-        && are_alike(said.attrs.as_slice(), read.attrs.as_slice())
+        && are_attributes_alike(said.attrs.as_slice(), read.attrs.as_slice())
 }
 
 /// Whether there are as many sections, each read as the one in its place.
@@ -102,7 +102,7 @@ fn is_read_as(said: &Sdp, read: &Sdp) -> bool
 }
 
 /// Whether what was read is this description, with nothing left.
-fn is_whole(said: &Sdp, read: &Sdp, rest: &str) -> bool
+fn is_read_back_whole(said: &Sdp, read: &Sdp, rest: &str) -> bool
     ensures { IsTrue result ↔ ((rest.now ≡ []) × IsWholeReadAs said.now read.now) }
 {
     rest.is_empty() && is_read_as(said, read)
@@ -114,7 +114,7 @@ fn whole(said: &Sdp, read: Sdp, rest: &str) -> Option<Sdp>
         ((rest.now ≡ []) × IsWholeReadAs said.now read → ⊥)
         (λ found. (found ≡ read) × (rest.now ≡ []) × IsWholeReadAs said.now read) }
 {
-    if is_whole(said, &read, rest) {
+    if is_read_back_whole(said, &read, rest) {
         Some(read)
     } else {
         None

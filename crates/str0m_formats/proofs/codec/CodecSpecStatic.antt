@@ -8,16 +8,16 @@ use Rattle.str0m_formats.specs.declared.codec.TheConstants.{NAMED}
 use Rattle.str0m_formats.specs.declared.codec.codec_spec.CodecSpec.{CodecSpec}
 use Rattle.str0m_formats.specs.round.MatchScore.{same_codec}
 use Rattle.str0m_values.proofs.LabelLaws.{bind_is}
-use Rattle.str0m_values.proofs.WordsOfCases.{found_passes}
+use Rattle.str0m_values.proofs.WordsOfCases.{case_found_passes}
 
-abbrev is_it : Codec → Option Codec → Bool
-is_it codec None = false
-is_it codec (Some found) = same_codec found codec
+abbrev is_this_codec : Codec → Option Codec → Bool
+is_this_codec codec None = false
+is_this_codec codec (Some found) = same_codec found codec
 
-it_is : (codec : Codec) (o : Option Codec) → is_it codec o ≡ true → o ≡ Some codec
-it_is codec o same = grind arith
+this_codec_is : (codec : Codec) (o : Option Codec) → is_this_codec codec o ≡ true → o ≡ Some codec
+this_codec_is codec o same = grind arith
 
-static_own : (pt : ℕ) (spec : CodecSpec) → IsStatic pt spec → (is_it spec.codec (static_codec pt) ≡ true) × (leb pt 127 ≡ true)
+static_own : (pt : ℕ) (spec : CodecSpec) → IsStatic pt spec → (is_this_codec spec.codec (static_codec pt) ≡ true) × (leb pt 127 ≡ true)
 static_own pt spec is = grind arith
 
 static_entry_is : (pt : ℕ) (codec : Codec) (row : Option (ℕ × ℕ)) (spec : CodecSpec) → static_entry codec ≡ row → is_at pt row ≡ true
@@ -30,10 +30,10 @@ static_both = record {
   sound = λ pt spec e.
       let codec = bind_some (static_codec pt) (λ codec. option_map (λ row. spec_at codec row.1) (static_entry codec)) spec e in
       static_entry_is pt codec.0 (static_entry codec.0) spec refl
-      (found_passes (λ codec. is_at pt (static_entry codec)) NAMED codec.0 codec.1) codec.2;
+      (case_found_passes (λ codec. is_at pt (static_entry codec)) NAMED codec.0 codec.1) codec.2;
   complete = λ pt spec is.
       let said : spec_at spec.codec spec.clock_rate ≡ spec = rw (is.1, is.2) refl in
-      bind_is (static_codec pt) spec.codec _ (Some spec) (it_is spec.codec (static_codec pt) (static_own pt spec is).0)
+      bind_is (static_codec pt) spec.codec _ (Some spec) (this_codec_is spec.codec (static_codec pt) (static_own pt spec is).0)
       (ap (option_map (λ row. spec_at spec.codec row.1)) is.0 ∙ ap (λ (s : CodecSpec). Some s) said);
 }
 
@@ -45,8 +45,8 @@ pub static_is : (pt : ℕ) (result : Option CodecSpec) → IsTheOnly (IsStatic p
 static_is pt None only = sym (reads_none static_both pt (λ spec is. let no : None ≡ Some spec = only.only spec is in absurd cc))
 static_is pt (Some spec) only = sym (static_both.complete pt spec only.found)
 
-pub needs_none : (pt : ℕ) → (is_some (static_spec pt) ≡ true) ↔ ((spec : CodecSpec) × IsStatic pt spec)
-needs_none pt = (there (static_spec pt) refl, λ needs. ap is_some (static_both.complete pt needs.0 needs.1))
+pub static_needs_none : (pt : ℕ) → (is_some (static_spec pt) ≡ true) ↔ ((spec : CodecSpec) × IsStatic pt spec)
+static_needs_none pt = (there (static_spec pt) refl, λ needs. ap is_some (static_both.complete pt needs.0 needs.1))
   where
     there : (o : Option CodecSpec) → static_spec pt ≡ o → is_some o ≡ true → (spec : CodecSpec) × IsStatic pt spec
     there None e some = absurd (false≢true some)

@@ -8,10 +8,11 @@ use Rattle.str0m_formats.specs.declared.format.format_key.FormatKey.{FormatKey}
 use Rattle.str0m_formats.specs.declared.format.format_key.FormatKey.TheVariants as key
 use Rattle.str0m_formats.specs.declared.format.format_param.FormatParam.{FormatParam}
 use Rattle.str0m_formats.specs.format.FormatKey.{key_text}
-use Rattle.str0m_formats.specs.format.FormatParam.{Kind, flag, number, hex, modes, exactly, anything, Held, ReadsKind, kind, keyed, entry}
+use Rattle.str0m_formats.specs.format.FormatParam.{Kind, flag, number, hex, modes, exactly, anything, HeldValue, ReadsKind, kind, keyed}
+use Rattle.str0m_formats.specs.format.FormatParam.{entry}
 use Rattle.str0m_formats.specs.format.FormatParam.{IsParsed, AreParsed, InRange, param_text}
 use Rattle.str0m_formats.specs.format.FormatParamReading.{param_of}
-use Rattle.str0m_formats.specs.format.Pairs.{is_mark, has_mark}
+use Rattle.str0m_formats.specs.format.Pairs.{is_triple_mark, has_triple_mark}
 
 -- the key and the value that a parameter of the table prints
 abbrev pub entry_pair : Option Entry → List ℕ × List ℕ
@@ -26,17 +27,17 @@ abbrev pub IsKeyed : FormatParam → Type 0
 IsKeyed param = MatchOption (entry param) ⊥ HasRange
 
 -- no key marks a profile, tier and level, and each is in lower case
-pub key_unmarked : (k : FormatKey) → (is_mark (key_text k) ≡ false) × (str_to_ascii_lowercase (key_text k) ≡ key_text k)
+pub key_unmarked : (k : FormatKey) → (is_triple_mark (key_text k) ≡ false) × (str_to_ascii_lowercase (key_text k) ≡ key_text k)
 key_unmarked k = grind arith
 
 -- ---- what is read of a pair
 
-abbrev Ranged : (k : Kind) → Held k → Type 0
+abbrev Ranged : (k : Kind) → HeldValue k → Type 0
 Ranged (exactly own) x = Unit {0}
 Ranged anything x = Unit {0}
 Ranged k x = InRange k x
 
-value_ranged : (k : Kind) (text : List ℕ) (x : Held k) → ReadsKind k text x → Ranged k x
+value_ranged : (k : Kind) (text : List ℕ) (x : HeldValue k) → ReadsKind k text x → Ranged k x
 value_ranged flag text b h = tt
 value_ranged (number limit) text n h = h.fits
 value_ranged hex text n (inl h) = h.fits
@@ -46,7 +47,7 @@ value_ranged (exactly own) text x h = tt
 value_ranged anything text x h = tt
 
 -- what is read of a pair is of the table, under its key, or prints nothing
-key_spelled : (k : FormatKey) (text : List ℕ) (x : Held (kind k)) → ReadsKind (kind k) text x
+key_spelled : (k : FormatKey) (text : List ℕ) (x : HeldValue (kind k)) → ReadsKind (kind k) text x
     → IsKeyed (keyed k x) ⊎ (param_text (keyed k x) ≡ [])
 key_spelled key.Crc text x h = inr refl
 key_spelled key.RobustSorting text x h = inr refl
@@ -57,7 +58,7 @@ key_spelled k text x h = inl (value_ranged (kind k) text x h)
 pub keyed_or_hidden : (pair : List ℕ × List ℕ) (param : FormatParam) → IsParsed pair param → IsKeyed param ⊎ (param_text param ≡ [])
 keyed_or_hidden pair param o = grind (arith, key_spelled)
 
-pub own_key : (k : FormatKey) (x : Held (kind k)) → IsKeyed (keyed k x) → (pair_of (keyed k x)).0 ≡ key_text k
+pub own_key : (k : FormatKey) (x : HeldValue (kind k)) → IsKeyed (keyed k x) → (pair_of (keyed k x)).0 ≡ key_text k
 own_key key.Crc x h = absurd h
 own_key key.RobustSorting x h = absurd h
 own_key key.ModeChangePeriod x h = absurd h
@@ -87,8 +88,8 @@ param_text_at param o is h = grind arith
 keyed_again : (param : FormatParam) → IsKeyed param → param_text param ≡ joined_pair (pair_of param)
 keyed_again param h = param_text_at param (entry param) refl h
 
-mark_of : (o : Option Entry) → MatchOption o ⊥ HasRange → is_mark (entry_pair o).0 ≡ false
-mark_of o h = grind arith
+key_mark_of : (o : Option Entry) → MatchOption o ⊥ HasRange → is_triple_mark (entry_pair o).0 ≡ false
+key_mark_of o h = grind arith
 
 -- ---- lists of them
 
@@ -122,7 +123,7 @@ pub keyed_pairs : (params : List FormatParam) → AreKeyed params → AllByRecur
 keyed_pairs [] h = tt
 keyed_pairs (param ∷ params) h = (keyed_solid param h.0, keyed_pairs params h.1)
 
-pub keyed_unmarked : (params : List FormatParam) → AreKeyed params → has_mark (map pair_of params) ≡ false
-unfolding has_mark
+pub keyed_unmarked : (params : List FormatParam) → AreKeyed params → has_triple_mark (map pair_of params) ≡ false
+unfolding has_triple_mark
 keyed_unmarked [] h = refl
-keyed_unmarked (param ∷ params) h = rw (mark_of (entry param) h.0) (keyed_unmarked params h.1)
+keyed_unmarked (param ∷ params) h = rw (key_mark_of (entry param) h.0) (keyed_unmarked params h.1)

@@ -3,15 +3,17 @@ use Rattle.str0m_formats.proofs.Common.{rules, ◌≡◌, ◌<◌, ◌≤◌, �
 use Rattle.str0m_formats.proofs.Common.{map, filter, Option, Some, None, IfSome, Result, option_map, refl, sym, ap, subst, ◌∙◌, arith}
 use Rattle.str0m_formats.proofs.Common.{codes, decimal, AllByRecursion, AllZip, cons_option, flat_map, join_with_byte, list_all}
 use Rattle.str0m_formats.proofs.Common.{digits_value, and_parts, false_from_ne_true, decimal_is_IsNumeral, append_assoc, append-nil}
-use Rattle.str0m_formats.proofs.Common.{map-append, filter_map-append, none-some, IfOk, lacks, filter_map, lacks_both, cut_at, cut_none}
+use Rattle.str0m_formats.proofs.Common.{map-append, filter_map-append, none-some, IfOk, lacks, filter_map, address_lacks_both, cut_at}
+use Rattle.str0m_formats.proofs.Common.{cut_none}
 use Rattle.str0m_formats.proofs.Common.{lacks_true, lacks_from, H265ProfileTierLevel as h265_triple, H266ProfileTierLevel as h266_triple}
 use Rattle.str0m_formats.proofs.format.FormatLineLaws.{set_all-append}
-use Rattle.str0m_formats.proofs.format.FormatParamsSet.{filled, are_fresh, set_each}
+use Rattle.str0m_formats.proofs.format.FormatParamsSet.{fields_filled, are_fields_fresh, set_each}
 use Rattle.str0m_formats.proofs.format.FormatParamsShown.{slots_at, bares_at, joined_pair, pieces_at, IsSolidPair, IsShown, shows}
-use Rattle.str0m_formats.proofs.format.FormatParamsShown.{is_single, field_reads}
+use Rattle.str0m_formats.proofs.format.FormatParamsShown.{shown_is_single, field_reads}
 use Rattle.str0m_formats.proofs.format.PairsJoined.{AreFreeOf, slice_split-join}
 use Rattle.str0m_formats.proofs.format.PairsLaws.{pairs_read_only}
-use Rattle.str0m_formats.proofs.format.PairsRows.{Slots, given, given-append, look_given, mark_given, others_given, merged_given}
+use Rattle.str0m_formats.proofs.format.PairsRows.{Slots, given, given-append, slot_look_given, mark_given_slots, others_given_slots}
+use Rattle.str0m_formats.proofs.format.PairsRows.{merged_given}
 use Rattle.str0m_formats.proofs.format.PairsSolid.{IsSolid, solid_lacks, lacks_free, trim_solid}
 use Rattle.str0m_formats.proofs.format.PairsTripleLaws.{h265_again, h266_again}
 use Rattle.str0m_formats.specs.declared.format.format_key.FormatKey.TheVariants as key
@@ -26,8 +28,8 @@ use Rattle.str0m_formats.specs.declared.format.format_params.TheConstants.{FIELD
 use Rattle.str0m_formats.specs.format.FormatLine.{pieces, pair_in, bare_in, pairs_in, bares_in, IsFormatOfLine}
 use Rattle.str0m_formats.specs.format.FormatParam.{IsBare, param_text}
 use Rattle.str0m_formats.specs.format.FormatParamReading.{param_of}
-use Rattle.str0m_formats.specs.format.FormatParams.{empty, get, set_all, param_at, params_of, params_text, IsWithin, CanBeReadBack}
-use Rattle.str0m_formats.specs.format.Pairs.{has_mark, merged, others, texts_of}
+use Rattle.str0m_formats.specs.format.FormatParams.{empty, get, set_all, param_at, params_of, params_text, IsFieldWithin, CanBeReadBack}
+use Rattle.str0m_formats.specs.format.Pairs.{has_triple_mark, merged, others, texts_of}
 use Rattle.str0m_formats.specs.format.PairsReading.{triple_read, joined_read, params_read}
 
 -- ---- lists of fields
@@ -57,8 +59,8 @@ pairs_slots [] p = refl
 pairs_slots (f ∷ fs) p = grind (arith, pairs_slots fs p, given-append)
 
 -- the values of all fields read back
-abbrev pub AllWithin : FormatParams → Type 0
-AllWithin p = (f : Field) → IfSome (get f p) (IsWithin f)
+abbrev pub AllFieldsWithin : FormatParams → Type 0
+AllFieldsWithin p = (f : Field) → IfSome (get f p) (IsFieldWithin f)
 
 -- ---- the text is the pieces, joined
 
@@ -73,17 +75,18 @@ join_append : (first : List ℕ) (more ys : List (List ℕ)) → 0 < length ys
 join_append first [] ys some = join_cons first ys some
 join_append first (next ∷ more) ys some = grind (arith, join_append next more ys some, append_assoc)
 
-abbrev pub AreAlike : List (List ℕ) → List (List ℕ) → Type 0
-AreAlike texts pieces = ((texts ≡ []) × (pieces ≡ [])) ⊎ ((0 < length texts) × (0 < length pieces) × (linked texts ≡ linked pieces))
+abbrev pub AreTextsAlike : List (List ℕ) → List (List ℕ) → Type 0
+AreTextsAlike texts pieces = ((texts ≡ []) × (pieces ≡ [])) ⊎ ((0 < length texts) × (0 < length pieces) × (linked texts ≡ linked pieces))
 
-alike_step : (o : Option FormatParam) (qs : List FormatParam) (own rest : List (List ℕ)) → IsShown o own → AreAlike (map param_text qs) rest
-    → AreAlike (map param_text (cons_option o qs)) (own ++ rest)
-alike_step o qs own rest shown alike = grind (arith, append-nil, join_cons, join_append)
+line_texts_alike_step : (o : Option FormatParam) (qs : List FormatParam) (own rest : List (List ℕ)) → IsShown o own
+    → AreTextsAlike (map param_text qs) rest
+    → AreTextsAlike (map param_text (cons_option o qs)) (own ++ rest)
+line_texts_alike_step o qs own rest shown alike = grind (arith, append-nil, join_cons, join_append)
 
-pub texts_alike : (fs : List Field) (p : FormatParams) → AllWithin p
-    → AreAlike (map param_text (filter_map (λ f. param_at f p) fs)) (all_pieces fs p)
+pub texts_alike : (fs : List Field) (p : FormatParams) → AllFieldsWithin p
+    → AreTextsAlike (map param_text (filter_map (λ f. param_at f p) fs)) (all_pieces fs p)
 texts_alike [] p h = inl (refl, refl)
-texts_alike (f ∷ fs) p h = grind (arith, alike_step, shows, texts_alike fs p h)
+texts_alike (f ∷ fs) p h = grind (arith, line_texts_alike_step, shows, texts_alike fs p h)
 
 -- ---- and is cut into them
 
@@ -97,7 +100,7 @@ free_pairs (pair ∷ pairs) h =
     grind (
       arith,
       lacks_free 59 (joined_pair pair),
-      lacks_both 59 pair.0 (61 ∷ pair.1),
+      address_lacks_both 59 pair.0 (61 ∷ pair.1),
       solid_lacks 59 pair.1,
       solid_lacks 59 pair.0,
       free_pairs pairs h.1,
@@ -107,7 +110,7 @@ free_bares : (texts : List (List ℕ)) → AllByRecursion IsSolid texts → AreF
 free_bares [] h = tt
 free_bares (text ∷ texts) h = (lacks_free 59 text (solid_lacks 59 text refl h.0), free_bares texts h.1)
 
-free_pieces : (fs : List Field) (p : FormatParams) → AllWithin p → AreFreeOf 59 (all_pieces fs p)
+free_pieces : (fs : List Field) (p : FormatParams) → AllFieldsWithin p → AreFreeOf 59 (all_pieces fs p)
 free_pieces [] p h = tt
 free_pieces (f ∷ fs) p h =
     let own = shows f p (h f) in
@@ -115,7 +118,7 @@ free_pieces (f ∷ fs) p h =
     (free_append (map joined_pair (given (slots_at f p))) (bares_at f p) (free_pairs (given (slots_at f p)) own.plain)
     (free_bares (bares_at f p) own.bare)) (free_pieces fs p h)
 
-cut_pieces : (texts : List (List ℕ)) (all : List (List ℕ)) → AreAlike texts all → AreFreeOf 59 all
+cut_pieces : (texts : List (List ℕ)) (all : List (List ℕ)) → AreTextsAlike texts all → AreFreeOf 59 all
     → (pieces (linked texts) ≡ all) ⊎ ((all ≡ []) × (pieces (linked texts) ≡ [] ∷ []))
 cut_pieces texts [] alike free = elim alike [ inl none ↦ inr (refl, rw none.0 refl) | inr some ↦ absurd (omega (arith, some.1)) ]
 cut_pieces texts (first ∷ more) alike free = elim alike
@@ -149,7 +152,7 @@ bares_found : (texts : List (List ℕ)) → AllByRecursion IsSolid texts → (fi
 bares_found [] h = (refl, refl)
 bares_found (text ∷ texts) h = grind (arith, bares_found texts h.1, no_pair, bare_found)
 
-pieces_found : (fs : List Field) (p : FormatParams) → AllWithin p
+pieces_found : (fs : List Field) (p : FormatParams) → AllFieldsWithin p
     → (pairs_in (all_pieces fs p) ≡ all_pairs fs p) × (bares_in (all_pieces fs p) ≡ all_bares fs p)
 unfolding pairs_in bares_in
 pieces_found [] p h = (refl, refl)
@@ -173,42 +176,49 @@ pieces_found (f ∷ fs) p h =
 
 -- ---- what the pairs read as
 
-abbrev singles : List Field
-singles = filter is_single FIELDS
+abbrev single_fields : List Field
+single_fields = filter shown_is_single FIELDS
 
 -- the fields with one key that may stand beside a profile, tier and level: all but the profile
-abbrev is_beside : Field → Bool
-is_beside (field.Key key.ProfileId) = false
-is_beside f = is_single f
+abbrev line_is_beside_triple : Field → Bool
+line_is_beside_triple (field.Key key.ProfileId) = false
+line_is_beside_triple f = shown_is_single f
 
 abbrev rest : List Field
-rest = filter is_beside FIELDS
+rest = filter line_is_beside_triple FIELDS
 
 cons_append : {A : Type 0} (o : Option A) (xs : List A) → cons_option o [] ++ xs ≡ cons_option o xs
 cons_append o xs = grind arith
 
-reads_all : (fs : List Field) (p : FormatParams) → AllWithin p → list_all is_single fs ≡ true
+reads_all : (fs : List Field) (p : FormatParams) → AllFieldsWithin p → list_all shown_is_single fs ≡ true
     → map param_of (all_pairs fs p) ≡ filter_map (λ f. param_at f p) fs
 reads_all [] p h single = refl
 reads_all (f ∷ fs) p h single =
-    let k = and_parts (is_single f) (list_all is_single fs) single in
+    let k = and_parts (shown_is_single f) (list_all shown_is_single fs) single in
     map-append param_of (given (slots_at f p)) (all_pairs fs p)
     ∙ ap (λ (t : List FormatParam). t ++ map param_of (all_pairs fs p)) (field_reads f p k.0 (h f))
     ∙ ap (λ (t : List FormatParam). cons_option (param_at f p) [] ++ t) (reads_all fs p h k.1)
     ∙ cons_append (param_at f p) (filter_map (λ f. param_at f p) fs)
 
-pub unmarked : (pairs : List (List ℕ × List ℕ)) → has_mark pairs ≡ false → params_read pairs ≡ map param_of pairs
+pub unmarked : (pairs : List (List ℕ × List ℕ)) → has_triple_mark pairs ≡ false → params_read pairs ≡ map param_of pairs
 unfolding params_read
 unmarked pairs e = rw e refl
 
-pub marked : (pairs : List (List ℕ × List ℕ)) → has_mark pairs ≡ true → merged pairs ≡ pairs → params_read pairs ≡ joined_read pairs
+pub marked : (pairs : List (List ℕ × List ℕ)) → has_triple_mark pairs ≡ true → merged pairs ≡ pairs → params_read pairs ≡ joined_read pairs
 unfolding params_read
 marked pairs e same = rw (e, same) refl
 
-without_triple : (p : FormatParams) → AllWithin p → p.h265_profile_tier_level ≡ None → p.h266_profile_tier_level ≡ None
-    → params_read (all_pairs FIELDS p) ≡ filter_map (λ f. param_at f p) (field.H265ProfileTierLevel ∷ field.H266ProfileTierLevel ∷ singles)
+without_triple : (p : FormatParams) → AllFieldsWithin p → p.h265_profile_tier_level ≡ None → p.h266_profile_tier_level ≡ None
+    → params_read (all_pairs FIELDS p) ≡ filter_map (λ f. param_at f p)
+    (field.H265ProfileTierLevel ∷ field.H266ProfileTierLevel ∷ single_fields)
 without_triple p h e5 e6 =
-    grind (arith, pairs_slots singles p, mark_given (all_slots singles p), unmarked (all_pairs singles p), reads_all singles p h)
+    grind (
+      arith,
+      pairs_slots single_fields p,
+      mark_given_slots (all_slots single_fields p),
+      unmarked (all_pairs single_fields p),
+      reads_all single_fields p h,
+    )
 
 abbrev triple_first : List Field
 triple_first = field.H265ProfileTierLevel ∷ field.H266ProfileTierLevel ∷ field.Key key.ProfileId ∷ rest
@@ -218,28 +228,28 @@ triple_first = field.H265ProfileTierLevel ∷ field.H266ProfileTierLevel ∷ fie
 -- the keys of a triple in the place of H265's, among those of the other fields
 abbrev slots_beside : List ℕ → List ℕ → List ℕ → FormatParams → Field → Slots
 slots_beside a b c p field.H265ProfileTierLevel = (PROFILE_ID.now, Some a) ∷ (TIER_FLAG.now, Some b) ∷ (LEVEL_ID.now, Some c) ∷ []
-slots_beside a b c p f = cond (is_beside f) (slots_at f p) []
+slots_beside a b c p f = cond (line_is_beside_triple f) (slots_at f p) []
 
 abbrev slots_with : List ℕ → List ℕ → List ℕ → FormatParams → Slots
 slots_with a b c p = flat_map (slots_beside a b c p) FIELDS
 
-with_triple : (q : FormatParam) (a b c : List ℕ) (p : FormatParams) → AllWithin p → all_pairs FIELDS p ≡ given (slots_with a b c p)
+with_triple : (q : FormatParam) (a b c : List ℕ) (p : FormatParams) → AllFieldsWithin p → all_pairs FIELDS p ≡ given (slots_with a b c p)
     → triple_read (Some a, Some b, Some c) ≡ Some q → params_read (all_pairs FIELDS p) ≡ q ∷ filter_map (λ f. param_at f p) rest
 with_triple q a b c p h own read =
     let rows = slots_with a b c p in
     let texts : texts_of (given rows) ≡ (Some a, Some b, Some c) =
-    λ i. (look_given PROFILE_ID.now rows i, look_given TIER_FLAG.now rows i, look_given LEVEL_ID.now rows i) in
+    λ i. (slot_look_given PROFILE_ID.now rows i, slot_look_given TIER_FLAG.now rows i, slot_look_given LEVEL_ID.now rows i) in
     let others_are : map param_of (others (given rows)) ≡ filter_map (λ f. param_at f p) rest =
-    ap (map param_of) (others_given rows ∙ sym (pairs_slots rest p)) ∙ reads_all rest p h refl in
-    ap params_read own ∙ marked (given rows) (mark_given rows) (merged_given rows refl)
+    ap (map param_of) (others_given_slots rows ∙ sym (pairs_slots rest p)) ∙ reads_all rest p h refl in
+    ap params_read own ∙ marked (given rows) (mark_given_slots rows) (merged_given rows refl)
     ∙ ap (λ (o : Option FormatParam). cons_option o (map param_of (others (given rows)))) (ap triple_read texts ∙ read)
     ∙ ap (λ (qs : List FormatParam). q ∷ qs) others_are
 
-with_h265 : (p : FormatParams) (t : h265_triple) → AllWithin p → p.h265_profile_tier_level ≡ Some t → p.h266_profile_tier_level ≡ None
+with_h265 : (p : FormatParams) (t : h265_triple) → AllFieldsWithin p → p.h265_profile_tier_level ≡ Some t → p.h266_profile_tier_level ≡ None
     → p.profile_id ≡ None → params_read (all_pairs FIELDS p) ≡ filter_map (λ f. param_at f p) triple_first
 with_h265 p t h e5 e6 ei = grind (arith, with_triple (H265ProfileTierLevel t), pairs_slots FIELDS p, h265_again t)
 
-with_h266 : (p : FormatParams) (t : h266_triple) → AllWithin p → p.h266_profile_tier_level ≡ Some t → p.h265_profile_tier_level ≡ None
+with_h266 : (p : FormatParams) (t : h266_triple) → AllFieldsWithin p → p.h266_profile_tier_level ≡ Some t → p.h265_profile_tier_level ≡ None
     → p.profile_id ≡ None → params_read (all_pairs FIELDS p) ≡ filter_map (λ f. param_at f p) triple_first
 with_h266 p t h e6 e5 ei = grind (arith, with_triple (H266ProfileTierLevel t), pairs_slots FIELDS p, h266_again t)
 
@@ -276,17 +286,17 @@ no_events o e = grind arith
 some_not_none : {A C : Type 0} (o : Option A) (x : A) → o ≡ Some x → o ≡ None → C
 some_not_none o x e f = absurd (none-some x (sym f ∙ e))
 
-conclude : (order : List Field) (p r : FormatParams) (bares params : List FormatParam)
-    → are_fresh (field.TelephoneEvents ∷ order) p empty ≡ true → filled (field.TelephoneEvents ∷ order) p empty ≡ p
+format_concluded : (order : List Field) (p r : FormatParams) (bares params : List FormatParam)
+    → are_fields_fresh (field.TelephoneEvents ∷ order) p empty ≡ true → fields_filled (field.TelephoneEvents ∷ order) p empty ≡ p
     → set_all empty bares ≡ set_all empty (cons_option (param_at field.TelephoneEvents p) [])
     → params ≡ filter_map (λ f. param_at f p) order → r ≡ set_all empty (bares ++ params) → r ≡ p
-conclude order p r bares params fresh whole first second e = grind (arith, set_all-append, cons_append, set_each)
+format_concluded order p r bares params fresh whole first second e = grind (arith, set_all-append, cons_append, set_each)
 
 -- the order in which the parameters of a printed line are set
 pub record Order (p : FormatParams) : Type 0 where
   pub order : List Field
-  pub fresh : are_fresh (field.TelephoneEvents ∷ order) p empty ≡ true
-  pub whole : filled (field.TelephoneEvents ∷ order) p empty ≡ p
+  pub fresh : are_fields_fresh (field.TelephoneEvents ∷ order) p empty ≡ true
+  pub whole : fields_filled (field.TelephoneEvents ∷ order) p empty ≡ p
   pub read : params_read (all_pairs FIELDS p) ≡ filter_map (λ f. param_at f p) order
 
 pub order_of : (p : FormatParams) → CanBeReadBack p → (o5 : Option h265_triple) (o6 : Option h266_triple) → p.h265_profile_tier_level ≡ o5
@@ -337,7 +347,7 @@ format_itself line p r h printed reading =
           let bares_are = bares_set p.telephone_event_max reading.bares events
           (subst (λ (ts : List (List ℕ)). AllZip IsBare ts reading.bares) (ap bares_in whole ∙ is.1 ∙ bares_printed p)
           reading.bares_are) in
-          conclude order.order p r reading.bares reading.params order.fresh order.whole (ap (set_all empty) bares_are)
+          format_concluded order.order p r reading.bares reading.params order.fresh order.whole (ap (set_all empty) bares_are)
           (params_are (ap pairs_in whole ∙ is.0)) reading.format
       | inr empty_text ↦
           let whole : pieces line ≡ [] ∷ [] = ap pieces (printed ∙ line_texts p) ∙ empty_text.1 in
@@ -347,7 +357,7 @@ format_itself line p r h printed reading =
           ap pairs_in whole ∙ no_piece_pairs ∙ sym (ap pairs_in empty_text.0) ∙ is.0 in
           let bares_are = nothing_set reading.bares
           (subst (λ (ts : List (List ℕ)). AllZip IsBare ts reading.bares) (ap bares_in whole ∙ one_bare) reading.bares_are) in
-          conclude order.order p r reading.bares reading.params order.fresh order.whole
+          format_concluded order.order p r reading.bares reading.params order.fresh order.whole
           (bares_are ∙ ap (λ (o : Option ℕ). set_all empty (cons_option (option_map (λ n. TelephoneEvents n) o) [])) (sym none))
           (params_are pairs_are) reading.format
     ]

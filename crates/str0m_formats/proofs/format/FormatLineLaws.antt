@@ -7,7 +7,7 @@ use Rattle.str0m_formats.specs.declared.codec.Codec.TheVariants.{AmrWb}
 use Rattle.str0m_formats.specs.declared.format.format_param.FormatParam.{FormatParam}
 use Rattle.str0m_formats.specs.declared.format.format_params.FormatParams.{FormatParams}
 use Rattle.str0m_formats.specs.format.FormatLine.{pair_in, bare_in, pairs_in, bares_in, pieces, IsFormatOfBares, IsFormatOfLine}
-use Rattle.str0m_formats.specs.format.FormatLine.{is_unsupported, asks_absent, kept, values_of, line_values}
+use Rattle.str0m_formats.specs.format.FormatLine.{is_unsupported, line_asks_absent, kept, values_of, line_values}
 use Rattle.str0m_formats.specs.format.FormatParam.{IsBare, pair_texts}
 use Rattle.str0m_formats.specs.format.FormatParams.{empty, set, set_all}
 use Rattle.str0m_formats.specs.format.Pairs.{AreRead}
@@ -17,8 +17,8 @@ set_all-append [] ys p = refl
 set_all-append (x ∷ xs) ys p = set_all-append xs ys (set x p)
 
 pub asks : (lines : List (Bor (List FormatParam))) (answer : Bool) → answer ≡ list_any (λ line. list_any is_unsupported line.now) lines
-    → answer ≡ asks_absent AmrWb (line_values lines)
-unfolding asks_absent
+    → answer ≡ line_asks_absent AmrWb (line_values lines)
+unfolding line_asks_absent
 asks lines answer e = e ∙ sym (go lines)
   where
     go : (lines : List (Bor (List FormatParam))) → list_any (λ line. list_any is_unsupported line) (line_values lines)

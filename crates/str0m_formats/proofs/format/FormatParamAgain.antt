@@ -11,7 +11,8 @@ use Rattle.str0m_formats.proofs.format.FormatParamModes.{modes_only}
 use Rattle.str0m_formats.specs.declared.format.format_key.FormatKey.{FormatKey}
 use Rattle.str0m_formats.specs.declared.format.format_param.FormatParam.{FormatParam}
 use Rattle.str0m_formats.specs.format.FormatKey.{key_text}
-use Rattle.str0m_formats.specs.format.FormatParam.{Kind, flag, number, hex, modes, exactly, anything, Held, ReadsKind, kind, keyed, entry}
+use Rattle.str0m_formats.specs.format.FormatParam.{Kind, flag, number, hex, modes, exactly, anything, HeldValue, ReadsKind, kind, keyed}
+use Rattle.str0m_formats.specs.format.FormatParam.{entry}
 use Rattle.str0m_formats.specs.format.FormatParam.{IsParsed, IsPrinted, InRange, IsModeSet, flag_text, six_digits, mode_list, value_text}
 use Rattle.str0m_formats.specs.format.FormatParamReading.{modes_read, param_of}
 
@@ -86,18 +87,18 @@ pub modes_filled : (mask : ℕ) → (0 < mask) × (mask ≤ 511) → IsRest (mod
 modes_filled mask h = text_of_modes (mode_list mask) mask (mask_reads 511 mask all_masks h.0 h.1)
 
 -- the limits of the table have 32 bits
-abbrev pub is_small : Kind → Bool
-is_small (number limit) = nat_le limit 4294967295
-is_small k = true
+abbrev pub param_is_kind_small : Kind → Bool
+param_is_kind_small (number limit) = nat_le limit 4294967295
+param_is_kind_small k = true
 
-pub key_small : (k : FormatKey) → is_small (kind k) ≡ true
+pub key_small : (k : FormatKey) → param_is_kind_small (kind k) ≡ true
 key_small k = grind arith
 
-pub limit_small : (limit n : ℕ) → is_small (number limit) ≡ true → n ≤ limit → n ≤ 4294967295
+pub limit_small : (limit n : ℕ) → param_is_kind_small (number limit) ≡ true → n ≤ limit → n ≤ 4294967295
 limit_small limit n small h = let le : limit ≤ 4294967295 = leb-true limit 4294967295 small in omega arith
 
 -- a printed value reads as itself
-value_reads : (k : Kind) (x : Held k) → is_small k ≡ true → InRange k x → ReadsKind k (value_text k x) x
+value_reads : (k : Kind) (x : HeldValue k) → param_is_kind_small k ≡ true → InRange k x → ReadsKind k (value_text k x) x
 value_reads flag b small h = flag_reads b
 value_reads (number limit) n small h = let le = limit_small limit n small h in decimal_reads limit n h (omega (arith, le))
 value_reads hex n small h = inl (six_digits_reads n h)
@@ -106,7 +107,7 @@ value_reads (exactly own) x small h = absurd h
 value_reads anything x small h = absurd h
 
 -- what a key and its value print is read as the parameter that holds them
-pub key_reads : (k : FormatKey) (x : Held (kind k)) → InRange (kind k) x → param_of (key_text k, value_text (kind k) x) ≡ keyed k x
+pub key_reads : (k : FormatKey) (x : HeldValue (kind k)) → InRange (kind k) x → param_of (key_text k, value_text (kind k) x) ≡ keyed k x
 key_reads k x h = sym (spelled (key_text k) (value_text (kind k) x) (keyed k x)
     (k, refl, (x, refl, value_reads (kind k) x (key_small k) h)))
 
@@ -119,7 +120,7 @@ pub parsed_printed : (key_as value : List ℕ) (r : FormatParam) → IsParsed (k
     → IsPrinted p (key_as, value) → r ≡ p
 parsed_printed key_as value r h p printed = parsed_only key_as value r h ∙ reads (entry p) (entry_made p) printed
   where
-    reads : (o : Option ((k : FormatKey) × Held (kind k))) → MatchOption o (Unit {0}) (λ e. p ≡ keyed e.0 e.1)
+    reads : (o : Option ((k : FormatKey) × HeldValue (kind k))) → MatchOption o (Unit {0}) (λ e. p ≡ keyed e.0 e.1)
         → MatchOption o ⊥ (λ e. (key_as ≡ key_text e.0) × (value ≡ value_text (kind e.0) e.1) × InRange (kind e.0) e.1)
         → param_of (key_as, value) ≡ p
     reads None is printed = absurd printed

@@ -1,8 +1,8 @@
 -- What a key and its value read as.
 use Rattle.str0m_formats.proofs.Common.{rules, arith, ◌≡◌, ℕ, List, [], ◌∷◌, map, Option, Some, None, refl, sym, ap, ◌∙◌, inl, inr, codes}
 use Rattle.str0m_formats.proofs.Common.{unwrap_or, to_ascii_lowercase, bytes_eq, none-some, bytes_eq-Decides, IsTheOnly, ◌>>=◌, num_only}
-use Rattle.str0m_formats.proofs.Common.{num_reads, when_true, some_is, only_read, one_answer, IfSome, option_map}
-use Rattle.str0m_formats.proofs.codec.CodecLookup.{find_passes, if_some_map, case_at}
+use Rattle.str0m_formats.proofs.Common.{num_reads, num_when_true, some_is, only_read, one_answer, IfSome, option_map}
+use Rattle.str0m_formats.proofs.codec.CodecLookup.{codec_find_passes, if_some_map, codec_case_at}
 use Rattle.str0m_formats.proofs.codec.CodecNames.{same_text}
 use Rattle.str0m_formats.proofs.format.FormatParamModes.{modes_only}
 use Rattle.str0m_formats.proofs.format.FormatParamReadingLaws.{hex_both}
@@ -12,29 +12,30 @@ use Rattle.str0m_formats.specs.declared.format.format_key.FormatKey.TheVariants 
 use Rattle.str0m_formats.specs.declared.format.format_param.FormatParam.{FormatParam}
 use Rattle.str0m_formats.specs.declared.format.format_param.FormatParam.TheVariants.{Unknown}
 use Rattle.str0m_formats.specs.format.FormatKey.{key_text}
-use Rattle.str0m_formats.specs.format.FormatParam.{Kind, flag, number, hex, modes, exactly, anything, Held, ReadsKind, kind, keyed}
+use Rattle.str0m_formats.specs.format.FormatParam.{Kind, flag, number, hex, modes, exactly, anything, HeldValue, ReadsKind, kind, keyed}
 use Rattle.str0m_formats.specs.format.FormatParam.{HoldsValue, Spells, IsParsed, AreParsed, IsEventRange, IsBare}
-use Rattle.str0m_formats.specs.format.FormatParamReading.{hex_read, keys, key_read, is_one, kind_read, value_read, param_of, bare_param}
+use Rattle.str0m_formats.specs.format.FormatParamReading.{hex_read, keys, key_read, is_flag_one, kind_read, value_read, param_of}
+use Rattle.str0m_formats.specs.format.FormatParamReading.{bare_param}
 
 -- ---- keys
 
 -- no two keys have the same text
-key_at-text : (k : FormatKey) → case_at key_text keys (map to_ascii_lowercase (key_text k)) ≡ Some k
+key_at-text : (k : FormatKey) → codec_case_at key_text keys (map to_ascii_lowercase (key_text k)) ≡ Some k
 key_at-text k = grind arith
 
 pub key_only : (text : List ℕ) → IsTheOnly (λ key. IsSameText text (key_text key)) (key_read text)
 unfolding key_read
-key_only text = search (rules, if_some_map, find_passes, same_text, key_at-text)
+key_only text = search (rules, if_some_map, codec_find_passes, same_text, key_at-text)
 
 -- ---- values
 
 -- a kind reads exactly what it is
-kind_complete : (k : Kind) (text : List ℕ) (x : Held k) → ReadsKind k text x → kind_read k text ≡ Some x
-kind_complete flag text b h = ap (λ b. Some b) (one_answer (is_one text) b (bytes_eq-Decides text (codes "1")) h)
+kind_complete : (k : Kind) (text : List ℕ) (x : HeldValue k) → ReadsKind k text x → kind_read k text ≡ Some x
+kind_complete flag text b h = ap (λ b. Some b) (one_answer (is_flag_one text) b (bytes_eq-Decides text (codes "1")) h)
 kind_complete (number limit) text n h = num_reads limit text n h
 kind_complete hex text n h = hex_both.complete text n h
 kind_complete modes text mask h = (modes_only text).only mask h
-kind_complete (exactly own) text x h = when_true (bytes_eq text own) (tt {0}) ((bytes_eq-Decides text own).1 h)
+kind_complete (exactly own) text x h = num_when_true (bytes_eq text own) (tt {0}) ((bytes_eq-Decides text own).1 h)
 kind_complete anything text x h = refl
 
 kind_sound : (k : Kind) (text : List ℕ) → IfSome (kind_read k text) (ReadsKind k text)

@@ -1,6 +1,7 @@
 -- Numbers after keys are read both ways.
 use Rattle.str0m_formats.proofs.Common.{arith, ◌≡◌, ℕ, true, List, [], ◌∷◌, Option, refl, AllDigits, ltb-true, lt-ltb, le-leb, leb-true}
-use Rattle.str0m_formats.proofs.Common.{and_parts, IsTheOnly, IsNumber, IsNum, num, when_some, when_true, only_read, and_from, reads_first}
+use Rattle.str0m_formats.proofs.Common.{and_parts, IsTheOnly, IsNumber, IsNum, num, when_some, num_when_true, only_read, and_from}
+use Rattle.str0m_formats.proofs.Common.{reads_first}
 use Rattle.str0m_formats.proofs.Common.{Reads}
 use Rattle.str0m_formats.proofs.format.FormatParamOnly.{only_same}
 use Rattle.str0m_formats.specs.format.FormatParam.{IsHexElseDecimal}
@@ -18,7 +19,7 @@ digits_true radix (c ∷ cs) h = grind (arith, and_from, lt-ltb, digits_true rad
 pub number_both : (radix limit : ℕ) → Reads (IsNumber radix limit) (number_read radix limit)
 unfolding number_read
 number_both radix limit =
-    grind (arith, when_some, and_parts, leb-true, ltb-true, digits_from, and_from, lt-ltb, digits_true, le-leb, when_true)
+    grind (arith, when_some, and_parts, leb-true, ltb-true, digits_from, and_from, lt-ltb, digits_true, le-leb, num_when_true)
 
 pub hex_both : Reads IsHexElseDecimal hex_read
 unfolding hex_read

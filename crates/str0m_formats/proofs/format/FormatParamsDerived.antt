@@ -61,14 +61,14 @@ eq_unit = record { test = λ x y. true; decides = λ x y. (λ h. refl, λ e. ref
 abbrev pub either_test : {A B : Type 0} → Equality A → Equality B → A ⊎ B → A ⊎ B → Bool
 either_test a b c d = ⊎_elim (λ x. ⊎_elim (λ y. a.test x y) (λ _. false) d) (λ x. ⊎_elim (λ _. false) (λ y. b.test x y) d) c
 
-pub either_Decides : {A B : Type 0} (a : Equality A) (b : Equality B) (c d : A ⊎ B) → Decides (either_test a b c d) (c ≡ d)
-either_Decides a b (inl x) (inl y) = Decides-like (a.test x y) (ap inl) (ap (left_or x)) (a.decides x y)
-either_Decides a b (inr x) (inr y) = Decides-like (b.test x y) (ap inr) (ap (right_or x)) (b.decides x y)
-either_Decides a b (inl x) (inr y) = (λ h. absurd (false≢true h), λ e. cc)
-either_Decides a b (inr x) (inl y) = (λ h. absurd (false≢true h), λ e. cc)
+pub param_either_Decides : {A B : Type 0} (a : Equality A) (b : Equality B) (c d : A ⊎ B) → Decides (either_test a b c d) (c ≡ d)
+param_either_Decides a b (inl x) (inl y) = Decides-like (a.test x y) (ap inl) (ap (left_or x)) (a.decides x y)
+param_either_Decides a b (inr x) (inr y) = Decides-like (b.test x y) (ap inr) (ap (right_or x)) (b.decides x y)
+param_either_Decides a b (inl x) (inr y) = (λ h. absurd (false≢true h), λ e. cc)
+param_either_Decides a b (inr x) (inl y) = (λ h. absurd (false≢true h), λ e. cc)
 
 abbrev pub eq_either : {A B : Type 0} → Equality A → Equality B → Equality (A ⊎ B)
-eq_either a b = record { test = either_test a b; decides = either_Decides a b }
+eq_either a b = record { test = either_test a b; decides = param_either_Decides a b }
 
 abbrev pub eq_never : Equality ⊥
 eq_never = record { test = λ x y. absurd x; decides = λ x y. absurd x }

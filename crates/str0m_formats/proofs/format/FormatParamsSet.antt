@@ -15,9 +15,9 @@ set_put : (f : Field) (x : FieldContent f) (p : FormatParams) → set (param_in 
 set_put (field.Key key.Apt) x p = refl
 set_put f x p = refl
 
-put_get : (f : Field) (p : FormatParams) → put f (get f p) p ≡ p
-put_get (field.Key key.Apt) p = refl
-put_get f p = refl
+param_put_get : (f : Field) (p : FormatParams) → put f (get f p) p ≡ p
+param_put_get (field.Key key.Apt) p = refl
+param_put_get f p = refl
 
 pub param_is : (f : Field) (p : FormatParams) → param_at f p ≡ option_map (param_in f) (get f p)
 param_is (field.Key key.Apt) p = refl
@@ -29,25 +29,25 @@ none_from_test o e = grind arith
 -- ---- one field after another
 
 -- the format p, with these fields of q
-abbrev pub filled : List Field → FormatParams → FormatParams → FormatParams
-filled [] q p = p
-filled (f ∷ fs) q p = filled fs q (put f (get f q) p)
+abbrev pub fields_filled : List Field → FormatParams → FormatParams → FormatParams
+fields_filled [] q p = p
+fields_filled (f ∷ fs) q p = fields_filled fs q (put f (get f q) p)
 
 -- none of these fields is given when its turn comes
-abbrev pub are_fresh : List Field → FormatParams → FormatParams → Bool
-are_fresh [] q p = true
-are_fresh (f ∷ fs) q p = is_none (get f p) && are_fresh fs q (put f (get f q) p)
+abbrev pub are_fields_fresh : List Field → FormatParams → FormatParams → Bool
+are_fields_fresh [] q p = true
+are_fields_fresh (f ∷ fs) q p = is_none (get f p) && are_fields_fresh fs q (put f (get f q) p)
 
 set_next : (f : Field) (q p : FormatParams) (rest : List FormatParam) → is_none (get f p) ≡ true
     → set_all p (cons_option (param_at f q) rest) ≡ set_all (put f (get f q) p) rest
 set_next f q p rest none = ap (λ o. set_all p (cons_option o rest)) (param_is f q) ∙ go (get f q)
   where
     go : (o : Option (FieldContent f)) → set_all p (cons_option (option_map (param_in f) o) rest) ≡ set_all (put f o p) rest
-    go None = ap (λ p. set_all p rest) (sym (ap (λ o. put f o p) (sym (none_from_test (get f p) none)) ∙ put_get f p))
+    go None = ap (λ p. set_all p rest) (sym (ap (λ o. put f o p) (sym (none_from_test (get f p) none)) ∙ param_put_get f p))
     go (Some x) = ap (λ p. set_all p rest) (set_put f x p)
 
-pub set_each : (fs : List Field) (q p : FormatParams) → are_fresh fs q p ≡ true
-    → set_all p (filter_map (λ f. param_at f q) fs) ≡ filled fs q p
+pub set_each : (fs : List Field) (q p : FormatParams) → are_fields_fresh fs q p ≡ true
+    → set_all p (filter_map (λ f. param_at f q) fs) ≡ fields_filled fs q p
 set_each [] q p fresh = refl
 set_each (f ∷ fs) q p fresh = grind (arith, and_parts, set_next, set_each fs q)
 

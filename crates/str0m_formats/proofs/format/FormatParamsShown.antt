@@ -4,10 +4,10 @@ use Rattle.str0m_formats.proofs.Common.{◌≡◌, ◌≤◌, ◌<◌, ◌-◌, 
 use Rattle.str0m_formats.proofs.Common.{IfSome, option_map, refl, sym, ap, ◌∙◌, arith, lit≤, lit<, codes, decimal, AllByRecursion}
 use Rattle.str0m_formats.proofs.Common.{cons_option, join_with_byte, list_all, false≢true, append_assoc, length-append, none-some, IsRest}
 use Rattle.str0m_formats.proofs.Common.{decimal_is_IsNumeral, digits_is_IsNumeral, ProfileTierLevel, zero, suc}
-use Rattle.str0m_formats.proofs.format.FormatParamAgain.{is_small, key_small, limit_small, modes_filled, key_reads}
+use Rattle.str0m_formats.proofs.format.FormatParamAgain.{param_is_kind_small, key_small, limit_small, modes_filled, key_reads}
 use Rattle.str0m_formats.proofs.format.FormatParamsSet.{param_is}
 use Rattle.str0m_formats.proofs.format.PairsRows.{Slots, given}
-use Rattle.str0m_formats.proofs.format.PairsSolid.{IsSolid, is_solid, solid_from, solid_append, digits_solid, below, below_at}
+use Rattle.str0m_formats.proofs.format.PairsSolid.{IsSolid, is_solid, solid_from, solid_append, digits_solid, passes_below, passes_below_at}
 use Rattle.str0m_formats.proofs.format.PairsTripleLaws.{AreBytes, h265_small, h266_small}
 use Rattle.str0m_formats.specs.declared.format.format_key.FormatKey.{FormatKey}
 use Rattle.str0m_formats.specs.declared.format.format_key.FormatKey.TheVariants as key
@@ -19,10 +19,11 @@ use Rattle.str0m_formats.specs.declared.format.format_params.Field.{Field}
 use Rattle.str0m_formats.specs.declared.format.format_params.Field.TheVariants as field
 use Rattle.str0m_formats.specs.declared.format.format_params.FormatParams.{FormatParams}
 use Rattle.str0m_formats.specs.format.FormatKey.{key_text}
-use Rattle.str0m_formats.specs.format.FormatParam.{Kind, flag, number, hex, modes, exactly, anything, Held, kind, keyed, entry, InRange}
+use Rattle.str0m_formats.specs.format.FormatParam.{Kind, flag, number, hex, modes, exactly, anything, HeldValue, kind, keyed, entry}
+use Rattle.str0m_formats.specs.format.FormatParam.{InRange}
 use Rattle.str0m_formats.specs.format.FormatParam.{value_text, entry_text, six_digits, mode_list, triple_text, param_text}
 use Rattle.str0m_formats.specs.format.FormatParamReading.{param_of}
-use Rattle.str0m_formats.specs.format.FormatParams.{get, param_in, param_at, IsWithin}
+use Rattle.str0m_formats.specs.format.FormatParams.{get, param_in, param_at, IsFieldWithin}
 use Rattle.str0m_formats.specs.format.PairsReading.{Tables, h265_tables, h266_tables}
 
 -- ---- solid values
@@ -37,17 +38,17 @@ zeros_solid (suc k) = (refl, zeros_solid k)
 six_solid : (n : ℕ) → n ≤ 4294967295 → IsSolid (six_digits n)
 six_solid n le = grind (arith, solid_append, zeros_solid, digits_solid, digits_is_IsNumeral)
 
-modes_solid : below (λ mask. list_all is_solid (mode_list mask)) 512 ≡ true
-unfolding below digits
+modes_solid : passes_below (λ mask. list_all is_solid (mode_list mask)) 512 ≡ true
+unfolding passes_below digits
 modes_solid = refl
 
-value_solid : (k : Kind) (x : Held k) → is_small k ≡ true → InRange k x → IsSolid (value_text k x)
+value_solid : (k : Kind) (x : HeldValue k) → param_is_kind_small k ≡ true → InRange k x → IsSolid (value_text k x)
 value_solid flag true small h = solid_from (codes "1") refl
 value_solid flag false small h = solid_from (codes "0") refl
 value_solid (number limit) n small h = decimal_solid n (limit_small limit n small h)
 value_solid hex n small h = six_solid n h
 value_solid modes mask small h = solid_from (mode_list mask)
-    (below_at (λ mask. list_all is_solid (mode_list mask)) 512 mask modes_solid (omega (arith, h.1)))
+    (passes_below_at (λ mask. list_all is_solid (mode_list mask)) 512 mask modes_solid (omega (arith, h.1)))
 value_solid (exactly own) x small h = absurd h
 value_solid anything x small h = absurd h
 
@@ -62,7 +63,7 @@ key_filled k = grind arith
 decimal_filled : (n : ℕ) → n ≤ 4294967295 → IsRest (decimal n)
 decimal_filled n small = (decimal_is_IsNumeral n (omega arith)).0.0
 
-value_filled : (k : Kind) (x : Held k) → is_small k ≡ true → InRange k x → IsRest (value_text k x)
+value_filled : (k : Kind) (x : HeldValue k) → param_is_kind_small k ≡ true → InRange k x → IsRest (value_text k x)
 value_filled flag true small h = lit< tt
 value_filled flag false small h = lit< tt
 value_filled (number limit) n small h = decimal_filled n (limit_small limit n small h)
@@ -81,7 +82,7 @@ abbrev pub IsSolidPair : List ℕ × List ℕ → Type 0
 IsSolidPair pair = IsSolid pair.0 × IsSolid pair.1 × IsRest pair.0 × IsRest pair.1
 
 abbrev pub Entry : Type 0
-Entry = (k : FormatKey) × Held (kind k)
+Entry = (k : FormatKey) × HeldValue (kind k)
 
 abbrev pub HasRange : Entry → Type 0
 HasRange e = InRange (kind e.0) e.1
@@ -107,7 +108,7 @@ text_of param e is = ap entry_text is ∙ entry_joined e
 
 -- ---- keys with what may stand for them
 
-abbrev pub slot : (k : FormatKey) → Option (Held (kind k)) → Slots
+abbrev pub slot : (k : FormatKey) → Option (HeldValue (kind k)) → Slots
 slot k o = (key_text k, option_map (value_text (kind k)) o) ∷ []
 
 abbrev pub triple_slots : {P T L : Type 0} → Tables P T L → Option (ProfileTierLevel P T L) → Slots
@@ -160,16 +161,17 @@ entry_at key.ModeChangePeriod p = tt
 entry_at key.Interleaving p = tt
 entry_at k p = each_some (λ x. entry (keyed k x) ≡ Some (k, x)) (get (field.Key k) p) (λ x. refl)
 
-key_shown : (k : FormatKey) (o : Option (Held (kind k))) → IfSome o (λ x. entry (keyed k x) ≡ Some (k, x))
+key_shown : (k : FormatKey) (o : Option (HeldValue (kind k))) → IfSome o (λ x. entry (keyed k x) ≡ Some (k, x))
     → IsShown (option_map (keyed k) o) (map joined_pair (given (slot k o)) ++ [])
 key_shown k None is = refl
 key_shown k (Some x) is = (joined_pair (pair_of_entry (k, x)), [], refl, text_of (keyed k x) (k, x) is)
 
-pairs_solid : (k : FormatKey) (o : Option (Held (kind k))) → IfSome o (InRange (kind k)) → AllByRecursion IsSolidPair (given (slot k o))
+pairs_solid : (k : FormatKey) (o : Option (HeldValue (kind k))) → IfSome o (InRange (kind k))
+    → AllByRecursion IsSolidPair (given (slot k o))
 pairs_solid k None h = tt
 pairs_solid k (Some x) h = (pair_solid (k, x) h, tt)
 
-slot_reads : (k : FormatKey) (o : Option (Held (kind k))) → IfSome o (InRange (kind k))
+slot_reads : (k : FormatKey) (o : Option (HeldValue (kind k))) → IfSome o (InRange (kind k))
     → map param_of (given (slot k o)) ≡ cons_option (option_map (keyed k) o) []
 slot_reads k o h = grind (arith, key_reads)
 
@@ -240,7 +242,7 @@ shown_at field.H266ProfileTierLevel p = triple_shown h266_tables (λ t. H266Prof
     p.h266_profile_tier_level
 shown_at field.TelephoneEvents p = events_shown p.telephone_event_max
 
-solid_at : (f : Field) (p : FormatParams) → IfSome (get f p) (IsWithin f) → AllByRecursion IsSolidPair (given (slots_at f p))
+solid_at : (f : Field) (p : FormatParams) → IfSome (get f p) (IsFieldWithin f) → AllByRecursion IsSolidPair (given (slots_at f p))
 solid_at (field.Key k) p h = pairs_solid k (get (field.Key k) p) h
 solid_at field.H265ProfileTierLevel p h = triple_solid h265_tables (λ t. H265ProfileTierLevel t) h265_small (λ t. refl)
     p.h265_profile_tier_level
@@ -248,19 +250,19 @@ solid_at field.H266ProfileTierLevel p h = triple_solid h266_tables (λ t. H266Pr
     p.h266_profile_tier_level
 solid_at field.TelephoneEvents p h = tt
 
-bares_solid : (f : Field) (p : FormatParams) → IfSome (get f p) (IsWithin f) → AllByRecursion IsSolid (bares_at f p)
+bares_solid : (f : Field) (p : FormatParams) → IfSome (get f p) (IsFieldWithin f) → AllByRecursion IsSolid (bares_at f p)
 bares_solid field.TelephoneEvents p h = events_solid p.telephone_event_max h
 bares_solid f p h = tt
 
-pub shows : (f : Field) (p : FormatParams) → IfSome (get f p) (IsWithin f) → ShowsField f p
+pub shows : (f : Field) (p : FormatParams) → IfSome (get f p) (IsFieldWithin f) → ShowsField f p
 shows f p h = grind (arith, param_is, shown_at, solid_at, bares_solid)
 
 -- whether the field has one key
-abbrev pub is_single : Field → Bool
-is_single (field.Key k) = true
-is_single f = false
+abbrev pub shown_is_single : Field → Bool
+shown_is_single (field.Key k) = true
+shown_is_single f = false
 
-pub field_reads : (f : Field) (p : FormatParams) → is_single f ≡ true → IfSome (get f p) (IsWithin f) → ReadsField f p
+pub field_reads : (f : Field) (p : FormatParams) → shown_is_single f ≡ true → IfSome (get f p) (IsFieldWithin f) → ReadsField f p
 field_reads (field.Key k) p single h = slot_reads k (get (field.Key k) p) h ∙ ap (λ o. cons_option o []) (sym (param_is (field.Key k) p))
 field_reads field.H265ProfileTierLevel p single h = absurd (false≢true single)
 field_reads field.H266ProfileTierLevel p single h = absurd (false≢true single)

@@ -95,23 +95,24 @@ places_grow old new es after k v n known more last none is key =
 -- ---- by a look at each
 
 -- no key so far, and not this one
-pub none_more : (key : List ℕ) (entries : List (Bor (List ℕ) × Bor (List ℕ))) (i : ℕ) (d : Bor (List ℕ) × Bor (List ℕ)) → i < length entries
+pub merged_no_key_more : (key : List ℕ) (entries : List (Bor (List ℕ) × Bor (List ℕ))) (i : ℕ) (d : Bor (List ℕ) × Bor (List ℕ))
+    → i < length entries
     → IsPlace (bytes_eq key) (pair_texts (take i entries)) None → bytes_eq key (get_or entries i d).0.now ≡ false
     → IsPlace (bytes_eq key) (pair_texts (take (i + 1) entries)) None
-none_more key entries i d lt none other =
+merged_no_key_more key entries i d lt none other =
     let e = get_or entries i d in
     subst (λ (es : List (List ℕ × List ℕ)). IsPlace (bytes_eq key) es None)
     (sym (map-append (λ p. (p.0.now, p.1.now)) (take i entries) (e ∷ [])) ∙ ap (λ es. pair_texts es) (sym (take_more entries i d lt)))
     (place_push (bytes_eq key) (pair_texts (take i entries)) (e.0.now, e.1.now) None none other)
 
 -- no key so far, but this one
-pub first_here : (key : List ℕ) (entries : List (Bor (List ℕ) × Bor (List ℕ))) (i : ℕ) (d : Bor (List ℕ) × Bor (List ℕ))
+pub merged_first_key_here : (key : List ℕ) (entries : List (Bor (List ℕ) × Bor (List ℕ))) (i : ℕ) (d : Bor (List ℕ) × Bor (List ℕ))
     → i < length entries
     → IsPlace (bytes_eq key) (pair_texts (take i entries)) None → bytes_eq key (get_or entries i d).0.now ≡ true
     → IsPlace (bytes_eq key) (pair_texts entries) (Some i)
-first_here key [] i d lt none is = absurd (omega (arith, lt))
-first_here key (e ∷ es) zero d lt none is = is
-first_here key (e ∷ es) (suc i) d lt none is = (none.0, first_here key es i d (omega (arith, lt)) none.1 is)
+merged_first_key_here key [] i d lt none is = absurd (omega (arith, lt))
+merged_first_key_here key (e ∷ es) zero d lt none is = is
+merged_first_key_here key (e ∷ es) (suc i) d lt none is = (none.0, merged_first_key_here key es i d (omega (arith, lt)) none.1 is)
 
 -- ---- entries as they lie in memory
 
@@ -144,9 +145,9 @@ pub pair_pushed : (entries after : List (Bor (List ℕ) × Bor (List ℕ))) (e :
     → pair_texts after ≡ pair_texts entries ++ (e.0.now, e.1.now) ∷ []
 pair_pushed entries after e is = ap (λ es. pair_texts es) is ∙ map-append (λ p. (p.0.now, p.1.now)) entries (e ∷ [])
 
-pub as_many : (entries : List (Bor (List ℕ) × Bor (List ℕ))) → length (pair_texts entries) ≡ length entries
-as_many [] = refl
-as_many (e ∷ es) = ap suc (as_many es)
+pub as_many_pairs : (entries : List (Bor (List ℕ) × Bor (List ℕ))) → length (pair_texts entries) ≡ length entries
+as_many_pairs [] = refl
+as_many_pairs (e ∷ es) = ap suc (as_many_pairs es)
 
 -- ---- another value in its place
 

@@ -7,8 +7,9 @@ use Rattle.str0m_formats.proofs.format.FormatKeyAgain.{IsKeyed, AreKeyed, pair_o
 use Rattle.str0m_formats.proofs.format.FormatKeyAgain.{keyed_shown, shown_keyed, keyed_params, keyed_texts, keyed_pairs, keyed_unmarked}
 use Rattle.str0m_formats.proofs.format.FormatLineAgain.{unmarked, marked}
 use Rattle.str0m_formats.proofs.format.FormatParamsShown.{IsSolidPair, joined_pair, decimal_solid}
-use Rattle.str0m_formats.proofs.format.MergedPairsKeys.{IsLow, AreLow, AreApart, merged_apart, others_all, others_apart, others_other}
-use Rattle.str0m_formats.proofs.format.MergedPairsKeys.{others_same, merged_same}
+use Rattle.str0m_formats.proofs.format.MergedPairsKeys.{IsLowKey, AreLowKeys, AreKeysApart, merged_apart, merged_others_all}
+use Rattle.str0m_formats.proofs.format.MergedPairsKeys.{merged_others_apart, merged_others_other}
+use Rattle.str0m_formats.proofs.format.MergedPairsKeys.{merged_others_same, merged_same}
 use Rattle.str0m_formats.proofs.format.PairsSolid.{solid_from}
 use Rattle.str0m_formats.proofs.format.PairsTripleLaws.{AreBytes, texts_shown, h265_small, h266_small, h265_again, h266_again}
 use Rattle.str0m_formats.specs.declared.format.format_key.TheConstants.{PROFILE_ID, TIER_FLAG, LEVEL_ID}
@@ -16,7 +17,7 @@ use Rattle.str0m_formats.specs.declared.format.format_param.FormatParam.{FormatP
 use Rattle.str0m_formats.specs.declared.format.format_param.FormatParam.TheVariants.{H265ProfileTierLevel, H266ProfileTierLevel}
 use Rattle.str0m_formats.specs.format.FormatParam.{IsParsed, AreParsed, triple_text, param_text}
 use Rattle.str0m_formats.specs.format.FormatParamReading.{param_of}
-use Rattle.str0m_formats.specs.format.Pairs.{has_mark, merged, others, is_part, AreJoined, AreRead}
+use Rattle.str0m_formats.specs.format.Pairs.{has_triple_mark, merged, others, is_part, AreJoinedPairs, AreRead}
 use Rattle.str0m_formats.specs.format.PairsReading.{Tables, h265_tables, h266_tables, params_read, triple_read}
 
 -- the parameters print as pairs that are read as them
@@ -38,11 +39,12 @@ read_alone pairs params are = keyed_line (filter prints params) (shown_keyed pai
 -- ---- keys that stand once
 
 -- what is read of a pair in lower case prints the pair's key
-same_key : (pair : List ℕ × List ℕ) (param : FormatParam) → IsLow pair.0 → IsParsed pair param → IsKeyed param → (pair_of param).0 ≡ pair.0
+same_key : (pair : List ℕ × List ℕ) (param : FormatParam) → IsLowKey pair.0 → IsParsed pair param → IsKeyed param
+    → (pair_of param).0 ≡ pair.0
 same_key pair param low o keyed = grind (arith, own_key, key_unmarked)
 
 -- what all keys of pairs have, all keys of what is printed have
-all_keys : (P : List ℕ → Type 0) (pairs : List (List ℕ × List ℕ)) (params : List FormatParam) → AreLow pairs → AreParsed pairs params
+all_keys : (P : List ℕ → Type 0) (pairs : List (List ℕ × List ℕ)) (params : List FormatParam) → AreLowKeys pairs → AreParsed pairs params
     → AllByRecursion P (keys_of pairs) → AllByRecursion P (keys_of (map pair_of (filter prints params)))
 all_keys P [] [] low are all = tt
 all_keys P [] (param ∷ params) low are all = absurd are
@@ -55,7 +57,7 @@ all_keys P (pair ∷ pairs) (param ∷ params) low are all =
       | inr hidden ↦ rw hidden (all_keys P pairs params low.1 are.1 all.1)
     ]
 
-distinct_keys : (pairs : List (List ℕ × List ℕ)) (params : List FormatParam) → AreLow pairs → AreParsed pairs params
+distinct_keys : (pairs : List (List ℕ × List ℕ)) (params : List FormatParam) → AreLowKeys pairs → AreParsed pairs params
     → IsDistinct bytes_eq (keys_of pairs) → IsDistinct bytes_eq (keys_of (map pair_of (filter prints params)))
 distinct_keys [] [] low are all = all
 distinct_keys [] (param ∷ params) low are all = absurd are
@@ -82,10 +84,10 @@ abbrev triple_joined : List ℕ → List ℕ → List ℕ → List ℕ
 triple_joined a b c = codes "profile-id=" ++ (a ++ (codes ";tier-flag=" ++ (b ++ (codes ";level-id=" ++ c))))
 
 -- parameters whose keys differ, and are none of the triple's
-record AreOthers (params : List FormatParam) : Type 0 where
+record AreOtherPairs (params : List FormatParam) : Type 0 where
   keyed : AreKeyed params
-  low : AreLow (map pair_of params)
-  apart : AreApart (map pair_of params)
+  low : AreLowKeys (map pair_of params)
+  apart : AreKeysApart (map pair_of params)
   other : AllByRecursion (λ k. is_part k ≡ false) (keys_of (map pair_of params))
 
 -- a key that is no part differs from each part
@@ -94,22 +96,23 @@ no_part : (P : List ℕ → Type 0) (ks : List (List ℕ)) → ((k : List ℕ) �
 no_part P [] each none = tt
 no_part P (k ∷ ks) each none = (each k none.0, no_part P ks each none.1)
 
-differs : (part k : List ℕ) → is_part part ≡ true → is_part k ≡ false → bytes_eq part k ≡ false
-differs part k is other = grind (arith, false_from_ne_true, bytes_eq-Decides)
+pairs_triple_part_differs : (part k : List ℕ) → is_part part ≡ true → is_part k ≡ false → bytes_eq part k ≡ false
+pairs_triple_part_differs part k is other = grind (arith, false_from_ne_true, bytes_eq-Decides)
 
-part_apart : (part : List ℕ) (params : List FormatParam) → is_part part ≡ true → AreOthers params
+part_apart : (part : List ℕ) (params : List FormatParam) → is_part part ≡ true → AreOtherPairs params
     → AllByRecursion (λ k. bytes_eq part k ≡ false) (keys_of (map pair_of params))
-part_apart part params is h = grind (arith, no_part, differs)
+part_apart part params is h = grind (arith, no_part, pairs_triple_part_differs)
 
-whole_apart : (a b c : List ℕ) (params : List FormatParam) → AreOthers params → AreApart (triple_pairs a b c ++ map pair_of params)
-whole_apart a b c params h =
+pairs_whole_triple_apart : (a b c : List ℕ) (params : List FormatParam) → AreOtherPairs params
+    → AreKeysApart (triple_pairs a b c ++ map pair_of params)
+pairs_whole_triple_apart a b c params h =
     IsDistinct-cons bytes_eq PROFILE_ID.now _ (refl, (refl, part_apart PROFILE_ID.now params refl h))
     (IsDistinct-cons bytes_eq TIER_FLAG.now _ (refl, part_apart TIER_FLAG.now params refl h)
     (IsDistinct-cons bytes_eq LEVEL_ID.now _ (part_apart LEVEL_ID.now params refl h) h.apart))
 
-whole_marked : (a b c : List ℕ) (pairs : List (List ℕ × List ℕ)) → has_mark (triple_pairs a b c ++ pairs) ≡ true
-unfolding has_mark
-whole_marked a b c pairs = refl
+pairs_whole_triple_marked : (a b c : List ℕ) (pairs : List (List ℕ × List ℕ)) → has_triple_mark (triple_pairs a b c ++ pairs) ≡ true
+unfolding has_triple_mark
+pairs_whole_triple_marked a b c pairs = refl
 
 whole_text : (q : FormatParam) (a b c : List ℕ) (params : List FormatParam) → AreKeyed params → param_text q ≡ triple_joined a b c
     → join_with_byte 59 (map param_text (q ∷ params)) ≡ join_with_byte 59 (map joined_pair (triple_pairs a b c ++ map pair_of params))
@@ -120,15 +123,16 @@ whole_text q a b c (param ∷ params) keyed e =
     ∙ simp append_assoc
 
 triple_line : (q : FormatParam) (a b c : List ℕ) (params : List FormatParam) → param_text q ≡ triple_joined a b c
-    → AllByRecursion IsSolidPair (triple_pairs a b c) → triple_read (Some a, Some b, Some c) ≡ Some q → AreOthers params
+    → AllByRecursion IsSolidPair (triple_pairs a b c) → triple_read (Some a, Some b, Some c) ≡ Some q → AreOtherPairs params
     → IsPairsLine (q ∷ params)
 triple_line q a b c params text plain read h = record {
   pairs = pairs;
   plain = (plain.0, (plain.1.0, (plain.1.1.0, keyed_pairs params h.keyed)));
   text = whole_text q a b c params h.keyed text;
   read =
-      marked pairs (whole_marked a b c (map pair_of params)) (merged_same pairs (refl, (refl, (refl, h.low))) (whole_apart a b c params h))
-      ∙ (λ i. cons_option (read i) (map param_of (others_same (map pair_of params) h.other i)))
+      marked pairs (pairs_whole_triple_marked a b c (map pair_of params))
+      (merged_same pairs (refl, (refl, (refl, h.low))) (pairs_whole_triple_apart a b c params h))
+      ∙ (λ i. cons_option (read i) (map param_of (merged_others_same (map pair_of params) h.other i)))
       ∙ ap (λ (ps : List FormatParam). q ∷ ps) (keyed_params params h.keyed);
   some = λ some e. absurd cc;
 }
@@ -141,37 +145,40 @@ numbers_solid k m n p q r = grind (arith, solid_from, decimal_solid, decimal_non
 
 shows_triple : {P T L : Type 0} (tables : Tables P T L) (q : FormatParam) (t : ProfileTierLevel P T L) (params : List FormatParam)
     → param_text q ≡ triple_text (tables.profile_id t.profile) (tables.tier_flag t.tier) (tables.level_id t.level)
-    → AreBytes tables t → triple_read (texts_shown tables t) ≡ Some q → AreOthers params → IsPairsLine (q ∷ params)
+    → AreBytes tables t → triple_read (texts_shown tables t) ≡ Some q → AreOtherPairs params → IsPairsLine (q ∷ params)
 shows_triple tables q t params text small read h = grind (arith, triple_line, numbers_solid)
 
 -- ---- all pairs
 
-others_of : (pairs : List (List ℕ × List ℕ)) (params : List FormatParam) → AreParsed (others (merged pairs)) params
-    → AreOthers (filter prints params)
-others_of pairs params are =
+pairs_others_of : (pairs : List (List ℕ × List ℕ)) (params : List FormatParam) → AreParsed (others (merged pairs)) params
+    → AreOtherPairs (filter prints params)
+pairs_others_of pairs params are =
     let kept = others (merged pairs) in
     let all = merged_apart pairs in
-    let low = others_all IsLow (merged pairs) all.1 in
+    let low = merged_others_all IsLowKey (merged pairs) all.1 in
     record {
       keyed = shown_keyed kept params are;
-      low = all_keys IsLow kept params low are low;
-      apart = distinct_keys kept params low are (others_apart (merged pairs) all.0);
-      other = all_keys (λ k. is_part k ≡ false) kept params low are (others_other (merged pairs));
+      low = all_keys IsLowKey kept params low are low;
+      apart = distinct_keys kept params low are (merged_others_apart (merged pairs) all.0);
+      other = all_keys (λ k. is_part k ≡ false) kept params low are (merged_others_other (merged pairs));
     }
 
-joined_line : (pairs : List (List ℕ × List ℕ)) (params : List FormatParam) → AreJoined (merged pairs) params
+joined_line : (pairs : List (List ℕ × List ℕ)) (params : List FormatParam) → AreJoinedPairs (merged pairs) params
     → IsPairsLine (filter prints params)
 joined_line pairs params (triple, rest, inl (t, h265, is), are, joined) =
     rw (joined, is, lt-ltb 0 (length (param_text (H265ProfileTierLevel t))) (omega arith))
-    (shows_triple h265_tables (H265ProfileTierLevel t) t (filter prints rest) refl (h265_small t) (h265_again t) (others_of pairs rest are))
+    (shows_triple h265_tables (H265ProfileTierLevel t) t (filter prints rest) refl (h265_small t) (h265_again t)
+    (pairs_others_of pairs rest are))
 joined_line pairs params (triple, rest, inr (no_h265, inl (t, h266, is)), are, joined) =
     rw (joined, is, lt-ltb 0 (length (param_text (H266ProfileTierLevel t))) (omega arith))
-    (shows_triple h266_tables (H266ProfileTierLevel t) t (filter prints rest) refl (h266_small t) (h266_again t) (others_of pairs rest are))
+    (shows_triple h266_tables (H266ProfileTierLevel t) t (filter prints rest) refl (h266_small t) (h266_again t)
+    (pairs_others_of pairs rest are))
 joined_line pairs params (triple, rest, inr (no_h265, inr (no_h266, is)), are, joined) = grind (arith, read_alone)
 
 pub pairs_again : (pairs : List (List ℕ × List ℕ)) (params : List FormatParam) → AreRead pairs params → IsPairsLine (filter prints params)
-pairs_again pairs params read = go (has_mark pairs) read
+pairs_again pairs params read = go (has_triple_mark pairs) read
   where
-    go : (marked : Bool) → MatchBool marked (AreJoined (merged pairs) params) (AreParsed pairs params) → IsPairsLine (filter prints params)
+    go : (marked : Bool) → MatchBool marked (AreJoinedPairs (merged pairs) params) (AreParsed pairs params)
+        → IsPairsLine (filter prints params)
     go true h = joined_line pairs params h
     go false h = read_alone pairs params h

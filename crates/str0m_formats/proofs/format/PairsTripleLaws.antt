@@ -1,7 +1,7 @@
 -- The triple of three values is read both ways.
 use Rattle.str0m_formats.proofs.Common.{◌≡◌, ◌≤◌, ℕ, List, Option, Some, None, refl, sym, subst, ◌∙◌, inl, inr, arith, rules, Bor, decimal}
 use Rattle.str0m_formats.proofs.Common.{none-some, IsTheOnly, ◌<|>◌, ProfileTierLevel, num_found, num_reads, only_read, bind_some, some_is}
-use Rattle.str0m_formats.proofs.Common.{reads_none, option_map, IsGiven, lay, none_reads, Reads}
+use Rattle.str0m_formats.proofs.Common.{reads_none, option_map, IsGivenNumber, lay, none_reads, Reads}
 use Rattle.str0m_formats.proofs.format.FormatParamAgain.{decimal_reads}
 use Rattle.str0m_formats.proofs.format.FormatParamOnly.{only_same}
 use Rattle.str0m_formats.specs.declared.format.format_param.FormatParam.{FormatParam}
@@ -15,8 +15,8 @@ use Rattle.str0m_values.specs.H266.{H266ProfileTierLevel as h266_triple}
 use Rattle.str0m_values.specs.ProfileTierLevel.{HasGivenNumbers, HasNumbersOfTexts, Tables, value_in}
 use Rattle.str0m_values.specs.declared.h266.H266Level.{H266Level}
 
-given_both : (default : ℕ) → Reads (IsGiven 255 default) (given_read default)
-given_both default = grind (arith, some_is, num_found, num_reads)
+given_number_both : (default : ℕ) → Reads (IsGivenNumber 255 default) (given_read default)
+given_number_both default = grind (arith, some_is, num_found, num_reads)
 
 -- beside each number stands the only value that has it
 record IsTable {A : Type 0} (number_of : A → ℕ) (rows : List (A × ℕ)) : Type 0 where
@@ -24,8 +24,8 @@ record IsTable {A : Type 0} (number_of : A → ℕ) (rows : List (A × ℕ)) : T
   byte : (value : A) → number_of value ≤ 255
 
 value_both : {A : Type 0} {id : A → ℕ} {rows : List (A × ℕ)} (default : ℕ) → IsTable id rows
-    → Reads (λ text a. IsGiven 255 default text (id a)) (table_read rows default)
-value_both {A} {id} {rows} default table = grind (arith, bind_some, given_both default)
+    → Reads (λ text a. IsGivenNumber 255 default text (id a)) (table_read rows default)
+value_both {A} {id} {rows} default table = grind (arith, bind_some, given_number_both default)
 
 -- ---- a codec's triples, by its tables
 
@@ -83,8 +83,8 @@ module _ {P T L : Type 0} (tables : Tables P T L) (are : AreTables tables) where
   triple_small : (t : ProfileTierLevel P T L) → AreBytes tables t
   triple_small t = (are.profiles.byte t.profile, are.tiers.byte t.tier, are.levels.byte t.level)
 
-  shown_again : (t : ProfileTierLevel P T L) → read_triple tables (texts_shown tables t) ≡ Some t
-  shown_again t =
+  triple_shown_again : (t : ProfileTierLevel P T L) → read_triple tables (texts_shown tables t) ≡ Some t
+  triple_shown_again t =
       let small = triple_small t in
       triple_both.complete (texts_shown tables t) t (record {
         profile_is = decimal_reads 255 (tables.profile_id t.profile) small.0 (omega (arith, small.0));
@@ -133,10 +133,10 @@ no_h265 t =
     none-some u.level (sym (levels_apart t.level) ∙ (h265_are.levels.only (h266.level_id t.level)).only u.level same))
 
 pub h265_again : (t : h265_triple) → triple_read (texts_shown h265_tables t) ≡ Some (H265ProfileTierLevel t)
-h265_again t = rw (shown_again h265_tables h265_are t) refl
+h265_again t = rw (triple_shown_again h265_tables h265_are t) refl
 
 pub h266_again : (t : h266_triple) → triple_read (texts_shown h266_tables t) ≡ Some (H266ProfileTierLevel t)
-h266_again t = rw (no_h265 t, shown_again h266_tables h266_are t) refl
+h266_again t = rw (no_h265 t, triple_shown_again h266_tables h266_are t) refl
 
 -- ---- the triple of either codec
 

@@ -31,9 +31,9 @@ best_stays points rows best row it h = (
 )
 
 -- a row is the choice where no row before it has a greater score
-goes_last : (points : PayloadParams → Option ℕ) (rows : List PayloadParams) (n : ℕ) (row : PayloadParams) → points row ≡ Some n
+choice_goes_last : (points : PayloadParams → Option ℕ) (rows : List PayloadParams) (n : ℕ) (row : PayloadParams) → points row ≡ Some n
     → All (λ r. IfSome (points r) (λ k. k ≤ n)) rows → IsChoiceSoFar points (rows ++ row ∷ []) (Some (row, n))
-goes_last points rows n row h at_most = (
+choice_goes_last points rows n row h at_most = (
   record {
     before = rows;
     after = [];
@@ -70,7 +70,7 @@ choice_step : (points : PayloadParams → Option ℕ) (rows : List PayloadParams
     (o : Option ℕ) → points row ≡ o
     → IsChoiceSoFar points rows so_far → IsChoiceSoFar points (rows ++ row ∷ []) (better so_far row o)
 choice_step points rows None row None e c = All-push (λ r. points r ≡ None) rows row c e
-choice_step points rows None row (Some n) e c = goes_last points rows n row e (none_so_far points rows n c)
+choice_step points rows None row (Some n) e c = choice_goes_last points rows n row e (none_so_far points rows n c)
 choice_step points rows (Some (best, most)) row None e c =
     let new = best_stays points rows best row c.0 (MatchOption-from_none (points row) (λ n. n < c.0.most) e) in (new.0, new.1 ∙ c.1)
 choice_step points rows (Some (best, most)) row (Some n) e c = go (nat_lt n most) refl where
@@ -81,7 +81,7 @@ choice_step points rows (Some (best, most)) row (Some n) e c = go (nat_lt n most
       (new.0, new.1 ∙ c.1)
   go false l =
       let least : most ≤ n = ltb-false n most l in
-      goes_last points rows n row e (at_most_so_far points rows best n c.0 (omega (arith, c.1, least)))
+      choice_goes_last points rows n row e (at_most_so_far points rows best n c.0 (omega (arith, c.1, least)))
 
 -- one row further in the list that is gone over
 pub choice_next : (points : PayloadParams → Option ℕ) (rows : List PayloadParams) (i : ℕ) (row : PayloadParams) (o : Option ℕ)

@@ -51,11 +51,11 @@ unfolding least_bit
 least-zero = refl
 
 -- a mask of d ones, the least of them at lo
-abbrev IsRun : ℕ → ℕ → ℕ → Type 0
-IsRun mask lo d = (mask ≡ (2 ^ d - 1) * 2 ^ lo + 0) × (mask ≡ 2 ^ (lo + d) - 2 ^ lo) × (mask < 2 ^ (lo + d)) × (lo + d ≤ 128)
+abbrev IsBitRun : ℕ → ℕ → ℕ → Type 0
+IsBitRun mask lo d = (mask ≡ (2 ^ d - 1) * 2 ^ lo + 0) × (mask ≡ 2 ^ (lo + d) - 2 ^ lo) × (mask < 2 ^ (lo + d)) × (lo + d ≤ 128)
 
 -- the least type under it is the first of a range that passes
-least_masked : (bits mask : ℕ) (q : ℕ → Bool) (lo d : ℕ) → IsRun mask lo d → ((i : ℕ) → i < 128 → bit_set bits i ≡ q i)
+least_masked : (bits mask : ℕ) (q : ℕ → Bool) (lo d : ℕ) → IsBitRun mask lo d → ((i : ℕ) → i < 128 → bit_set bits i ≡ q i)
     → least_bit (bit_and bits mask) ≡ find q (range_with_len lo d)
 unfolding least_bit
 least_masked bits mask q lo d run agree =
@@ -85,9 +85,9 @@ least_masked bits mask q lo d run agree =
 
 -- ---- the first free type
 
-find_four : (p : ℕ → Bool) (a b c d : List ℕ)
+mask_find_four : (p : ℕ → Bool) (a b c d : List ℕ)
     → option_or (option_or (option_or (find p a) (find p b)) (find p c)) (find p d) ≡ find p (a ++ (b ++ (c ++ (d ++ []))))
-find_four p a b c d = grind (arith, find-append)
+mask_find_four p a b c d = grind (arith, find-append)
 
 -- it is the least type in neither set under the mask of the first range that has one
 pub free-from_masks : (a b bits : ℕ) → bits ≡ bit_not w128 (bit_or a b) → a < 2 ^ 128 → b < 2 ^ 128
@@ -102,7 +102,7 @@ free-from_masks a b bits e ha hb =
       least_masked bits 0x6000_0000_0000_0000_0000 q 77 2 (refl, refl, lit< tt, omega arith) agree,
       least_masked bits 0xff_ffff_fff8_0000_0000 q 35 37 (refl, refl, lit< tt, omega arith) agree,
     )
-    (find_four q (range_with_len 96 32) (range_with_len 80 16) (range_with_len 77 2) (range_with_len 35 37)) where
+    (mask_find_four q (range_with_len 96 32) (range_with_len 80 16) (range_with_len 77 2) (range_with_len 35 37)) where
       q : ℕ → Bool
       q t = not (bit_set a t || bit_set b t)
 

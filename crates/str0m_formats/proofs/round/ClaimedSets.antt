@@ -2,7 +2,7 @@
 use Rattle.str0m_formats.proofs.Common.{◌≡◌, ◌==◌, ℕ, ◌≤◌, ◌<◌, Bool, true, false, ◌||◌, ◌&&◌, not, nat_le, List, [], ◌∷◌, Option, Some}
 use Rattle.str0m_formats.proofs.Common.{IfSome, ◌++◌, length, get_or, refl, sym, ap, ◌∙◌, subst, arith, slice_get, option_to_list, not-true}
 use Rattle.str0m_formats.proofs.Common.{leb-true, le-leb, or-false, or_assoc, fun_ext, or_comm, slice_get_read}
-use Rattle.str0m_formats.proofs.codec.CodecLookup.{find_passes}
+use Rattle.str0m_formats.proofs.codec.CodecLookup.{codec_find_passes}
 use Rattle.str0m_formats.specs.round.Claimed.{TypeSet, has, with_type, with_option, either, free, free_order}
 
 -- a type that is claimed stands in the set from then on, whether it did before or not
@@ -15,7 +15,7 @@ pub free-small : (used : TypeSet) (t : ℕ) → free used ≡ Some t → (t ≤ 
 unfolding free_order
 free-small used t h =
     let Passes : Option ℕ → Type 0 = λ o. IfSome o (λ x. (nat_le x 127 ≡ true) × (not (used x) ≡ true)) in
-    let found = subst Passes h (find_passes (λ x. nat_le x 127) (λ x. not (used x)) free_order refl) in
+    let found = subst Passes h (codec_find_passes (λ x. nat_le x 127) (λ x. not (used x)) free_order refl) in
     (leb-true t 127 found.0, not-true (used t) found.1)
 
 -- a type that is refused leaves the set as it is
@@ -33,8 +33,8 @@ type-is set t = fun_ext (λ x. ap (λ b. set x || b) (sym (or-false (t == x))))
 pub two-are : (set : TypeSet) (t : ℕ) (o : Option ℕ) → with_option (with_type set t) o ≡ either set (has (t ∷ option_to_list o))
 two-are set t o = grind arith
 
-pub or_turned : (a b c : Bool) → ((a || b) || c) ≡ ((a || c) || b)
-or_turned a b c = or_assoc a b c ∙ ap (λ d. a || d) (or_comm b c) ∙ sym (or_assoc a c b)
+pub claimed_or_turned : (a b c : Bool) → ((a || b) || c) ≡ ((a || c) || b)
+claimed_or_turned a b c = or_assoc a b c ∙ ap (λ d. a || d) (or_comm b c) ∙ sym (or_assoc a c b)
 
 -- the types of a row, RED before RTX
 pub with_row_types : (set : TypeSet) (pt : ℕ) (resend red : Option ℕ)

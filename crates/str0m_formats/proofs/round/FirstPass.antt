@@ -4,7 +4,7 @@ use Rattle.str0m_formats.proofs.Common.{find, nat_lt, List, [], ◌∷◌, ◌++
 use Rattle.str0m_formats.proofs.Common.{IfSome, IfErr, refl, sym, ap, ◌∙◌, subst, arith, slice_get, find-append, append_assoc}
 use Rattle.str0m_formats.proofs.Common.{take_more_set, drop-set-lt, length-set, length-take-le, length_push, drop_more_same, false≢true}
 use Rattle.str0m_formats.proofs.Common.{set}
-use Rattle.str0m_formats.proofs.round.RoundsPasses.{EachPlace, at_split, each_push, get_from_rest}
+use Rattle.str0m_formats.proofs.round.RoundsPasses.{EachPlace, pass_at_split, pass_each_push, pass_get_from_rest}
 use Rattle.str0m_formats.proofs.row.PayloadParamsSets.{has-append, either-covered, locked_types-push, locked_types-at}
 use Rattle.str0m_formats.specs.codec.Codec.{content}
 use Rattle.str0m_formats.specs.declared.round.negotiation_error.NegotiationError.{NegotiationError}
@@ -12,31 +12,37 @@ use Rattle.str0m_formats.specs.declared.row.payload_params.PayloadParams.{Payloa
 use Rattle.str0m_formats.specs.round.Choices.{IsChoice, points_for}
 use Rattle.str0m_formats.specs.round.Claimed.{TypeSet, has, with_type, with_option, either}
 use Rattle.str0m_formats.specs.round.Narrowing.{narrowed}
-use Rattle.str0m_formats.specs.round.Rounds.{taken_by, placed, locked_to, and_then, role_type, rtx_type, red_type, only_audio, Becomes}
-use Rattle.str0m_formats.specs.round.Rounds.{Begun, MayBegin, StopsFirst}
-use Rattle.str0m_formats.specs.row.PayloadParams.{AllSmall, types_of, types, locked_types, open_types}
+use Rattle.str0m_formats.specs.round.Rounds.{types_taken_by, placed, locked_to, then_in_round, role_type, rtx_type, red_type, only_audio}
+use Rattle.str0m_formats.specs.round.Rounds.{Becomes}
+use Rattle.str0m_formats.specs.round.Rounds.{RoundBegun, RoundMayBegin, StopsFirstPass}
+use Rattle.str0m_formats.specs.row.PayloadParams.{AllTypesSmall, types_of, types, locked_types, open_types}
 
 -- ---- types of at most 127
 
 pub none-parts : (p : ℕ → Bool) (xs ys : List ℕ) → find p (xs ++ ys) ≡ None → (find p xs ≡ None) × (find p ys ≡ None)
 none-parts p xs ys h = grind (arith, find-append)
 
-pub small_at : (rows : List PayloadParams) (i : ℕ) (row : PayloadParams) → AllSmall (types rows) → slice_get rows i ≡ Some row
-    → AllSmall (types_of row)
-small_at [] i row h e = absurd (cc)
-small_at (r ∷ rows) zero row h e = grind arith
-small_at (r ∷ rows) (suc i) row h e = small_at rows i row (none-parts (nat_lt 127) (types_of r) (types rows) h).1 e
+pub row_types_small_at : (rows : List PayloadParams) (i : ℕ) (row : PayloadParams) → AllTypesSmall (types rows)
+    → slice_get rows i ≡ Some row
+    → AllTypesSmall (types_of row)
+row_types_small_at [] i row h e = absurd (cc)
+row_types_small_at (r ∷ rows) zero row h e = grind arith
+row_types_small_at (r ∷ rows) (suc i) row h e = row_types_small_at rows i row (none-parts (nat_lt 127) (types_of r) (types rows) h).1 e
 
-pub small_choice : (points : PayloadParams → Option ℕ) (remote : List PayloadParams) (choice : Option PayloadParams)
-    → IsChoice points remote choice → AllSmall (types remote) → IfSome choice (λ c. AllSmall (types_of c))
-small_choice points remote None h s = tt
-small_choice points remote (Some c) h s = grind (arith, small_at remote (length h.before) c s, at_split h.before c h.after)
+pub choice_types_small : (points : PayloadParams → Option ℕ) (remote : List PayloadParams) (choice : Option PayloadParams)
+    → IsChoice points remote choice → AllTypesSmall (types remote) → IfSome choice (λ c. AllTypesSmall (types_of c))
+choice_types_small points remote None h s = tt
+choice_types_small points remote (Some c) h s = grind (
+  arith,
+  row_types_small_at remote (length h.before) c s,
+  pass_at_split h.before c h.after,
+)
 
 -- ---- what becomes of one row
 
-pub and_then-ok : {A B : Type 0} (r : Result A NegotiationError) (f : A → Result B NegotiationError) (y : B) → and_then r f ≡ Ok y
+pub then_in_round-ok : {A B : Type 0} (r : Result A NegotiationError) (f : A → Result B NegotiationError) (y : B) → then_in_round r f ≡ Ok y
     → (x : A) × (r ≡ Ok x) × (f x ≡ Ok y)
-and_then-ok r f y h = grind arith
+then_in_round-ok r f y h = grind arith
 
 pub same_Ok : {A : Type 0} (x y : A) → ◌≡◌ {A = Result A NegotiationError} (Ok x) (Ok y) → x ≡ y
 same_Ok x y h = cc
@@ -78,7 +84,7 @@ pub record LockedParts (taken unlocked : TypeSet) (receives : Bool) (row choice 
 pub locked_parts : (taken unlocked : TypeSet) (receives : Bool) (row choice new : PayloadParams)
     → locked_to taken unlocked receives row choice ≡ Ok new → LockedParts taken unlocked receives row choice new
 unfolding locked_to
-locked_parts taken unlocked receives row choice new h = grind (arith, and_then-ok, same_Ok)
+locked_parts taken unlocked receives row choice new h = grind (arith, then_in_round-ok, same_Ok)
 
 pub locked_to-locks : (taken unlocked : TypeSet) (receives : Bool) (row choice new : PayloadParams)
     → locked_to taken unlocked receives row choice ≡ Ok new → new.locked ≡ true
@@ -96,31 +102,31 @@ placed-open taken unlocked receives row new None h l = inl (sym (placed-no_choic
 placed-open taken unlocked receives row new (Some c) h l = grind (arith, locked_to-locks, placed-open_row)
 
 -- what a row adds to the types that are taken
-pub taken-push : (taken unlocked : TypeSet) (receives : Bool) (before done : List PayloadParams) (i : ℕ) (row new : PayloadParams)
+pub claimed-taken-push : (taken unlocked : TypeSet) (receives : Bool) (before done : List PayloadParams) (i : ℕ) (row new : PayloadParams)
     (choice : Option PayloadParams) → slice_get before i ≡ Some row → placed taken unlocked receives row choice ≡ Ok new
-    → (if new.locked && not row.locked then either (taken_by before done) (has (types_of new)) else taken_by before done)
-    ≡ taken_by before (done ++ new ∷ [])
-taken-push taken unlocked receives before done i row new choice at_row h = go row.locked new.locked covered ∙ sym all where
+    → (if new.locked && not row.locked then either (types_taken_by before done) (has (types_of new)) else types_taken_by before done)
+    ≡ types_taken_by before (done ++ new ∷ [])
+claimed-taken-push taken unlocked receives before done i row new choice at_row h = go row.locked new.locked covered ∙ sym all where
   longer : locked_types before ++ locked_types (done ++ new ∷ []) ≡ (locked_types before ++ locked_types done)
       ++ cond new.locked (types_of new) []
   longer = ap (λ ts. locked_types before ++ ts) (locked_types-push done new)
       ∙ sym (append_assoc (locked_types before) (locked_types done) (cond new.locked (types_of new) []))
 
-  all : taken_by before (done ++ new ∷ []) ≡ either (taken_by before done) (has (cond new.locked (types_of new) []))
+  all : types_taken_by before (done ++ new ∷ []) ≡ either (types_taken_by before done) (has (cond new.locked (types_of new) []))
   all = ap has longer ∙ has-append (locked_types before ++ locked_types done) (cond new.locked (types_of new) [])
 
-  covered : row.locked ≡ true → either (taken_by before done) (has (types_of new)) ≡ taken_by before done
+  covered : row.locked ≡ true → either (types_taken_by before done) (has (types_of new)) ≡ types_taken_by before done
   covered l =
-      either-covered (taken_by before done) (types_of new)
+      either-covered (types_taken_by before done) (types_of new)
       (λ t ht. ap (λ f. f t) (has-append (locked_types before) (locked_types done))
       ∙ ap (λ x. x || has (locked_types done) t)
       (locked_types-at before i row t at_row l (ap (λ ts. has ts t) (sym (placed-locked taken unlocked receives row new choice h l).1)
       ∙ ht)))
 
-  go : (b n : Bool) → (b ≡ true → either (taken_by before done) (has (types_of new)) ≡ taken_by before done)
-      → (if n && not b then either (taken_by before done) (has (types_of new)) else taken_by before done)
-      ≡ either (taken_by before done) (has (cond n (types_of new) []))
-  go b false h = sym (either-covered (taken_by before done) [] (λ t f. absurd (false≢true f)))
+  go : (b n : Bool) → (b ≡ true → either (types_taken_by before done) (has (types_of new)) ≡ types_taken_by before done)
+      → (if n && not b then either (types_taken_by before done) (has (types_of new)) else types_taken_by before done)
+      ≡ either (types_taken_by before done) (has (cond n (types_of new) []))
+  go b false h = sym (either-covered (types_taken_by before done) [] (λ t f. absurd (false≢true f)))
   go false true h = refl
   go true true h = sym (h refl)
 
@@ -128,23 +134,23 @@ taken-push taken unlocked receives before done i row new choice at_row h = go ro
 
 pub record FirstState (before remote : List PayloadParams) (receives : Bool) (rows : List PayloadParams) (i : ℕ)
     (claimed unlocked : TypeSet) : Type 0 where
-  pub begun : Begun before remote receives (take i rows)
+  pub begun : RoundBegun before remote receives (take i rows)
   pub rest : drop i rows ≡ drop i before
   pub whole : length rows ≡ length before
-  pub claimed_is : claimed ≡ taken_by before (take i rows)
+  pub claimed_is : claimed ≡ types_taken_by before (take i rows)
   pub unlocked_is : unlocked ≡ has (open_types before)
 
 -- the row that is next
 pub next_row : (before remote : List PayloadParams) (receives : Bool) (rows : List PayloadParams) (i : ℕ) (claimed unlocked : TypeSet)
     (row : PayloadParams) → FirstState before remote receives rows i claimed unlocked → i < length rows → row ≡ get_or rows i row
     → slice_get before i ≡ Some row
-next_row before remote receives rows i claimed unlocked row s h e = get_from_rest rows before i row h s.rest ∙ ap (λ r. Some r) (sym e)
+next_row before remote receives rows i claimed unlocked row s h e = pass_get_from_rest rows before i row h s.rest ∙ ap (λ r. Some r) (sym e)
 
 becomes_now : (before remote : List PayloadParams) (receives : Bool) (rows : List PayloadParams) (i : ℕ) (claimed unlocked : TypeSet)
     (row : PayloadParams) (choice : Option PayloadParams) (outcome : Result PayloadParams NegotiationError)
     → FirstState before remote receives rows i claimed unlocked → IsChoice (points_for claimed receives row) remote choice
     → placed claimed unlocked receives row choice ≡ outcome
-    → Becomes (taken_by before (take i rows)) (has (open_types before)) remote receives row outcome
+    → Becomes (types_taken_by before (take i rows)) (has (open_types before)) remote receives row outcome
 becomes_now before remote receives rows i claimed unlocked row choice outcome s c p = grind arith
 
 pub first_step : (before remote : List PayloadParams) (receives : Bool) (rows : List PayloadParams) (i : ℕ)
@@ -159,10 +165,11 @@ first_step before remote receives rows i claimed unlocked claimed' unlocked' row
     let front : take i rows ++ new ∷ [] ≡ take (i + 1) (set rows i new) = sym (take_more_set rows i new h) in
     let now = becomes_now before remote receives rows i claimed unlocked row choice (Ok new) s c p in
     let Next : ℕ → Type 0 = λ n. slice_get before n ≡ Some row in
-    let each = each_push (λ d r n. Becomes (taken_by before d) (has (open_types before)) remote receives r (Ok n)) before (take i rows) row
+    let each = pass_each_push (λ d r n. Becomes (types_taken_by before d) (has (open_types before)) remote receives r (Ok n)) before
+    (take i rows) row
     new s.begun.each (subst Next (sym there) at_row) now in
     let Front : List PayloadParams → Type 0 =
-    λ d. EachPlace (λ d r n. Becomes (taken_by before d) (has (open_types before)) remote receives r (Ok n)) before d in
+    λ d. EachPlace (λ d r n. Becomes (types_taken_by before d) (has (open_types before)) remote receives r (Ok n)) before d in
     record {
       begun = record {
         within = omega (arith, ap length front, length_push (take i rows) new, there, s.whole);
@@ -172,16 +179,16 @@ first_step before remote receives rows i claimed unlocked claimed' unlocked' row
       whole = length-set rows i new ∙ s.whole;
       claimed_is =
           k ∙ ap (λ t. cond (new.locked && not row.locked) (either t (has (types_of new))) t) s.claimed_is
-          ∙ taken-push claimed unlocked receives before (take i rows) i row new choice at_row p ∙ ap (taken_by before) front;
+          ∙ claimed-taken-push claimed unlocked receives before (take i rows) i row new choice at_row p ∙ ap (types_taken_by before) front;
       unlocked_is = u ∙ s.unlocked_is;
     }
 
 -- where the next row can't be placed, the round stops there
 pub first_stops : (before remote : List PayloadParams) (receives : Bool) (rows : List PayloadParams) (i : ℕ) (claimed unlocked : TypeSet)
     (row : PayloadParams) (choice : Option PayloadParams) (cause : NegotiationError)
-    → MayBegin before remote → FirstState before remote receives rows i claimed unlocked → i < length rows → row ≡ get_or rows i row
+    → RoundMayBegin before remote → FirstState before remote receives rows i claimed unlocked → i < length rows → row ≡ get_or rows i row
     → IsChoice (points_for claimed receives row) remote choice → placed claimed unlocked receives row choice ≡ Err cause
-    → StopsFirst before remote receives cause
+    → StopsFirstPass before remote receives cause
 first_stops before remote receives rows i claimed unlocked row choice cause may s h e c p =
     let there : length (take i rows) ≡ i = length-take-le i rows (omega arith) in
     let Next : ℕ → Type 0 = λ n. slice_get before n ≡ Some row in

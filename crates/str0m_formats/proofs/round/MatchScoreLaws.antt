@@ -3,13 +3,14 @@ use Rattle.str0m_formats.proofs.Common.{arith, ◌≡◌, ◌≢◌, ◌==◌, i
 use Rattle.str0m_formats.proofs.Common.{subst, unsigned_Decides, when, H264ProfileLevel, unwrap_or, nat_eq_equiv, bool_eq_equiv}
 use Rattle.str0m_formats.proofs.Common.{options_equiv, and_comm}
 use Rattle.str0m_formats.proofs.format.FormatParamsEqual.{codec_Decides, spec_Decides}
-use Rattle.str0m_formats.proofs.round.MatchScoreRules.{either_way, score_rules}
+use Rattle.str0m_formats.proofs.round.MatchScoreRules.{test_either_way, score_rules}
 use Rattle.str0m_formats.specs.declared.codec.Codec.{Codec}
 use Rattle.str0m_formats.specs.declared.codec.Codec.TheVariants.{AmrWb, Tele}
 use Rattle.str0m_formats.specs.declared.codec.codec_spec.CodecSpec.{CodecSpec}
 use Rattle.str0m_formats.specs.declared.format.format_params.FormatParams.{FormatParams}
 use Rattle.str0m_formats.specs.declared.round.match_score.ProfileNumbers.{ProfileNumbers}
-use Rattle.str0m_formats.specs.round.MatchScore.{same_spec, same_number, same_option, same_flag, same_or, opus_score, is_mono, mode_score}
+use Rattle.str0m_formats.specs.round.MatchScore.{same_spec, same_number, same_option, same_flag, same_number_or, opus_score, is_mono}
+use Rattle.str0m_formats.specs.round.MatchScore.{mode_score}
 use Rattle.str0m_formats.specs.round.MatchScore.{amr_wb_score, h264_level_score, h264_score, profile_score, av1_score, format_score}
 use Rattle.str0m_formats.specs.round.MatchScore.{codec_score, score, IsSelfScore}
 
@@ -29,7 +30,7 @@ given_flags a b = (options_equiv bool_eq_equiv).symm a b
 flags : (a b : Option Bool) → same_flag a b ≡ same_flag b a
 flags a b = bool_eq_equiv.symm (unwrap_or a false) (unwrap_or b false)
 
-numbers_or : (n : ℕ) (a b : Option ℕ) → same_or n a b ≡ same_or n b a
+numbers_or : (n : ℕ) (a b : Option ℕ) → same_number_or n a b ≡ same_number_or n b a
 numbers_or n a b = numbers_flip (unwrap_or a n) (unwrap_or b n)
 
 opus_flips : (a b : FormatParams) → opus_score a b ≡ opus_score b a
@@ -65,11 +66,11 @@ pub score_flips : (a b : CodecSpec) → score a b ≡ score b a
 score_flips a b =
     let there = score_rules a b in
     let back = score_rules b a in
-    elim (either_way (same_spec a b) (spec_Decides a b)) [
+    elim (test_either_way (same_spec a b) (spec_Decides a b)) [
       | inl e ↦ λ i. score (e i) (sym e i)
-      | inr n ↦ elim (either_way _ (codec_Decides a.codec b.codec)) [
+      | inr n ↦ elim (test_either_way _ (codec_Decides a.codec b.codec)) [
         | inr other ↦ there.codecs_differ other ∙ sym (back.codecs_differ (λ k. other (sym k)))
-        | inl c ↦ elim (either_way _ (unsigned_Decides a.clock_rate b.clock_rate)) [
+        | inl c ↦ elim (test_either_way _ (unsigned_Decides a.clock_rate b.clock_rate)) [
           | inr other ↦ there.clock_rates_differ other ∙ sym (back.clock_rates_differ (λ k. other (sym k)))
           | inl r ↦ there.alike (λ e. absurd (n e)) c r
               ∙ codec_flips a.codec a b
@@ -89,8 +90,8 @@ aligned a = bool_eq_equiv.refl (unwrap_or a false)
 mono_itself : (a : CodecSpec) → unwrap_or a.channels 1 ≡ 1 → amr_wb_score a a ≡ mode_score a.format.mode_set a.format.mode_set
 mono_itself a one = grind arith
 
-more_itself : (a : CodecSpec) → unwrap_or a.channels 1 ≢ 1 → amr_wb_score a a ≡ None
-more_itself a more = grind arith
+score_of_more_channels : (a : CodecSpec) → unwrap_or a.channels 1 ≢ 1 → amr_wb_score a a ≡ None
+score_of_more_channels a more = grind arith
 
 any_mode : (m : Option ℕ) → m ≡ None → mode_score m m ≡ Some 100
 any_mode m e = ap (λ n. mode_score n n) e
@@ -103,7 +104,7 @@ own_score a = record {
   others = λ other. (score_rules a a).equal refl other;
   any_mode = λ e one none. amr_wb_itself a e ∙ mono_itself a one ∙ any_mode a.format.mode_set none;
   mode_set = λ e one given. amr_wb_itself a e ∙ mono_itself a one ∙ mode_set_counts a.format.mode_set given;
-  not_mono = λ e more. amr_wb_itself a e ∙ more_itself a more;
+  not_mono = λ e more. amr_wb_itself a e ∙ score_of_more_channels a more;
 }
 
 pub score_itself : (a b : CodecSpec) → a ≡ b → IsSelfScore a (score a b)

@@ -8,14 +8,14 @@ use Rattle.str0m_formats.specs.declared.codec.codec_spec.CodecSpec.{CodecSpec}
 use Rattle.str0m_formats.specs.round.MatchScore.{same_codec, same_spec, same_number, codec_score, score, IsScore}
 
 -- what a test decides holds or doesn't
-pub either_way : {P : Type 0} (t : Bool) → Decides t P → P ⊎ (P → ⊥)
-either_way t d = grind arith
+pub test_either_way : {P : Type 0} (t : Bool) → Decides t P → P ⊎ (P → ⊥)
+test_either_way t d = grind arith
 
 nothing_both : (t : Bool) → ◌≡◌ {A = Option ℕ} (if t then None else None) None
 nothing_both t = grind arith
 
-of_unknown : (c : Codec) (a b : CodecSpec) → c ≡ Unknown → codec_score c a b ≡ None
-of_unknown c a b e = ap (λ d. codec_score d a b) e ∙ nothing_both (same_number a.channels b.channels)
+score_of_unknown : (c : Codec) (a b : CodecSpec) → c ≡ Unknown → codec_score c a b ≡ None
+score_of_unknown c a b e = ap (λ d. codec_score d a b) e ∙ nothing_both (same_number a.channels b.channels)
 
 of_channels : (c : Codec) (a b : CodecSpec) → same_number a.channels b.channels ≡ false → c ≢ Tele → c ≢ AmrWb → codec_score c a b ≡ None
 of_channels c a b e t m = grind arith
@@ -36,7 +36,7 @@ module _ (a b : CodecSpec) where
   codec_own_score same e k =
       let c = (codec_Decides a.codec b.codec).1 e in
       let r = (unsigned_Decides a.clock_rate b.clock_rate).1 k in
-      elim (either_way (same_spec a b) (spec_Decides a b)) [
+      elim (test_either_way (same_spec a b) (spec_Decides a b)) [
         | inl p ↦ let m = (codec_Decides a.codec AmrWb).1 (same p) in rw (m, and-false, c, r) refl
         | inr n ↦ let s = differ n in rw (s, c, r) refl
       ]
@@ -46,7 +46,7 @@ module _ (a b : CodecSpec) where
   score_rules = record {
     equal = λ e n. let s = (spec_Decides a b).1 e in let m = not_amr_wb n in rw (s, m) refl;
     codecs_differ = λ n. let s = differ (λ e. n (ap (λ (x : CodecSpec). x.codec) e)) in let c = not_same_codec n in rw (s, c) refl;
-    unknown = λ n u. let s = differ n in let own = of_unknown a.codec a b u in rw (s, own) (nothing_both _);
+    unknown = λ n u. let s = differ n in let own = score_of_unknown a.codec a b u in rw (s, own) (nothing_both _);
     clock_rates_differ = λ n. let s = differ (λ e. n (ap (λ (x : CodecSpec). x.clock_rate) e)) in
         let r = fails (a.clock_rate == b.clock_rate) (unsigned_Decides a.clock_rate b.clock_rate) n in
         rw (s, r, and-false) refl;

@@ -10,7 +10,7 @@ use Rattle.str0m_formats.specs.round.Choices.{IsChoice, points_for}
 use Rattle.str0m_formats.specs.round.Claimed.{TypeSet}
 use Rattle.str0m_formats.specs.round.MatchScore.{score}
 use Rattle.str0m_formats.specs.round.Narrowing.{narrowed}
-use Rattle.str0m_formats.specs.round.Rounds.{placed, settled_row, Leaves}
+use Rattle.str0m_formats.specs.round.Rounds.{placed, settled_row, RoundLeaves}
 use Rattle.str0m_formats.specs.round.RoundsPromises.{AtEachRow}
 
 settled-spec : (locked taken unlocked : TypeSet) (row new : PayloadParams) → settled_row locked taken unlocked row ≡ Ok new
@@ -44,7 +44,7 @@ module _ (Holds : CodecSpec → CodecSpec → Type 0) (same : (spec : CodecSpec)
 
   -- it holds of each row's spec before and after a round
   pub round_holds : (before remote : List PayloadParams) (receives : Bool) (after : List PayloadParams)
-      → Leaves before remote receives after → AtEachRow (λ old new. Holds old.spec new.spec) before after
+      → RoundLeaves before remote receives after → AtEachRow (λ old new. Holds old.spec new.spec) before after
   round_holds before remote receives after r i old new at_old at_new =
       let steps = row_steps before remote receives after r i old new at_old at_new in
       subst (Holds old.spec) (settled-spec _ _ _ steps.between new steps.then_settled)

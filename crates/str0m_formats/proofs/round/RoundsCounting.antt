@@ -6,7 +6,7 @@ use Rattle.str0m_formats.proofs.Common.{length-append, false≢true, and_parts, 
 use Rattle.str0m_formats.proofs.Common.{eqb-true, eq-eqb, IfErr-at_err, fun_ext}
 use Rattle.str0m_formats.proofs.round.ClaimedSets.{type-is, two-are}
 use Rattle.str0m_formats.proofs.round.ClaimedTimes.{all_apart}
-use Rattle.str0m_formats.proofs.round.RoundsOutcome.{HasLarge, HasRepeat, Cases, cases_of}
+use Rattle.str0m_formats.proofs.round.RoundsOutcome.{HasLarge, HasRepeat, RefusalCases, refusal_cases_of}
 use Rattle.str0m_formats.proofs.round.RoundsRowCounts.{length-split}
 use Rattle.str0m_formats.proofs.round.RoundsRowSteps.{role_cases, then_err}
 use Rattle.str0m_formats.proofs.round.SettlingPass.{settled-locked, settled_if_locked}
@@ -16,25 +16,26 @@ use Rattle.str0m_formats.specs.declared.round.negotiation_error.NegotiationError
 use Rattle.str0m_formats.specs.declared.row.payload_params.PayloadParams.{PayloadParams}
 use Rattle.str0m_formats.specs.round.Claimed.{TypeSet, has, with_type, with_option, either, free, free_order}
 use Rattle.str0m_formats.specs.round.Narrowing.{narrowed}
-use Rattle.str0m_formats.specs.round.Rounds.{and_then, role_type, rtx_type, locked_to, placed, taken_by, taken_after, settled_row}
-use Rattle.str0m_formats.specs.round.Rounds.{kept_or_free, kept_red, kept_rtx, StopsFirst, StopsSecond, Refused}
+use Rattle.str0m_formats.specs.round.Rounds.{then_in_round, role_type, rtx_type, locked_to, placed, types_taken_by, types_taken_after}
+use Rattle.str0m_formats.specs.round.Rounds.{settled_row}
+use Rattle.str0m_formats.specs.round.Rounds.{kept_or_free, kept_red, kept_rtx, StopsFirstPass, StopsSecondPass, Refused}
 use Rattle.str0m_formats.specs.row.PayloadParams.{types_of, types, locked_types, open_types}
 
 -- ---- a list without repeats that stands in another is no longer
 
-without_one : ℕ → List ℕ → List ℕ
-without_one x [] = []
-without_one x (y ∷ ys) = cond (y == x) ys (y ∷ without_one x ys)
+types_without_one : ℕ → List ℕ → List ℕ
+types_without_one x [] = []
+types_without_one x (y ∷ ys) = cond (y == x) ys (y ∷ types_without_one x ys)
 
-length-without : (x : ℕ) (ys : List ℕ) → has ys x ≡ true → suc (length (without_one x ys)) ≡ length ys
-unfolding without_one
+length-without : (x : ℕ) (ys : List ℕ) → has ys x ≡ true → suc (length (types_without_one x ys)) ≡ length ys
+unfolding types_without_one
 length-without x [] h = absurd (false≢true h)
 length-without x (y ∷ ys) h = grind (arith, length-without x ys)
 
-has-without : (x t : ℕ) (ys : List ℕ) → (x == t) ≡ false → has ys t ≡ true → has (without_one x ys) t ≡ true
-unfolding without_one
-has-without x t [] ne h = h
-has-without x t (y ∷ ys) ne h = grind (arith, has-without x t ys ne, or_cases, eqb-true, or_left, or_right)
+types-has-without : (x t : ℕ) (ys : List ℕ) → (x == t) ≡ false → has ys t ≡ true → has (types_without_one x ys) t ≡ true
+unfolding types_without_one
+types-has-without x t [] ne h = h
+types-has-without x t (y ∷ ys) ne h = grind (arith, types-has-without x t ys ne, or_cases, eqb-true, or_left, or_right)
 
 pub pigeons : (xs ys : List ℕ) → all_apart xs ≡ true → ((t : ℕ) → has xs t ≡ true → has ys t ≡ true) → length xs ≤ length ys
 pigeons [] ys d h = omega arith
@@ -45,8 +46,8 @@ pigeons (x ∷ xs) ys d h =
       or_left,
       eq-eqb,
       length-without,
-      pigeons xs (without_one x ys),
-      has-without,
+      pigeons xs (types_without_one x ys),
+      types-has-without,
       not-true,
       or_right,
       cases_Bool,
@@ -104,8 +105,8 @@ fails_beside : {A : Type 0} (r : Result A NegotiationError) (taken set unlocked 
     → IfErr r (Fails set unlocked receives) → IfErr r (RowFails taken unlocked receives)
 fails_beside r taken set unlocked receives more is few = grind arith
 
-either_no_more : (taken : TypeSet) → taken ≡ either taken (has [])
-either_no_more taken = fun_ext (λ t. sym (or-false (taken t)))
+either_types_no_more : (taken : TypeSet) → taken ≡ either taken (has [])
+either_types_no_more taken = fun_ext (λ t. sym (or-false (taken t)))
 
 -- ---- the first pass
 
@@ -133,7 +134,7 @@ placed-fails taken unlocked receives row (Some c) = go row.locked where
   go true = tt
   go false =
       then_err (role_type taken unlocked receives c.pt (Some row.pt)) _ (RowFails taken unlocked receives)
-      (fails_beside (role_type taken unlocked receives c.pt (Some row.pt)) taken taken unlocked receives [] (either_no_more taken)
+      (fails_beside (role_type taken unlocked receives c.pt (Some row.pt)) taken taken unlocked receives [] (either_types_no_more taken)
       (omega arith) (role-fails taken unlocked receives c.pt (Some row.pt)))
       (λ pt. then_err (rtx_type (with_type taken pt) unlocked receives c.resend row.resend) _ (RowFails taken unlocked receives)
       (fails_beside (rtx_type (with_type taken pt) unlocked receives c.resend row.resend) taken (with_type taken pt) unlocked receives
@@ -149,11 +150,11 @@ free_beside held more others room e =
 
 -- with at most fourteen rows no row lacks a type in the first pass
 first_demands : (before remote : List PayloadParams) (receives : Bool) (cause : NegotiationError) → length before ≤ 14
-    → StopsFirst before remote receives cause → Demands receives cause
+    → StopsFirstPass before remote receives cause → Demands receives cause
 first_demands before remote receives cause few s = go
     (IfErr-at_err (RowFails taken unlocked receives) s.stops.placed_so (placed-fails taken unlocked receives s.row s.stops.choice)) where
       taken : TypeSet
-      taken = taken_by before s.done
+      taken = types_taken_by before s.done
 
       unlocked : TypeSet
       unlocked = has (open_types before)
@@ -216,15 +217,16 @@ settled-fails : (locked taken unlocked : TypeSet) (receives : Bool) (row : Paylo
     → IfErr (settled_row locked taken unlocked row) (RowFails taken unlocked receives)
 unfolding settled_row
 settled-fails locked taken unlocked receives row = go row.locked where
-  go : (b : Bool) → IfErr (cond b (Ok row) (and_then (ok_or (kept_or_free locked taken unlocked row.pt) Exhausted) (λ pt.
-      and_then (kept_rtx locked (with_option (with_type taken pt) (kept_red locked (with_type taken pt) unlocked row.red)) unlocked
+  go : (b : Bool) → IfErr (cond b (Ok row) (then_in_round (ok_or (kept_or_free locked taken unlocked row.pt) Exhausted) (λ pt.
+      then_in_round (kept_rtx locked (with_option (with_type taken pt) (kept_red locked (with_type taken pt) unlocked row.red)) unlocked
       row.resend) (λ resend.
       Ok (record row { pt = pt; resend = resend; red = kept_red locked (with_type taken pt) unlocked row.red })))))
       (RowFails taken unlocked receives)
   go true = tt
   go false =
       then_err (ok_or (kept_or_free locked taken unlocked row.pt) Exhausted) _ (RowFails taken unlocked receives)
-      (fails_beside (ok_or (kept_or_free locked taken unlocked row.pt) Exhausted) taken taken unlocked receives [] (either_no_more taken)
+      (fails_beside (ok_or (kept_or_free locked taken unlocked row.pt) Exhausted) taken taken unlocked receives []
+      (either_types_no_more taken)
       (omega arith) (kept-fails locked taken unlocked receives row.pt))
       (λ pt.
       let red = kept_red locked (with_type taken pt) unlocked row.red in
@@ -234,18 +236,18 @@ settled-fails locked taken unlocked receives row = go row.locked where
       (omega (arith, short red)) (kept_rtx-fails locked two unlocked receives row.resend))
       (λ resend. tt))
 
-stops-open : (locked taken unlocked : TypeSet) (row : PayloadParams) (cause : NegotiationError)
+round-stops-open : (locked taken unlocked : TypeSet) (row : PayloadParams) (cause : NegotiationError)
     → settled_row locked taken unlocked row ≡ Err cause → row.locked ≡ false
-stops-open locked taken unlocked row cause h = grind (arith, settled_if_locked)
+round-stops-open locked taken unlocked row cause h = grind (arith, settled_if_locked)
 
 -- with at most fourteen rows no row lacks a type in the second pass
 second_demands : (before remote : List PayloadParams) (receives : Bool) (cause : NegotiationError) → length before ≤ 14
-    → StopsSecond before remote receives cause → Demands receives cause
+    → StopsSecondPass before remote receives cause → Demands receives cause
 second_demands before remote receives cause few s = go
     (IfErr-at_err (RowFails taken unlocked receives) s.second.stops
     (settled-fails (has (locked_types s.mid)) taken unlocked receives s.second.row)) where
       taken : TypeSet
-      taken = taken_after s.mid s.second.done
+      taken = types_taken_after s.mid s.second.done
 
       unlocked : TypeSet
       unlocked = has (open_types before)
@@ -253,7 +255,7 @@ second_demands before remote receives cause few s = go
       go : RowFails taken unlocked receives cause → Demands receives cause
       go (more, short, inr demands) = demands
       go (more, short, inl full) =
-          let is_open = stops-open (has (locked_types s.mid)) taken unlocked s.second.row cause s.second.stops in
+          let is_open = round-stops-open (has (locked_types s.mid)) taken unlocked s.second.row cause s.second.stops in
           let room = second_room s.mid s.second.done s.second.row
           (λ i old new e f. settled-locked _ _ _ old new (s.second.before_it.each i old new e f)) s.second.next is_open in
           absurd (free_beside (locked_types s.mid ++ open_types s.second.done) more (open_types before)
@@ -277,8 +279,8 @@ FewRefused before remote receives cause = HasLarge before remote cause ⊎ (HasR
 
 pub few_refused : (before remote : List PayloadParams) (receives : Bool) (cause : NegotiationError) → length before ≤ 14
     → Refused before remote receives cause → FewRefused before remote receives cause
-few_refused before remote receives cause few f = go (cases_of before remote receives cause f) where
-  go : Cases before remote receives cause → FewRefused before remote receives cause
+few_refused before remote receives cause few f = go (refusal_cases_of before remote receives cause f) where
+  go : RefusalCases before remote receives cause → FewRefused before remote receives cause
   go (inl h) = inl h
   go (inr (inl h)) = inr (inl h)
   go (inr (inr (inl h))) = inr (inr (first_demands before remote receives cause few h))

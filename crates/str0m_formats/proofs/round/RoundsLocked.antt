@@ -5,7 +5,7 @@ use Rattle.str0m_formats.proofs.round.RoundsRowSteps.{row_steps}
 use Rattle.str0m_formats.proofs.round.SettlingPass.{settled-same}
 use Rattle.str0m_formats.specs.declared.row.payload_params.PayloadParams.{PayloadParams}
 use Rattle.str0m_formats.specs.round.Claimed.{TypeSet}
-use Rattle.str0m_formats.specs.round.Rounds.{placed, Leaves}
+use Rattle.str0m_formats.specs.round.Rounds.{placed, RoundLeaves}
 use Rattle.str0m_formats.specs.round.RoundsPromises.{StaysLocked, LockedStay}
 
 placed-stays : (taken unlocked : TypeSet) (receives : Bool) (row new : PayloadParams) (choice : Option PayloadParams)
@@ -14,7 +14,8 @@ placed-stays taken unlocked receives row new None h l = grind (arith, placed-no_
 placed-stays taken unlocked receives row new (Some c) h l = grind (arith, same_Ok, placed-locked_row)
 
 -- after a round each row that was locked is locked, with its primary, RTX and RED types
-pub locked_stay : (before remote : List PayloadParams) (receives : Bool) (after : List PayloadParams) → Leaves before remote receives after
+pub locked_stay : (before remote : List PayloadParams) (receives : Bool) (after : List PayloadParams)
+    → RoundLeaves before remote receives after
     → LockedStay before after
 locked_stay before remote receives after r i old new at_old at_new l =
     grind (arith, row_steps before remote receives after r i old new at_old at_new, placed-stays, settled-same)

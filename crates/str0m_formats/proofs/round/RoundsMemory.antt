@@ -5,12 +5,12 @@ use Rattle.str0m_formats.proofs.round.RoundsOutcome.{large_or_small, repeat_not_
 use Rattle.str0m_formats.specs.declared.round.negotiation_error.NegotiationError.{NegotiationError}
 use Rattle.str0m_formats.specs.declared.row.payload_params.PayloadParams.{PayloadParams}
 use Rattle.str0m_formats.specs.round.Rounds.{Refused}
-use Rattle.str0m_formats.specs.round.RoundsPromises.{KeepsBounds, OnlyForMemory}
+use Rattle.str0m_formats.specs.round.RoundsPromises.{KeepsRowBounds, RunFailsOnlyForMemory}
 use Rattle.str0m_formats.specs.round.RoundsRuns.{Outcome, Ran}
 use Rattle.str0m_formats.specs.row.PayloadParams.{types, locked_types}
 
 -- with at most fourteen rows, types within bounds, and a remote that doesn't receive, a round has no cause
-pub never_refused : (before remote : List PayloadParams) (receives : Bool) → length before ≤ 14 → KeepsBounds before remote
+pub never_refused : (before remote : List PayloadParams) (receives : Bool) → length before ≤ 14 → KeepsRowBounds before remote
     → receives ≡ false → (cause : NegotiationError) → Refused before remote receives cause → ⊥
 never_refused before remote receives few bounds is_false cause f = go (few_refused before remote receives cause few f) where
   go : FewRefused before remote receives cause → ⊥
@@ -20,5 +20,6 @@ never_refused before remote receives few bounds is_false cause f = go (few_refus
 
 -- so it is refused for memory alone
 pub only_for_memory : (before remote : List PayloadParams) (receives : Bool) (outcome : Outcome) (after : List PayloadParams)
-    → length before ≤ 14 → KeepsBounds before remote → receives ≡ false → Ran before remote receives outcome after → OnlyForMemory outcome
+    → length before ≤ 14 → KeepsRowBounds before remote → receives ≡ false → Ran before remote receives outcome after
+    → RunFailsOnlyForMemory outcome
 only_for_memory before remote receives outcome after few bounds is_false ran = grind (arith, never_refused)

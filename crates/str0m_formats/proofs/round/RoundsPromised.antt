@@ -8,18 +8,19 @@ use Rattle.str0m_formats.proofs.round.RoundsInvariants.{locked_alone}
 use Rattle.str0m_formats.proofs.round.RoundsLocked.{locked_stay}
 use Rattle.str0m_formats.proofs.round.RoundsMatched.{matched_are_locked, locked_at_best}
 use Rattle.str0m_formats.proofs.round.RoundsMemory.{only_for_memory}
-use Rattle.str0m_formats.proofs.round.RoundsOutcome.{leaves_only, refused_only}
+use Rattle.str0m_formats.proofs.round.RoundsOutcome.{round_leaves_only, refused_only}
 use Rattle.str0m_formats.proofs.round.RoundsPlain.{plain_stay}
-use Rattle.str0m_formats.proofs.round.RoundsRunSteps.{ran_from}
+use Rattle.str0m_formats.proofs.round.RoundsRunSteps.{rounds_ran_from}
 use Rattle.str0m_formats.specs.declared.round.negotiation_error.NegotiationError.{NegotiationError}
 use Rattle.str0m_formats.specs.declared.round.negotiation_error.NegotiationError.TheVariants.{Memory}
 use Rattle.str0m_formats.specs.declared.row.codec_config.CodecConfig.{CodecConfig}
 use Rattle.str0m_formats.specs.declared.row.payload_params.PayloadParams.{PayloadParams}
-use Rattle.str0m_formats.specs.round.Rounds.{Leaves, Refused}
+use Rattle.str0m_formats.specs.round.Rounds.{RoundLeaves, Refused}
 use Rattle.str0m_formats.specs.round.RoundsPromises.{Promises, Negotiates}
 use Rattle.str0m_formats.specs.round.RoundsRuns.{Outcome}
 
-pub promised : (before remote : List PayloadParams) (receives : Bool) (after : List PayloadParams) → Leaves before remote receives after
+pub promised : (before remote : List PayloadParams) (receives : Bool) (after : List PayloadParams)
+    → RoundLeaves before remote receives after
     → Promises before remote receives after
 promised before remote receives after r =
     search (
@@ -37,15 +38,15 @@ promised before remote receives after r =
 -- ---- what one call answers
 
 negotiated : (remote : List PayloadParams) (receives : Bool) (old new : CodecConfig) (result : Outcome)
-    → OnOk result (Leaves old.params.items remote receives new.params.items)
+    → OnOk result (RoundLeaves old.params.items remote receives new.params.items)
     → IfErr result (λ cause. cause ≢ Memory → Refused old.params.items remote receives cause) → new ≡ record old { params = new.params }
     → OnErr result (new ≡ old)
     → Negotiates remote receives old new result
 negotiated remote receives old new result ok cause same err =
-    grind (arith, on_ok_weaker, leaves_only, refused_only, never_exhausted, only_for_memory, promised, ran_from, on_err_weaker)
+    grind (arith, on_ok_weaker, round_leaves_only, refused_only, never_exhausted, only_for_memory, promised, rounds_ran_from, on_err_weaker)
 
 pub leaves_round : (remote : List PayloadParams) (receives : Bool) (old new : CodecConfig)
-    → Leaves old.params.items remote receives new.params.items → new ≡ record old { params = new.params }
+    → RoundLeaves old.params.items remote receives new.params.items → new ≡ record old { params = new.params }
     → Negotiates remote receives old new (Ok tt)
 leaves_round remote receives old new leaves same = negotiated remote receives old new (Ok tt) leaves tt same tt
 

@@ -6,18 +6,19 @@ use Rattle.str0m_formats.specs.declared.round.negotiation_error.NegotiationError
 use Rattle.str0m_formats.specs.declared.round.negotiation_error.NegotiationError.TheVariants.{Exhausted, ClaimedTwice}
 use Rattle.str0m_formats.specs.declared.row.payload_params.PayloadParams.{PayloadParams}
 use Rattle.str0m_formats.specs.round.Claimed.{TypeSet, has, either, free}
-use Rattle.str0m_formats.specs.round.Rounds.{and_then, role_type, rtx_type, red_type, taken_by, taken_after, settled_row, kept_red, Becomes}
-use Rattle.str0m_formats.specs.round.Rounds.{Leaves}
+use Rattle.str0m_formats.specs.round.Rounds.{then_in_round, role_type, rtx_type, red_type, types_taken_by, types_taken_after, settled_row}
+use Rattle.str0m_formats.specs.round.Rounds.{kept_red, Becomes}
+use Rattle.str0m_formats.specs.round.Rounds.{RoundLeaves}
 use Rattle.str0m_formats.specs.row.PayloadParams.{locked_types, open_types}
 
 -- ---- what a step gives, by its parts
 
-pub then_ok : {A B : Type 0} (r : Result A NegotiationError) (f : A → Result B NegotiationError) (P : A → Type 0) (Q : B → Type 0)
-    → IfOk r P → ((x : A) → P x → IfOk (f x) Q) → IfOk (and_then r f) Q
-then_ok r f P Q first next = grind arith
+pub step_then_ok : {A B : Type 0} (r : Result A NegotiationError) (f : A → Result B NegotiationError) (P : A → Type 0) (Q : B → Type 0)
+    → IfOk r P → ((x : A) → P x → IfOk (f x) Q) → IfOk (then_in_round r f) Q
+step_then_ok r f P Q first next = grind arith
 
 pub then_err : {A B : Type 0} (r : Result A NegotiationError) (f : A → Result B NegotiationError) (Q : NegotiationError → Type 0)
-    → IfErr r Q → ((x : A) → IfErr (f x) Q) → IfErr (and_then r f) Q
+    → IfErr r Q → ((x : A) → IfErr (f x) Q) → IfErr (then_in_round r f) Q
 then_err r f Q first next = grind arith
 
 -- what holds of a free type, and of there being none, holds of the choice of one
@@ -49,7 +50,7 @@ module _ (Q : ℕ → Type 0) (taken unlocked : TypeSet) (given : (t : ℕ) → 
   unfolding rtx_type
   rtx-given receives None own is_asked is_own = tt
   rtx-given receives (Some asked) own is_asked is_own =
-      then_ok (role_type taken unlocked receives asked own) (λ t. Ok (Some t)) Q (λ o. IfSome o Q)
+      step_then_ok (role_type taken unlocked receives asked own) (λ t. Ok (Some t)) Q (λ o. IfSome o Q)
       (role-given receives asked own is_asked is_own) (λ t q. q)
 
   pub red-given : (receives : Bool) (asked own : Option ℕ) → IfSome asked (λ t. taken t ≡ false → Q t)
@@ -66,11 +67,11 @@ pub record RowSteps (before remote : List PayloadParams) (receives : Bool) (mid 
     (old new : PayloadParams) : Type 0 where
   pub between : PayloadParams
   pub at_between : slice_get mid i ≡ Some between
-  pub became : Becomes (taken_by before (take i mid)) (has (open_types before)) remote receives old (Ok between)
-  pub then_settled : settled_row (has (locked_types mid)) (taken_after mid (take i after)) (has (open_types before)) between ≡ Ok new
+  pub became : Becomes (types_taken_by before (take i mid)) (has (open_types before)) remote receives old (Ok between)
+  pub then_settled : settled_row (has (locked_types mid)) (types_taken_after mid (take i after)) (has (open_types before)) between ≡ Ok new
 
 pub row_steps : (before remote : List PayloadParams) (receives : Bool) (after : List PayloadParams)
-    (r : Leaves before remote receives after) (i : ℕ) (old new : PayloadParams) → slice_get before i ≡ Some old
+    (r : RoundLeaves before remote receives after) (i : ℕ) (old new : PayloadParams) → slice_get before i ≡ Some old
     → slice_get after i ≡ Some new
     → RowSteps before remote receives r.mid after i old new
 row_steps before remote receives after r i old new at_old at_new =

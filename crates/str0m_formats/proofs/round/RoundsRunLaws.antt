@@ -1,23 +1,23 @@
 -- What holds over every list of rounds.
 use Rattle.str0m_formats.proofs.Common.{rules, ◌≡◌, ◌≢◌, ◌≤◌, Bool, true, false, List, [], ◌∷◌, length, Ok, Err, refl, sym, ◌∙◌, subst}
 use Rattle.str0m_formats.proofs.Common.{arith, same_Some, All-nil, All-cons, All-head, All-tail, receives, All}
-use Rattle.str0m_formats.proofs.round.NarrowingLevels.{Lowers, lowers-same, lowers-then}
+use Rattle.str0m_formats.proofs.round.NarrowingLevels.{NarrowsLevels, narrows_levels-same, narrows_levels-then}
 use Rattle.str0m_formats.proofs.round.NarrowingTelephone.{Narrows, narrows-same, narrows-then}
 use Rattle.str0m_formats.proofs.round.RoundsCounting.{never_exhausted}
 use Rattle.str0m_formats.proofs.round.RoundsLocked.{stays-same, stays-then}
 use Rattle.str0m_formats.proofs.round.RoundsMemory.{only_for_memory}
 use Rattle.str0m_formats.proofs.round.RoundsPromised.{promised}
-use Rattle.str0m_formats.proofs.round.RoundsSmallTypes.{small-append, bounds_kept}
+use Rattle.str0m_formats.proofs.round.RoundsSmallTypes.{small-append, type_bounds_kept}
 use Rattle.str0m_formats.proofs.round.RoundsWhole.{row_before}
 use Rattle.str0m_formats.specs.declared.round.negotiation_error.NegotiationError.{NegotiationError}
 use Rattle.str0m_formats.specs.declared.round.negotiation_error.NegotiationError.TheVariants.{Exhausted}
 use Rattle.str0m_formats.specs.declared.round.rounds.Round.{Round}
 use Rattle.str0m_formats.specs.declared.row.payload_params.PayloadParams.{PayloadParams}
-use Rattle.str0m_formats.specs.round.Claimed.{AllDistinct}
-use Rattle.str0m_formats.specs.round.Rounds.{Leaves}
-use Rattle.str0m_formats.specs.round.RoundsPromises.{AtEachRow, StaysLocked, Promises, OnlyForMemory, RunPromises}
-use Rattle.str0m_formats.specs.round.RoundsRuns.{Outcome, Ran, Reached, AtEachOk}
-use Rattle.str0m_formats.specs.row.PayloadParams.{AllSmall, types, locked_types}
+use Rattle.str0m_formats.specs.round.Claimed.{AllTypesDistinct}
+use Rattle.str0m_formats.specs.round.Rounds.{RoundLeaves}
+use Rattle.str0m_formats.specs.round.RoundsPromises.{AtEachRow, StaysLocked, Promises, RunFailsOnlyForMemory, RunPromises}
+use Rattle.str0m_formats.specs.round.RoundsRuns.{Outcome, Ran, RunReached, AtEachOk}
+use Rattle.str0m_formats.specs.row.PayloadParams.{AllTypesSmall, types, locked_types}
 use Rattle.str0m_formats.specs.row.PlainRow.{IsPlain}
 use Rattle.str0m_formats.specs.row.PlainRowBounds.{IsBounded}
 
@@ -30,7 +30,7 @@ unchanged before remote dir cause after ran = grind arith
 
 -- each accepted round of a list keeps its promises
 pub promised_each : (before : List PayloadParams) (rounds : List Round) (outcomes : List Outcome) (after : List PayloadParams)
-    → Reached before rounds outcomes after → AtEachOk Promises before rounds outcomes after
+    → RunReached before rounds outcomes after → AtEachOk Promises before rounds outcomes after
 promised_each before [] [] after h = h
 promised_each before [] (o ∷ outcomes) after h = h
 promised_each before (round ∷ rounds) [] after h = h
@@ -38,13 +38,14 @@ promised_each before (round ∷ rounds) (Ok done ∷ outcomes) after h = search 
 promised_each before (round ∷ rounds) (Err cause ∷ outcomes) after h = grind (arith, unchanged, promised_each h.0 rounds outcomes after h.2)
 
 -- what holds of no rounds and of each accepted one that brings what it may, and goes on from one to the next, holds over a list of them
-along : (Holds : List PayloadParams → List PayloadParams → Type 0) (May : Round → Type 0) → ((rows : List PayloadParams) → Holds rows rows)
+runs_along : (Holds : List PayloadParams → List PayloadParams → Type 0) (May : Round → Type 0)
+    → ((rows : List PayloadParams) → Holds rows rows)
     → ((a b c : List PayloadParams) → Holds a b → Holds b c → Holds a c)
     → ((a : List PayloadParams) (round : Round) (b : List PayloadParams) → May round
     → Promises a round.remote.items (receives round.direction) b → Holds a b)
     → (before : List PayloadParams) (rounds : List Round) (outcomes : List Outcome) (after : List PayloadParams)
-    → Reached before rounds outcomes after → All May rounds → Holds before after
-along Holds May same next one before rounds outcomes after reached = go before rounds outcomes after
+    → RunReached before rounds outcomes after → All May rounds → Holds before after
+runs_along Holds May same next one before rounds outcomes after reached = go before rounds outcomes after
     (promised_each before rounds outcomes after reached) where
       go : (rows : List PayloadParams) (rounds : List Round) (outcomes : List Outcome) (end : List PayloadParams)
           → AtEachOk Promises rows rounds outcomes end → All May rounds → Holds rows end
@@ -86,9 +87,9 @@ each_outcome : (Holds : List PayloadParams → Type 0) (May : Round → Type 0) 
     → ((before : List PayloadParams) (round : Round) (outcome : Outcome) (after : List PayloadParams) → Holds before → May round
     → Ran before round.remote.items (receives round.direction) outcome after → Tells outcome)
     → ((before : List PayloadParams) (round : Round) (after : List PayloadParams)
-    → Leaves before round.remote.items (receives round.direction) after → Holds before → Holds after)
+    → RoundLeaves before round.remote.items (receives round.direction) after → Holds before → Holds after)
     → (before : List PayloadParams) (rounds : List Round) (outcomes : List Outcome) (after : List PayloadParams)
-    → Reached before rounds outcomes after → Holds before → All May rounds → All Tells outcomes
+    → RunReached before rounds outcomes after → Holds before → All May rounds → All Tells outcomes
 each_outcome Holds May Tells tells keeps before rounds [] after h held may = All-nil Tells
 each_outcome Holds May Tells tells keeps before [] (o ∷ outcomes) after h held may = absurd h
 each_outcome Holds May Tells tells keeps before (round ∷ rounds) (outcome ∷ outcomes) after h held may =
@@ -98,16 +99,17 @@ each_outcome Holds May Tells tells keeps before (round ∷ rounds) (outcome ∷ 
       on (Ok done) ran = keeps before round h.0 ran held
       on (Err cause) ran = subst Holds (sym (unchanged before round.remote.items (receives round.direction) cause h.0 ran)) held
 
-as_few : (before remote : List PayloadParams) (dir : Bool) (after : List PayloadParams) → Leaves before remote dir after
+run_as_few : (before remote : List PayloadParams) (dir : Bool) (after : List PayloadParams) → RoundLeaves before remote dir after
     → length before ≤ 14 → length after ≤ 14
-as_few before remote dir after r few = omega (arith, few, r.whole, r.first.whole)
+run_as_few before remote dir after r few = omega (arith, few, r.whole, r.first.whole)
 
 -- with at most fourteen rows no round is refused for want of a type
 pub run_never_exhausted : (before : List PayloadParams) (rounds : List Round) (outcomes : List Outcome) (after : List PayloadParams)
-    → Reached before rounds outcomes after → length before ≤ 14 → All (λ outcome. outcome ≢ Err Exhausted) outcomes
+    → RunReached before rounds outcomes after → length before ≤ 14 → All (λ outcome. outcome ≢ Err Exhausted) outcomes
 run_never_exhausted before rounds outcomes after h few =
     each_outcome (λ rows. length rows ≤ 14) Whatever (λ outcome. outcome ≢ Err Exhausted) not_exhausted
-    (λ now round next r. as_few now round.remote.items (receives round.direction) next r) before rounds outcomes after h few (λ k d lt. tt)
+    (λ now round next r. run_as_few now round.remote.items (receives round.direction) next r) before rounds outcomes after h few
+    (λ k d lt. tt)
   where
     not_exhausted : (now : List PayloadParams) (round : Round) (outcome : Outcome) (next : List PayloadParams) → length now ≤ 14
         → Unit {0} → Ran now round.remote.items (receives round.direction) outcome next → outcome ≢ Err Exhausted
@@ -118,39 +120,40 @@ run_never_exhausted before rounds outcomes after h few =
 -- if also types on both sides have seven bits, no two locked rows share one, and no remote receives, then each round that
 -- is refused is refused for memory alone
 pub run_only_for_memory : (before : List PayloadParams) (rounds : List Round) (outcomes : List Outcome) (after : List PayloadParams)
-    → Reached before rounds outcomes after
-    → length before ≤ 14 → AllSmall (types before) → AllDistinct (locked_types before)
-    → All (λ round. AllSmall (types round.remote.items)) rounds → All (λ round. receives round.direction ≡ false) rounds
-    → All OnlyForMemory outcomes
+    → RunReached before rounds outcomes after
+    → length before ≤ 14 → AllTypesSmall (types before) → AllTypesDistinct (locked_types before)
+    → All (λ round. AllTypesSmall (types round.remote.items)) rounds → All (λ round. receives round.direction ≡ false) rounds
+    → All RunFailsOnlyForMemory outcomes
 run_only_for_memory before rounds outcomes after h few small distinct remotes directions =
-    each_outcome Bounded May OnlyForMemory
+    each_outcome Bounded May RunFailsOnlyForMemory
     (λ now round outcome next b may ran. only_for_memory now round.remote.items (receives round.direction) outcome next b.0
     (small-append (types now) (types round.remote.items) b.1 may.0, b.2) may.1 ran)
-    (λ now round next r b. let kept = bounds_kept now round.remote.items (receives round.direction) next r in
-    (as_few now round.remote.items (receives round.direction) next r b.0, kept.0, kept.1))
+    (λ now round next r b. let kept = type_bounds_kept now round.remote.items (receives round.direction) next r in
+    (run_as_few now round.remote.items (receives round.direction) next r b.0, kept.0, kept.1))
     before rounds outcomes after h (few, small, distinct) (λ k d lt. (remotes k d lt, directions k d lt)) where
       Bounded : List PayloadParams → Type 0
-      Bounded rows = (length rows ≤ 14) × AllSmall (types rows) × AllDistinct (locked_types rows)
+      Bounded rows = (length rows ≤ 14) × AllTypesSmall (types rows) × AllTypesDistinct (locked_types rows)
 
       May : Round → Type 0
-      May round = AllSmall (types round.remote.items) × (receives round.direction ≡ false)
+      May round = AllTypesSmall (types round.remote.items) × (receives round.direction ≡ false)
 
 -- ---- all of it
 
 pub run_promised : (before : List PayloadParams) (rounds : List Round) (outcomes : List Outcome) (after : List PayloadParams)
-    → Reached before rounds outcomes after → RunPromises before rounds outcomes after
+    → RunReached before rounds outcomes after → RunPromises before rounds outcomes after
 run_promised before rounds outcomes after r = record {
   each = promised_each before rounds outcomes after r;
   rows = over (λ a b. length b ≡ length a) (λ rows. refl) (λ a b c first second. second ∙ first) (λ a round b p. p.rows);
   stay = in_places (λ old new. old.locked ≡ true → StaysLocked old new) stays-same stays-then (λ a round b p. p.stay);
-  distinct = over (λ a b. AllDistinct (types a) → AllDistinct (types b)) (λ rows d. d) (λ a b c first second d. second (first d))
+  distinct = over (λ a b. AllTypesDistinct (types a) → AllTypesDistinct (types b)) (λ rows d. d) (λ a b c first second d. second (first d))
       (λ a round b p. p.distinct);
   telephone = in_places (λ old new. Narrows old.spec new.spec) (λ row. narrows-same row.spec) (λ a b c. narrows-then a.spec b.spec c.spec)
       (λ a round b p. p.telephone);
-  levels = in_places (λ old new. Lowers old.spec new.spec) (λ row. lowers-same row.spec) (λ a b c. lowers-then a.spec b.spec c.spec)
+  levels = in_places (λ old new. NarrowsLevels old.spec new.spec) (λ row. narrows_levels-same row.spec)
+      (λ a b c. narrows_levels-then a.spec b.spec c.spec)
       (λ a round b p. p.levels);
   plain = λ plain bounded.
-      along (λ a b. All IsPlain a → All IsPlain b) (λ round. All IsBounded round.remote.items) (λ rows p. p)
+      runs_along (λ a b. All IsPlain a → All IsPlain b) (λ round. All IsBounded round.remote.items) (λ rows p. p)
       (λ a b c first second p. second (first p)) (λ a round b may promises p. promises.plain p may)
       before rounds outcomes after r bounded plain;
   room = run_never_exhausted before rounds outcomes after r;
@@ -161,7 +164,8 @@ run_promised before rounds outcomes after r = record {
         → ((a b c : List PayloadParams) → Holds a b → Holds b c → Holds a c)
         → ((a : List PayloadParams) (round : Round) (b : List PayloadParams) → Promises a round.remote.items (receives round.direction) b
         → Holds a b) → Holds before after
-    over Holds same next one = along Holds Whatever same next (λ a round b _. one a round b) before rounds outcomes after r (λ k d lt. tt)
+    over Holds same next one = runs_along Holds Whatever same next (λ a round b _. one a round b) before rounds outcomes after r
+        (λ k d lt. tt)
 
     in_places : (holds : PayloadParams → PayloadParams → Type 0) → ((row : PayloadParams) → holds row row)
         → ((a b c : PayloadParams) → holds a b → holds b c → holds a c)

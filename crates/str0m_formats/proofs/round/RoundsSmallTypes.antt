@@ -3,7 +3,8 @@ use Rattle.str0m_formats.proofs.Common.{arith, zero, suc, ◌≡◌, ℕ, Bool, 
 use Rattle.str0m_formats.proofs.Common.{None, Ok, IfSome, refl, sym, ap, ◌∙◌, subst, slice_get, option_to_list, option_or, find-append}
 use Rattle.str0m_formats.proofs.Common.{le-ltb, IfOk-at_ok}
 use Rattle.str0m_formats.proofs.round.ClaimedSets.{free-small}
-use Rattle.str0m_formats.proofs.round.FirstPass.{none-parts, small_at, small_choice, placed-locked, placed-open_row, placed-no_choice}
+use Rattle.str0m_formats.proofs.round.FirstPass.{none-parts, row_types_small_at, choice_types_small, placed-locked, placed-open_row}
+use Rattle.str0m_formats.proofs.round.FirstPass.{placed-no_choice}
 use Rattle.str0m_formats.proofs.round.FirstPass.{locked_parts}
 use Rattle.str0m_formats.proofs.round.RoundsInvariants.{locked_once}
 use Rattle.str0m_formats.proofs.round.RoundsRowSteps.{row_steps, role-given, rtx-given, red-given, kept-given}
@@ -12,36 +13,36 @@ use Rattle.str0m_formats.proofs.round.SettlingPass.{settled_parts, new_red, new_
 use Rattle.str0m_formats.specs.codec.Codec.{Content, content}
 use Rattle.str0m_formats.specs.declared.row.payload_params.PayloadParams.{PayloadParams}
 use Rattle.str0m_formats.specs.round.Choices.{points_for}
-use Rattle.str0m_formats.specs.round.Claimed.{TypeSet, with_type, with_option, either, free, AllDistinct}
-use Rattle.str0m_formats.specs.round.Rounds.{red_type, only_audio, placed, settled_row, Leaves}
-use Rattle.str0m_formats.specs.row.PayloadParams.{AllSmall, types_of, types, locked_types}
+use Rattle.str0m_formats.specs.round.Claimed.{TypeSet, with_type, with_option, either, free, AllTypesDistinct}
+use Rattle.str0m_formats.specs.round.Rounds.{red_type, only_audio, placed, settled_row, RoundLeaves}
+use Rattle.str0m_formats.specs.row.PayloadParams.{AllTypesSmall, types_of, types, locked_types}
 
-pub small-append : (xs ys : List ℕ) → AllSmall xs → AllSmall ys → AllSmall (xs ++ ys)
+pub small-append : (xs ys : List ℕ) → AllTypesSmall xs → AllTypesSmall ys → AllTypesSmall (xs ++ ys)
 small-append xs ys hx hy = find-append (nat_lt 127) xs ys ∙ ap (λ o. option_or o (find (nat_lt 127) ys)) hx ∙ hy
 
 -- rows each of whose types is small, row by row
-small_rows : (rows : List PayloadParams) → ((i : ℕ) (row : PayloadParams) → slice_get rows i ≡ Some row → AllSmall (types_of row))
-    → AllSmall (types rows)
+small_rows : (rows : List PayloadParams) → ((i : ℕ) (row : PayloadParams) → slice_get rows i ≡ Some row → AllTypesSmall (types_of row))
+    → AllTypesSmall (types rows)
 small_rows [] h = refl
 small_rows (r ∷ rows) h = small-append (types_of r) (types rows) (h zero r refl) (small_rows rows (λ i row e. h (suc i) row e))
 
 -- the types of a row, role by role
 abbrev Small : ℕ → Type 0
-Small t = AllSmall (t ∷ [])
+Small t = AllTypesSmall (t ∷ [])
 
 abbrev SmallRoles : PayloadParams → Type 0
 SmallRoles row = Small row.pt × IfSome row.resend Small × IfSome row.red Small
 
-single : (o : Option ℕ) → AllSmall (option_to_list o) → IfSome o Small
-single o h = grind arith
+small_single : (o : Option ℕ) → AllTypesSmall (option_to_list o) → IfSome o Small
+small_single o h = grind arith
 
-listed_small : (o : Option ℕ) → IfSome o Small → AllSmall (option_to_list o)
+listed_small : (o : Option ℕ) → IfSome o Small → AllTypesSmall (option_to_list o)
 listed_small o h = grind arith
 
-roles_of : (row : PayloadParams) → AllSmall (types_of row) → SmallRoles row
+roles_of : (row : PayloadParams) → AllTypesSmall (types_of row) → SmallRoles row
 roles_of row h = grind arith
 
-of_roles : (p : ℕ) (x r : Option ℕ) → Small p → IfSome x Small → IfSome r Small → AllSmall (p ∷ (option_to_list x ++ option_to_list r))
+of_roles : (p : ℕ) (x r : Option ℕ) → Small p → IfSome x Small → IfSome r Small → AllTypesSmall (p ∷ (option_to_list x ++ option_to_list r))
 of_roles p x r hp hx hr = grind arith
 
 free-fits : (taken unlocked : TypeSet) (t : ℕ) → free (either taken unlocked) ≡ Some t → Small t
@@ -57,11 +58,11 @@ audio-small : (c : Content) (o : Option ℕ) → IfSome o Small → IfSome (only
 audio-small c o h = grind arith
 
 placed-small : (taken unlocked : TypeSet) (receives : Bool) (row new : PayloadParams) (choice : Option PayloadParams)
-    → placed taken unlocked receives row choice ≡ Ok new → AllSmall (types_of row) → IfSome choice (λ c. AllSmall (types_of c))
-    → AllSmall (types_of new)
+    → placed taken unlocked receives row choice ≡ Ok new → AllTypesSmall (types_of row) → IfSome choice (λ c. AllTypesSmall (types_of c))
+    → AllTypesSmall (types_of new)
 placed-small taken unlocked receives row new None h s k = grind (arith, placed-no_choice)
 placed-small taken unlocked receives row new (Some c) h s k = go row.locked refl where
-  go : (b : Bool) → row.locked ≡ b → AllSmall (types_of new)
+  go : (b : Bool) → row.locked ≡ b → AllTypesSmall (types_of new)
   go true l = ap (find (nat_lt 127)) (placed-locked taken unlocked receives row new (Some c) h l).1 ∙ s
   go false l =
       let parts = locked_parts taken unlocked receives row c new (sym (placed-open_row taken unlocked receives row c l) ∙ h) in
@@ -83,9 +84,9 @@ placed-small taken unlocked receives row new (Some c) h s k = go row.locked refl
 -- ---- the second pass
 
 settled-small : (locked taken unlocked : TypeSet) (row new : PayloadParams) → settled_row locked taken unlocked row ≡ Ok new
-    → AllSmall (types_of row) → AllSmall (types_of new)
+    → AllTypesSmall (types_of row) → AllTypesSmall (types_of new)
 settled-small locked taken unlocked row new h s = go row.locked refl where
-  go : (b : Bool) → row.locked ≡ b → AllSmall (types_of new)
+  go : (b : Bool) → row.locked ≡ b → AllTypesSmall (types_of new)
   go true l = ap (λ r. find (nat_lt 127) (types_of r)) (settled-same locked taken unlocked row new h l) ∙ s
   go false l =
       let parts = settled_parts locked taken unlocked row new h l in
@@ -102,20 +103,23 @@ settled-small locked taken unlocked row new h s = go row.locked refl where
 -- ---- a round
 
 -- after a round no type is above 127, since none was before it on either side
-pub small_after : (before remote : List PayloadParams) (receives : Bool) (after : List PayloadParams) → Leaves before remote receives after
-    → AllSmall (types after)
+pub small_after : (before remote : List PayloadParams) (receives : Bool) (after : List PayloadParams)
+    → RoundLeaves before remote receives after
+    → AllTypesSmall (types after)
 small_after before remote receives after r = small_rows after at where
-  at : (i : ℕ) (new : PayloadParams) → slice_get after i ≡ Some new → AllSmall (types_of new)
+  at : (i : ℕ) (new : PayloadParams) → slice_get after i ≡ Some new → AllTypesSmall (types_of new)
   at i new at_new =
       let old = row_before before after i new (r.whole ∙ r.first.whole) at_new in
       let steps = row_steps before remote receives after r i old.0 new old.1 at_new in
       let small = none-parts (nat_lt 127) (types before) (types remote) r.first.may.small in
-      let chosen = small_choice (points_for _ receives old.0) remote steps.became.choice steps.became.is_choice small.1 in
+      let chosen = choice_types_small (points_for _ receives old.0) remote steps.became.choice steps.became.is_choice small.1 in
       settled-small _ _ _ steps.between new steps.then_settled
-      (placed-small _ _ receives old.0 steps.between steps.became.choice steps.became.placed_so (small_at before i old.0 small.0 old.1)
+      (placed-small _ _ receives old.0 steps.between steps.became.choice steps.became.placed_so
+      (row_types_small_at before i old.0 small.0 old.1)
       chosen)
 
 -- so the next round may begin, against rows of small types
-pub bounds_kept : (before remote : List PayloadParams) (receives : Bool) (after : List PayloadParams) → Leaves before remote receives after
-    → AllSmall (types after) × AllDistinct (locked_types after)
-bounds_kept before remote receives after r = (small_after before remote receives after r, locked_once before remote receives after r)
+pub type_bounds_kept : (before remote : List PayloadParams) (receives : Bool) (after : List PayloadParams)
+    → RoundLeaves before remote receives after
+    → AllTypesSmall (types after) × AllTypesDistinct (locked_types after)
+type_bounds_kept before remote receives after r = (small_after before remote receives after r, locked_once before remote receives after r)

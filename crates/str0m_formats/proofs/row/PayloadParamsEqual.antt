@@ -9,13 +9,13 @@ use Rattle.str0m_formats.specs.declared.row.payload_params.PayloadParams.{Payloa
 use Rattle.str0m_formats.specs.row.PayloadParams.{SameRow}
 
 -- a row but for whether it is locked
-abbrev Seen : Type 0
-Seen = ℕ × Option ℕ × Option ℕ × CodecSpec × Bool × Bool × Bool × Bool × Bool
+abbrev SeenRow : Type 0
+SeenRow = ℕ × Option ℕ × Option ℕ × CodecSpec × Bool × Bool × Bool × Bool × Bool
 
-abbrev as_seen : PayloadParams → Seen
+abbrev as_seen : PayloadParams → SeenRow
 as_seen r = (r.pt, r.resend, r.red, r.spec, r.fb_transport_cc, r.fb_fir, r.fb_nack, r.fb_pli, r.fb_remb)
 
-abbrev open_row : Seen → PayloadParams
+abbrev open_row : SeenRow → PayloadParams
 open_row s = record {
   pt = s.0;
   resend = s.1;
@@ -29,7 +29,7 @@ open_row s = record {
   locked = false;
 }
 
-abbrev eq_seen : Equality Seen
+abbrev eq_seen : Equality SeenRow
 eq_seen = hlevel (spec, equality)
 
 pub row_Decides : (a b : PayloadParams) → Decides (row.eq-value.it a b) (SameRow a b)

@@ -5,16 +5,16 @@ use Rattle.str0m_formats.specs.declared.format.format_key.FormatKey.TheVariants 
 use Rattle.str0m_formats.specs.declared.format.format_params.Field.{Field}
 use Rattle.str0m_formats.specs.declared.format.format_params.Field.TheVariants as field
 use Rattle.str0m_formats.specs.declared.row.payload_params.PayloadParams.{PayloadParams}
-use Rattle.str0m_formats.specs.format.FormatParams.{get, IsWithin, CanBeReadBack}
+use Rattle.str0m_formats.specs.format.FormatParams.{get, IsFieldWithin, CanBeReadBack}
 use Rattle.str0m_formats.specs.row.PlainRow.{IsPlain}
 use Rattle.str0m_formats.specs.row.PlainRowBounds.{HoldsRowNumbers}
 
-values : (row : PayloadParams) → IsPlain row → HoldsRowNumbers row → (f : Field) → IfSome (get f row.spec.format) (IsWithin f)
+values : (row : PayloadParams) → IsPlain row → HoldsRowNumbers row → (f : Field) → IfSome (get f row.spec.format) (IsFieldWithin f)
 values row p h (field.Key key.SpropMaxDonDiff) = p.bounded.distance
 values row p h (field.Key key.ModeSet) = p.bounded.modes
 values row p h (field.Key k) = h.format.keys k
 values row p h field.TelephoneEvents = h.format.telephone_event_max
-values row p h f = each_some (IsWithin f) (get f row.spec.format) (λ x. tt)
+values row p h f = each_some (IsFieldWithin f) (get f row.spec.format) (λ x. tt)
 
 none_or_some : {A : Type 0} (o : Option A) → (o ≡ None) ⊎ (o ≢ None)
 none_or_some o = grind arith

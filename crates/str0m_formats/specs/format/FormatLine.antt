@@ -79,13 +79,13 @@ values_of [] = []
 values_of (line ∷ lines) = kept line ++ values_of lines
 
 -- whether a line of AMR-WB asks for what isn't there
-unfoldable pub asks_absent : Codec → List (List FormatParam) → Bool
-asks_absent codec lines = is_amr_wb codec && list_any (λ line. list_any is_unsupported line) lines
+unfoldable pub line_asks_absent : Codec → List (List FormatParam) → Bool
+line_asks_absent codec lines = is_amr_wb codec && list_any (λ line. list_any is_unsupported line) lines
 
 -- the format that the lines say of the codec, where they don't ask for what isn't there
 abbrev pub format_of_fmtp : Codec → List (List FormatParam) → Option FormatParams
 format_of_fmtp Tele lines = option_map (λ max. record empty { telephone_event_max = Some max }) (events_end lines)
-format_of_fmtp codec lines = if asks_absent codec lines then None else Some (set_all empty (values_of lines))
+format_of_fmtp codec lines = if line_asks_absent codec lines then None else Some (set_all empty (values_of lines))
 
 -- lines without where they lie in memory
 abbrev pub line_values : List (Bor (List FormatParam)) → List (List FormatParam)

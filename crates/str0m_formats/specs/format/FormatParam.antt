@@ -26,15 +26,15 @@ pub data Kind : Type 0 where
   anything : Kind
 
 -- what a value of the kind holds
-abbrev pub Held : Kind → Type 0
-Held flag = Bool
-Held (exactly text) = Unit {0}
-Held anything = Unit {0}
-Held kind = ℕ
+abbrev pub HeldValue : Kind → Type 0
+HeldValue flag = Bool
+HeldValue (exactly text) = Unit {0}
+HeldValue anything = Unit {0}
+HeldValue kind = ℕ
 
 -- The table of the keys: the kind of each one's values, and the parameter that holds such a value. The last four ask for what
 -- isn't there of AMR-WB (RFC 4867, section 8.2).
-abbrev pub key_entry : FormatKey → (kind : Kind) × (Held kind → FormatParam)
+abbrev pub key_entry : FormatKey → (kind : Kind) × (HeldValue kind → FormatParam)
 key_entry key.MinPTime = (number 255, MinPTime)
 key_entry key.Stereo = (flag, Stereo)
 key_entry key.SpropStereo = (flag, SpropStereo)
@@ -59,11 +59,11 @@ key_entry key.Interleaving = (anything, λ x. AmrWbUnsupported)
 abbrev pub kind : FormatKey → Kind
 kind key = (key_entry key).0
 
-abbrev pub keyed : (key : FormatKey) → Held (kind key) → FormatParam
+abbrev pub keyed : (key : FormatKey) → HeldValue (kind key) → FormatParam
 keyed key = (key_entry key).1
 
 -- the key and the value of each parameter that is written `key=value`
-abbrev pub entry : FormatParam → Option ((key : FormatKey) × Held (kind key))
+abbrev pub entry : FormatParam → Option ((key : FormatKey) × HeldValue (kind key))
 entry (MinPTime n) = Some (key.MinPTime, n)
 entry (Stereo b) = Some (key.Stereo, b)
 entry (SpropStereo b) = Some (key.SpropStereo, b)
@@ -102,7 +102,7 @@ unfoldable pub IsModeSet : List ℕ → ℕ → Type 0
 IsModeSet text mask = IsMask (slice_split (λ b. b == 44) text) mask
 
 -- how each value reads: a flag is true exactly for `1`
-abbrev pub ReadsKind : (kind : Kind) → List ℕ → Held kind → Type 0
+abbrev pub ReadsKind : (kind : Kind) → List ℕ → HeldValue kind → Type 0
 ReadsKind flag text b = IsTrue b ↔ (text ≡ codes "1")
 ReadsKind (number limit) text n = IsNum limit text n
 ReadsKind hex text n = IsHexElseDecimal text n
@@ -112,18 +112,18 @@ ReadsKind anything text x = Unit {0}
 
 -- the value after the key spells the parameter
 abbrev pub HoldsValue : FormatKey → List ℕ → FormatParam → Type 0
-HoldsValue key text param = (x : Held (kind key)) × (param ≡ keyed key x) × ReadsKind (kind key) text x
+HoldsValue key text param = (x : HeldValue (kind key)) × (param ≡ keyed key x) × ReadsKind (kind key) text x
 
 -- the key and the value spell the parameter
 abbrev pub Spells : List ℕ × List ℕ → FormatParam → Type 0
 Spells pair param = (key : FormatKey) × IsSameText pair.0 (key_text key) × HoldsValue key pair.1 param
 
-abbrev pub IsUnknown : {A : Type 0} → A → FormatParam → Type 0
-IsUnknown text param = param ≡ Unknown
+abbrev pub IsUnknownParam : {A : Type 0} → A → FormatParam → Type 0
+IsUnknownParam text param = param ≡ Unknown
 
 -- what a key and its value read as: the parameter that they spell, else Unknown
 abbrev pub IsParsed : List ℕ × List ℕ → FormatParam → Type 0
-IsParsed = FirstFit Spells IsUnknown
+IsParsed = FirstFit Spells IsUnknownParam
 
 -- each pair, in order, reads as the parameter in its place
 abbrev pub AreParsed : List (List ℕ × List ℕ) → List FormatParam → Type 0
@@ -147,7 +147,7 @@ IsEvents text param = (n : ℕ) × (param ≡ TelephoneEvents n) × IsEventRange
 
 -- what a value without a key reads as: a range of events, else Unknown
 abbrev pub IsBare : List ℕ → FormatParam → Type 0
-IsBare = FirstFit IsEvents IsUnknown
+IsBare = FirstFit IsEvents IsUnknownParam
 
 -- ---- how parameters print
 
@@ -169,7 +169,7 @@ abbrev pub mode_list : ℕ → List ℕ
 mode_list mask = join_with_byte 44 (map decimal (filter (λ mode. not (bit_and mask (2 ^ mode) == 0)) (range_with_len 0 9)))
 
 -- how each value prints
-abbrev pub value_text : (kind : Kind) → Held kind → List ℕ
+abbrev pub value_text : (kind : Kind) → HeldValue kind → List ℕ
 value_text flag b = flag_text b
 value_text (number limit) n = decimal n
 value_text hex n = six_digits n
@@ -177,7 +177,7 @@ value_text modes mask = mode_list mask
 value_text kind x = []
 
 -- which values read back as they print
-abbrev pub InRange : (kind : Kind) → Held kind → Type 0
+abbrev pub InRange : (kind : Kind) → HeldValue kind → Type 0
 InRange flag b = Unit {0}
 InRange (number limit) n = n ≤ limit
 InRange hex n = n ≤ 4294967295
@@ -192,7 +192,7 @@ IsPrinted param pair =
 abbrev pub triple_text : ℕ → ℕ → ℕ → List ℕ
 triple_text profile tier level = codes "profile-id=" ++ (decimal profile ++ (codes ";tier-flag=" ++ (decimal tier ++ (codes ";level-id=" ++ decimal level))))
 
-abbrev pub entry_text : Option ((key : FormatKey) × Held (kind key)) → List ℕ
+abbrev pub entry_text : Option ((key : FormatKey) × HeldValue (kind key)) → List ℕ
 entry_text None = []
 entry_text (Some e) = key_text e.0 ++ codes "=" ++ value_text (kind e.0) e.1
 

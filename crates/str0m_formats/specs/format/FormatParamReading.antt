@@ -11,7 +11,7 @@ use Rattle.str0m_formats.specs.declared.format.format_key.TheConstants.{KEYS}
 use Rattle.str0m_formats.specs.declared.format.format_param.FormatParam.{FormatParam}
 use Rattle.str0m_formats.specs.declared.format.format_param.FormatParam.TheVariants.{TelephoneEvents, Unknown}
 use Rattle.str0m_formats.specs.format.FormatKey.{key_text}
-use Rattle.str0m_formats.specs.format.FormatParam.{Kind, flag, number, hex, modes, exactly, anything, Held, kind, keyed}
+use Rattle.str0m_formats.specs.format.FormatParam.{Kind, flag, number, hex, modes, exactly, anything, HeldValue, kind, keyed}
 
 abbrev pub all_digits : ℕ → List ℕ → Bool
 all_digits radix [] = true
@@ -39,12 +39,12 @@ keys = map (λ it. it.0) KEYS
 unfoldable pub key_read : List ℕ → Option FormatKey
 key_read text = find (λ key. str_eq_ignore_ascii_case text (key_text key)) keys
 
-abbrev pub is_one : List ℕ → Bool
-is_one value = bytes_eq value (codes "1")
+abbrev pub is_flag_one : List ℕ → Bool
+is_flag_one value = bytes_eq value (codes "1")
 
 -- the value of a kind
-abbrev pub kind_read : (kind : Kind) → List ℕ → Option (Held kind)
-kind_read flag text = Some (is_one text)
+abbrev pub kind_read : (kind : Kind) → List ℕ → Option (HeldValue kind)
+kind_read flag text = Some (is_flag_one text)
 kind_read (number limit) text = num limit text
 kind_read hex text = hex_read text
 kind_read modes text = modes_read text

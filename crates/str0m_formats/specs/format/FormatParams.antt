@@ -9,13 +9,13 @@ use Rattle.str0m_formats.specs.declared.format.format_params.Field.{Field}
 use Rattle.str0m_formats.specs.declared.format.format_params.Field.TheVariants as field
 use Rattle.str0m_formats.specs.declared.format.format_params.FormatParams.{FormatParams}
 use Rattle.str0m_formats.specs.declared.format.format_params.TheConstants.{FIELDS}
-use Rattle.str0m_formats.specs.format.FormatParam.{Held, kind, keyed, entry, InRange, param_text}
+use Rattle.str0m_formats.specs.format.FormatParam.{HeldValue, kind, keyed, entry, InRange, param_text}
 use Rattle.str0m_values.specs.H265.{H265ProfileTierLevel as h265_triple}
 use Rattle.str0m_values.specs.H266.{H266ProfileTierLevel as h266_triple}
 
 -- what the field of a format holds: the value of its key, a profile, tier and level, or the highest event
 abbrev pub FieldContent : Field → Type 0
-FieldContent (field.Key key) = Held (kind key)
+FieldContent (field.Key key) = HeldValue (kind key)
 FieldContent field.H265ProfileTierLevel = h265_triple
 FieldContent field.H266ProfileTierLevel = h266_triple
 FieldContent field.TelephoneEvents = ℕ
@@ -71,7 +71,7 @@ param_in field.H265ProfileTierLevel t = H265ProfileTierLevel t
 param_in field.H266ProfileTierLevel t = H266ProfileTierLevel t
 param_in field.TelephoneEvents n = TelephoneEvents n
 
-abbrev put_entry : Option ((key : FormatKey) × Held (kind key)) → FormatParams → FormatParams
+abbrev put_entry : Option ((key : FormatKey) × HeldValue (kind key)) → FormatParams → FormatParams
 put_entry None p = p
 put_entry (Some e) p = put (field.Key e.0) (Some e.1) p
 
@@ -107,14 +107,14 @@ unfoldable pub params_text : FormatParams → List ℕ
 params_text p = join_with_byte 59 (map param_text (params_of p))
 
 -- what the field holds reads back as it prints
-abbrev pub IsWithin : (field : Field) → FieldContent field → Type 0
-IsWithin (field.Key key) x = InRange (kind key) x
-IsWithin field.TelephoneEvents n = n ≤ 255
-IsWithin f x = Unit {0}
+abbrev pub IsFieldWithin : (field : Field) → FieldContent field → Type 0
+IsFieldWithin (field.Key key) x = InRange (kind key) x
+IsFieldWithin field.TelephoneEvents n = n ≤ 255
+IsFieldWithin f x = Unit {0}
 
 -- the format reads back as it prints: the values of its fields do, modes 1 to 511 and the distance up to 32767 among
 -- them, and it holds one profile, tier and level at most, and no `profile-id` beside it
 pub record CanBeReadBack (p : FormatParams) : Type 0 where
-  pub values : (f : Field) → IfSome (get f p) (IsWithin f)
+  pub values : (f : Field) → IfSome (get f p) (IsFieldWithin f)
   pub triples : (p.h265_profile_tier_level ≡ None) ⊎ (p.h266_profile_tier_level ≡ None)
   pub profile : (p.profile_id ≡ None) ⊎ ((p.h265_profile_tier_level ≡ None) × (p.h266_profile_tier_level ≡ None))

@@ -10,11 +10,11 @@ use Rattle.str0m_formats.specs.format.FormatParam.{AreParsed}
 use Rattle.str0m_formats.specs.format.PairsTriple.{Texts, IsTripleParam}
 
 -- a key that only a profile, tier and level have
-abbrev pub is_mark : List ℕ → Bool
-is_mark key = str_eq_ignore_ascii_case key TIER_FLAG.now || str_eq_ignore_ascii_case key LEVEL_ID.now
+abbrev pub is_triple_mark : List ℕ → Bool
+is_triple_mark key = str_eq_ignore_ascii_case key TIER_FLAG.now || str_eq_ignore_ascii_case key LEVEL_ID.now
 
-unfoldable pub has_mark : List (List ℕ × List ℕ) → Bool
-has_mark pairs = list_any (λ pair. is_mark pair.0) pairs
+unfoldable pub has_triple_mark : List (List ℕ × List ℕ) → Bool
+has_triple_mark pairs = list_any (λ pair. is_triple_mark pair.0) pairs
 
 -- each key once, in lower case, where it first stands, with its last value
 unfoldable pub merged : List (List ℕ × List ℕ) → List (List ℕ × List ℕ)
@@ -35,10 +35,10 @@ abbrev pub others : List (List ℕ × List ℕ) → List (List ℕ × List ℕ)
 others pairs = filter (λ pair. not (is_part pair.0)) pairs
 
 -- the profile, tier and level of the pairs where they name one, and then the parameter of each other pair
-abbrev pub AreJoined : List (List ℕ × List ℕ) → List FormatParam → Type 0
-AreJoined pairs params = (triple : Option FormatParam) × (rest : List FormatParam) × IsTripleParam (texts_of pairs) triple
+abbrev pub AreJoinedPairs : List (List ℕ × List ℕ) → List FormatParam → Type 0
+AreJoinedPairs pairs params = (triple : Option FormatParam) × (rest : List FormatParam) × IsTripleParam (texts_of pairs) triple
     × AreParsed (others pairs) rest × (params ≡ cons_option triple rest)
 
 -- where a key is one that only a profile, tier and level have, the pairs are merged and read together, else each on its own
 abbrev pub AreRead : List (List ℕ × List ℕ) → List FormatParam → Type 0
-AreRead pairs params = MatchBool (has_mark pairs) (AreJoined (merged pairs) params) (AreParsed pairs params)
+AreRead pairs params = MatchBool (has_triple_mark pairs) (AreJoinedPairs (merged pairs) params) (AreParsed pairs params)

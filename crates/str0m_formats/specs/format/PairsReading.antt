@@ -11,7 +11,7 @@ use Rattle.str0m_formats.specs.Prelude.{ProfileTierLevel, value_in}
 use Rattle.str0m_formats.specs.declared.format.format_param.FormatParam.{FormatParam}
 use Rattle.str0m_formats.specs.declared.format.format_param.FormatParam.TheVariants.{H265ProfileTierLevel, H266ProfileTierLevel}
 use Rattle.str0m_formats.specs.format.FormatParamReading.{param_of}
-use Rattle.str0m_formats.specs.format.Pairs.{has_mark, merged, others, texts_of}
+use Rattle.str0m_formats.specs.format.Pairs.{has_triple_mark, merged, others, texts_of}
 use Rattle.str0m_formats.specs.format.PairsTriple.{Texts}
 
 -- the number in the text, or the default where there is no text
@@ -43,4 +43,4 @@ abbrev pub joined_read : List (List ℕ × List ℕ) → List FormatParam
 joined_read pairs = cons_option (triple_read (texts_of pairs)) (map param_of (others pairs))
 
 unfoldable pub params_read : List (List ℕ × List ℕ) → List FormatParam
-params_read pairs = if has_mark pairs then joined_read (merged pairs) else map param_of pairs
+params_read pairs = if has_triple_mark pairs then joined_read (merged pairs) else map param_of pairs

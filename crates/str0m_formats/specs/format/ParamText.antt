@@ -6,13 +6,13 @@ use Rattle.str0m_formats.specs.declared.format.param_text.Value.TheVariants.{Fla
 use Rattle.str0m_formats.specs.format.FormatKey.{key_text}
 use Rattle.str0m_formats.specs.format.FormatParam.{flag_text, six_digits, mode_list}
 
-abbrev pub shown : Value → List ℕ
-shown (Flag b) = flag_text b
-shown (Number n) = decimal n
-shown (SixDigits n) = six_digits n
-shown (Modes mask) = mode_list mask
+abbrev pub shown_value : Value → List ℕ
+shown_value (Flag b) = flag_text b
+shown_value (Number n) = decimal n
+shown_value (SixDigits n) = six_digits n
+shown_value (Modes mask) = mode_list mask
 
 -- what a key and its value print; nothing where there is none
 abbrev pub keyed_text : Option (FormatKey × Value) → List ℕ
 keyed_text None = []
-keyed_text (Some (key, value)) = key_text key ++ codes "=" ++ shown value
+keyed_text (Some (key, value)) = key_text key ++ codes "=" ++ shown_value value

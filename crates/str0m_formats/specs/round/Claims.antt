@@ -11,6 +11,6 @@ claim_each set (t ∷ types) = if set t then Err (ClaimedTwice t) else claim_eac
 
 -- how the second pass keeps what is taken: of the types that were open before the round those are claimed that locked
 -- rows have, and beside them the claimed types and the taken ones are the same
-pub record Serves (claimed unlocked locked taken : TypeSet) : Type 0 where
+pub record ClaimsServe (claimed unlocked locked taken : TypeSet) : Type 0 where
   pub locked_is : (t : ℕ) → unlocked t ≡ true → claimed t ≡ locked t
   pub in_use : either claimed unlocked ≡ either taken unlocked

@@ -37,25 +37,25 @@ abbrev pub same_option : Option Bool → Option Bool → Bool
 same_option a b = option_eq beq a b
 
 -- numbers, of which an absent one stands for n, and flags, of which an absent one is false
-abbrev pub same_or : ℕ → Option ℕ → Option ℕ → Bool
-same_or n a b = unwrap_or a n == unwrap_or b n
+abbrev pub same_number_or : ℕ → Option ℕ → Option ℕ → Bool
+same_number_or n a b = unwrap_or a n == unwrap_or b n
 
 abbrev pub same_flag : Option Bool → Option Bool → Bool
 same_flag a b = beq (unwrap_or a false) (unwrap_or b false)
 
 -- ---- Opus (RFC 7587, section 6.1): what each difference costs
 
-abbrev pub unless : Bool → ℕ → ℕ
-unless is_same cost = if is_same then 0 else cost
+abbrev pub unless_cost : Bool → ℕ → ℕ
+unless_cost is_same cost = if is_same then 0 else cost
 
 abbrev pub opus_score : FormatParams → FormatParams → ℕ
 opus_score a b =
     100
-    - unless (same_number a.min_p_time b.min_p_time) 1
-    - unless (same_option a.use_inband_fec b.use_inband_fec) 2
-    - unless (same_option a.use_dtx b.use_dtx) 4
-    - unless (same_flag a.stereo b.stereo) 8
-    - unless (same_flag a.sprop_stereo b.sprop_stereo) 8
+    - unless_cost (same_number a.min_p_time b.min_p_time) 1
+    - unless_cost (same_option a.use_inband_fec b.use_inband_fec) 2
+    - unless_cost (same_option a.use_dtx b.use_dtx) 4
+    - unless_cost (same_flag a.stereo b.stereo) 8
+    - unless_cost (same_flag a.sprop_stereo b.sprop_stereo) 8
 
 -- ---- AMR-WB (RFC 4867, section 8.2): one channel on both sides, the same alignment, and modes that don't differ
 
@@ -86,7 +86,7 @@ h264_level_score _ _ = None
 
 abbrev pub h264_score : FormatParams → FormatParams → Option ℕ
 h264_score a b =
-    if same_or 0 a.packetization_mode b.packetization_mode
+    if same_number_or 0 a.packetization_mode b.packetization_mode
     then h264_level_score (h264.named a.profile_level_id) (h264.named b.profile_level_id)
     else None
 
@@ -125,10 +125,10 @@ tiered_score numbers a b = profile_score (numbers a) (numbers b) a.profile_id b.
 -- and tier
 
 abbrev pub vp9_score : FormatParams → FormatParams → Option ℕ
-vp9_score a b = when (same_or 0 a.profile_id b.profile_id) 100
+vp9_score a b = when (same_number_or 0 a.profile_id b.profile_id) 100
 
 abbrev pub av1_score : FormatParams → FormatParams → Option ℕ
-av1_score a b = when (same_or 0 a.profile b.profile && (same_or 5 a.level_idx b.level_idx && same_or 0 a.tier b.tier)) 100
+av1_score a b = when (same_number_or 0 a.profile b.profile && (same_number_or 5 a.level_idx b.level_idx && same_number_or 0 a.tier b.tier)) 100
 
 -- ---- all codecs
 

@@ -49,5 +49,5 @@ abbrev pub open_types : List PayloadParams → List ℕ
 open_types rows = types (filter (λ row. not row.locked) rows)
 
 -- none of the types is above 127
-abbrev pub AllSmall : List ℕ → Type 0
-AllSmall types = find (nat_lt 127) types ≡ None
+abbrev pub AllTypesSmall : List ℕ → Type 0
+AllTypesSmall types = find (nat_lt 127) types ≡ None

@@ -3,7 +3,7 @@ ghost use Rattle.std.specs.List.{list_any};
 ghost use Rattle.std.specs.Prelude.{◌≡◌, ◌∷◌, [], IfOk, option_map};
 ghost use Rattle.str0m_formats.specs.declared.codec.Codec.TheVariants.{AmrWb};
 ghost use Rattle.str0m_formats.specs.declared.format.format_params.FormatParams.{FormatParams};
-ghost use Rattle.str0m_formats.specs.format.FormatLine.{pieces, pair_in, bare_in, pairs_in, IsFormatOfLine, IsFormatOfBares, is_event, is_unsupported, events_end, asks_absent, kept, values_of, format_of_fmtp, line_values};
+ghost use Rattle.str0m_formats.specs.format.FormatLine.{pieces, pair_in, bare_in, pairs_in, IsFormatOfLine, IsFormatOfBares, is_event, is_unsupported, events_end, line_asks_absent, kept, values_of, format_of_fmtp, line_values};
 ghost use Rattle.str0m_formats.specs.format.FormatParam.{pair_texts};
 ghost use Rattle.str0m_formats.specs.format.FormatParams.{empty, set_all, params_text, CanBeReadBack};
 ghost use Rattle.str0m_formats.specs.round.Narrowing.{telephone_max};
@@ -126,7 +126,7 @@ impl FormatParams {
     /// for ranges of events; a line of AMR-WB is refused where it asks for `crc`, `robust-sorting`,
     /// any `interleaving` or a `mode-change-period` of 2 (RFC 4867, section 8.2). `None` where it is
     /// refused.
-    #[tactic(auto, unfolding(crate::specs::format::FormatLine::asks_absent))]
+    #[tactic(auto, unfolding(crate::specs::format::FormatLine::line_asks_absent))]
     pub fn from_sdp_fmtp(codec: Codec, lines: &[&[FormatParam]]) -> Option<FormatParams>
         ensures format { result ≡ format_of_fmtp codec (line_values lines.now) }
         ensures default { FormatParams.DEFAULT_TELEPHONE_EVENT_MAX ≡ 16 }
@@ -171,7 +171,7 @@ fn any_unsupported(lines: &[&[FormatParam]]) -> bool
 /// Whether a line asks for what isn't there of AMR-WB.
 #[tactic(auto, using(crate::proofs::format::FormatLineLaws::asks))]
 fn asks_unsupported(lines: &[&[FormatParam]]) -> bool
-    ensures { result ≡ asks_absent AmrWb (line_values lines.now) }
+    ensures { result ≡ line_asks_absent AmrWb (line_values lines.now) }
 {
     any_unsupported(lines)
 }

@@ -61,7 +61,7 @@ fn set_value<'a>(entries: &mut Vec<(&'a str, &'a str)>, place: usize, value: &'a
 }
 
 /// Puts a value under a key: in the place where that stands already, else last.
-fn put_among<'a>(
+fn put_pair_among<'a>(
     entries: &mut Vec<(&'a str, &'a str)>,
     key: &'a str,
     value: &'a str,
@@ -76,7 +76,7 @@ fn put_among<'a>(
 }
 
 /// The same, with the place of each key known by the order of keys.
-fn put_ordered<'a>(
+fn put_pair_ordered<'a>(
     entries: &mut Vec<(&'a str, &'a str)>,
     places: &mut BTreeMap<&'a str, usize>,
     key: &'a str,
@@ -105,7 +105,7 @@ fn merge_few<'a>(
 {
     let mut entries = Vec::with_capacity(alloc, pairs.len())?;
     for (key, value) in pairs {
-        put_among(&mut entries, key.as_str(), *value)?;
+        put_pair_among(&mut entries, key.as_str(), *value)?;
     }
     Ok(entries)
 }
@@ -120,7 +120,7 @@ fn merge_many<'a>(
     let mut entries = Vec::with_capacity(alloc, pairs.len())?;
     let mut places = BTreeMap::new(alloc);
     for (key, value) in pairs {
-        put_ordered(&mut entries, &mut places, key.as_str(), *value)?;
+        put_pair_ordered(&mut entries, &mut places, key.as_str(), *value)?;
     }
     Ok(entries)
 }

@@ -3,7 +3,7 @@ ghost use Rattle.std.specs.List.{list_any};
 ghost use Rattle.std.specs.Prelude.{◌≡◌, IfOk, map};
 ghost use Rattle.str0m_formats.specs.format.FormatParam.{pair_texts};
 ghost use Rattle.str0m_formats.specs.format.FormatParamReading.{param_of};
-ghost use Rattle.str0m_formats.specs.format.Pairs.{is_mark, has_mark, value_of, is_part};
+ghost use Rattle.str0m_formats.specs.format.Pairs.{is_triple_mark, has_triple_mark, value_of, is_part};
 ghost use Rattle.str0m_formats.specs.format.PairsReading.{lay, triple_read, joined_read, params_read};
 
 use crate::format::format_key::{LEVEL_ID, PROFILE_ID, TIER_FLAG};
@@ -14,23 +14,23 @@ use str0m_values::cuts::is_same_text;
 use str0m_values::{H265ProfileTierLevel, H266ProfileTierLevel};
 
 /// Whether the key is one that only a profile, tier and level have.
-fn is_mark(key: &str) -> bool
-    ensures { result ≡ is_mark key.now }
+fn is_triple_mark(key: &str) -> bool
+    ensures { result ≡ is_triple_mark key.now }
 {
     is_same_text(key, TIER_FLAG) || is_same_text(key, LEVEL_ID)
 }
 
-fn any_mark(pairs: &[(&str, &str)]) -> bool
-    ensures { result ≡ list_any (λ pair. is_mark pair.0.now) pairs.now }
+fn any_triple_mark(pairs: &[(&str, &str)]) -> bool
+    ensures { result ≡ list_any (λ pair. is_triple_mark pair.0.now) pairs.now }
 {
-    pairs.iter().any(|pair| is_mark(pair.0))
+    pairs.iter().any(|pair| is_triple_mark(pair.0))
 }
 
-#[tactic(auto, using(crate::proofs::format::PairsLaws::marks_are))]
-fn has_mark(pairs: &[(&str, &str)]) -> bool
-    ensures { result ≡ has_mark (pair_texts pairs.now) }
+#[tactic(auto, using(crate::proofs::format::PairsLaws::triple_marks_are))]
+fn has_triple_mark(pairs: &[(&str, &str)]) -> bool
+    ensures { result ≡ has_triple_mark (pair_texts pairs.now) }
 {
-    any_mark(pairs)
+    any_triple_mark(pairs)
 }
 
 /// The value of a key.
@@ -76,7 +76,7 @@ fn each(alloc: Global, pairs: &[(&str, &str)]) -> Result<Vec<FormatParam>, Alloc
 }
 
 /// The profile, tier and level of merged pairs, and the parameters of the others.
-fn joined(alloc: Global, merged: &[(&str, &str)]) -> Result<Vec<FormatParam>, AllocError>
+fn joined_params(alloc: Global, merged: &[(&str, &str)]) -> Result<Vec<FormatParam>, AllocError>
     ensures { IfOk result (λ params. params.items ≡ joined_read (pair_texts merged.now)) }
 {
     let mut params = Vec::new(alloc);
@@ -101,10 +101,10 @@ fn joined(alloc: Global, merged: &[(&str, &str)]) -> Result<Vec<FormatParam>, Al
 pub(crate) fn params(alloc: Global, pairs: &[(&str, &str)]) -> Result<Vec<FormatParam>, AllocError>
     ensures { IfOk result (λ params. params.items ≡ params_read (pair_texts pairs.now)) }
 {
-    if !has_mark(pairs) {
+    if !has_triple_mark(pairs) {
         return each(alloc, pairs);
     }
     let lowered = lowered(alloc, pairs)?;
     let merged = merge(alloc, &lowered)?;
-    joined(alloc, &merged)
+    joined_params(alloc, &merged)
 }

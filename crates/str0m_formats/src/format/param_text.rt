@@ -1,7 +1,7 @@
 //! How parameters of formats print.
 ghost use Rattle.std.specs.Prelude.{◌≡◌, ◌++◌, Some, codes, decimal};
 ghost use Rattle.str0m_formats.specs.format.FormatParam.{entry, entry_text, flag_text, mode_list, param_text, part_if, six_digits, triple_text};
-ghost use Rattle.str0m_formats.specs.format.ParamText.{shown};
+ghost use Rattle.str0m_formats.specs.format.ParamText.{shown_value};
 
 use crate::format::format_param::FormatParam;
 use std::fmt;
@@ -123,7 +123,7 @@ pub(crate) enum Value {
 }
 
 impl fmt::Display for Value {
-    ghost output = { λ value. Some (shown value) };
+    ghost output = { λ value. Some (shown_value value) };
 
     fn fmt<W: fmt::Write>(&self, f: &mut fmt::Formatter<W>) -> fmt::Result {
         match *self {

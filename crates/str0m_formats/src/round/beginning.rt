@@ -2,7 +2,7 @@
 ghost use Rattle.std.specs.Prelude.{◌≡◌, ◌≤◌, ℕ, ◌++◌, [], if◌then◌else◌, find, nat_lt, Ok, Err, Some, OnOk, IfOk, IfErr};
 ghost use Rattle.str0m_formats.specs.round.Claimed.{has, with_type, either};
 ghost use Rattle.str0m_formats.specs.round.Claims.{claim_each};
-ghost use Rattle.str0m_formats.specs.row.PayloadParams.{AllSmall, types, types_of, locked_types, open_types};
+ghost use Rattle.str0m_formats.specs.row.PayloadParams.{AllTypesSmall, types, types_of, locked_types, open_types};
 
 use crate::round::claimed::Claimed;
 use crate::round::claims::Claims;
@@ -43,7 +43,7 @@ pub(crate) fn check_types(
     rows: &[PayloadParams],
     remote: &[PayloadParams],
 ) -> Result<(), NegotiationError>
-    ensures ok { OnOk result (AllSmall (types rows.now ++ types remote.now)) }
+    ensures ok { OnOk result (AllTypesSmall (types rows.now ++ types remote.now)) }
     ensures err { IfErr result (λ cause. (t : ℕ) × (find (nat_lt 127) (types rows.now ++ types remote.now) ≡ Some t) × (cause ≡ NegotiationError.TypeTooLarge t)) }
 {
     match first_large(rows).or(first_large(remote)) {
@@ -53,7 +53,7 @@ pub(crate) fn check_types(
 }
 
 /// Adds a type to a set that may have it.
-fn insert<C: Claimed>(set: &mut C, pt: Pt)
+fn insert_beginning_type<C: Claimed>(set: &mut C, pt: Pt)
     requires { pt ≤ 127 }
     ensures { C.holds set.new ≡ with_type (C.holds set.old) pt }
 {
@@ -62,15 +62,15 @@ fn insert<C: Claimed>(set: &mut C, pt: Pt)
 
 /// Adds each type of a row to a set that may have it.
 fn insert_row<C: Claimed>(set: &mut C, row: &PayloadParams)
-    requires { AllSmall (types_of row.now) }
+    requires { AllTypesSmall (types_of row.now) }
     ensures { C.holds set.new ≡ either (C.holds set.old) (has (types_of row.now)) }
 {
-    insert(set, row.pt);
+    insert_beginning_type(set, row.pt);
     if let Some(resend) = row.resend {
-        insert(set, resend);
+        insert_beginning_type(set, resend);
     }
     if let Some(red) = row.red {
-        insert(set, red);
+        insert_beginning_type(set, red);
     }
 }
 
@@ -90,7 +90,7 @@ fn claim_new<C: Claimed>(set: &mut C, pt: Pt) -> Result<(), NegotiationError>
 /// Claims each type of a row, which must be new.
 #[tactic(auto, unfolding(crate::specs::round::Claims::claim_each))]
 fn claim_row<C: Claimed>(set: &mut C, row: &PayloadParams) -> Result<(), NegotiationError>
-    requires { AllSmall (types_of row.now) }
+    requires { AllTypesSmall (types_of row.now) }
     ensures ok { OnOk result (claim_each (C.holds set.old) (types_of row.now) ≡ Ok (C.holds set.new)) }
     ensures err { IfErr result (λ cause. claim_each (C.holds set.old) (types_of row.now) ≡ Err cause) }
 {
@@ -110,7 +110,7 @@ pub(crate) fn claims_of<C: Claimed>(
     rows: &[PayloadParams],
     receives: bool,
 ) -> Result<Claims<C>, NegotiationError>
-    requires { AllSmall (types rows.now) }
+    requires { AllTypesSmall (types rows.now) }
     ensures claimed { IfOk result (λ claims. claim_each (has []) (locked_types rows.now) ≡ Ok (C.holds claims.claimed)) }
     ensures unlocked { IfOk result (λ claims. C.holds claims.unlocked ≡ has (open_types rows.now)) }
     ensures receives { IfOk result (λ claims. claims.receives ≡ receives) }

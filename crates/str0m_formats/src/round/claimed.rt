@@ -35,7 +35,12 @@ pub trait Claimed: Copy {
 const PREFERRED_RANGES: [(u8, u8); 4] = [(96, 127), (80, 95), (77, 78), (35, 71)];
 
 /// The first type from `first` to `last` that is in neither table.
-fn first_in(claimed: &[bool; 128], unlocked: &[bool; 128], first: u8, last: u8) -> Option<Pt>
+fn first_unclaimed_in(
+    claimed: &[bool; 128],
+    unlocked: &[bool; 128],
+    first: u8,
+    last: u8,
+) -> Option<Pt>
     requires { last < 128 }
     ensures { result
         ≡ find (λ t. not (slice_index_or claimed.now t false || slice_index_or unlocked.now t false)) (range_types (first, last)) }
@@ -56,7 +61,7 @@ fn first_free(claimed: &[bool; 128], unlocked: &[bool; 128]) -> Option<Pt>
         ≡ free (λ t. slice_index_or claimed.now t false || slice_index_or unlocked.now t false) }
 {
     for (first, last) in PREFERRED_RANGES {
-        let found = first_in(claimed, unlocked, first, last);
+        let found = first_unclaimed_in(claimed, unlocked, first, last);
         if found.is_some() {
             return found;
         }

@@ -2,8 +2,8 @@
 ghost use Rattle.std.specs.Prelude.{◌≡◌, Ok, IfErr, IfSome, OnOk, not, ◌&&◌, if◌then◌else◌, true, option_copied};
 ghost use Rattle.str0m_formats.specs.round.Claimed.{has, either};
 ghost use Rattle.str0m_formats.specs.round.Narrowing.{narrowed};
-ghost use Rattle.str0m_formats.specs.round.Rounds.{and_then, locked_to, placed, taken_by, MayBegin, Begun, StopsFirst};
-ghost use Rattle.str0m_formats.specs.row.PayloadParams.{AllSmall, types_of, locked_types, open_types};
+ghost use Rattle.str0m_formats.specs.round.Rounds.{then_in_round, locked_to, placed, types_taken_by, RoundMayBegin, RoundBegun, StopsFirstPass};
+ghost use Rattle.str0m_formats.specs.row.PayloadParams.{AllTypesSmall, types_of, locked_types, open_types};
 
 use crate::round::claimed::Claimed;
 use crate::round::claims::Claims;
@@ -32,9 +32,9 @@ impl<C: Claimed> Claims<C> {
         row: &mut PayloadParams,
         choice: &PayloadParams,
     ) -> Result<(), NegotiationError>
-        requires row { AllSmall (types_of row.old) }
-        requires choice { AllSmall (types_of choice.now) }
-        ensures value { and_then result (λ _. Ok row.new)
+        requires row { AllTypesSmall (types_of row.old) }
+        requires choice { AllTypesSmall (types_of choice.now) }
+        ensures value { then_in_round result (λ _. Ok row.new)
             ≡ locked_to (C.holds self.old.claimed) (C.holds self.old.unlocked) self.old.receives row.old choice.now }
         ensures claimed { OnOk result
             (C.holds self.new.claimed ≡ either (C.holds self.old.claimed) (has (types_of row.new))) }
@@ -60,9 +60,9 @@ impl<C: Claimed> Claims<C> {
         row: &mut PayloadParams,
         choice: Option<&PayloadParams>,
     ) -> Result<(), NegotiationError>
-        requires row { AllSmall (types_of row.old) }
-        requires choice { IfSome (option_copied choice) (λ c. AllSmall (types_of c)) }
-        ensures value { and_then result (λ _. Ok row.new)
+        requires row { AllTypesSmall (types_of row.old) }
+        requires choice { IfSome (option_copied choice) (λ c. AllTypesSmall (types_of c)) }
+        ensures value { then_in_round result (λ _. Ok row.new)
             ≡ placed (C.holds self.old.claimed) (C.holds self.old.unlocked) self.old.receives row.old (option_copied choice.entry) }
         ensures claimed { OnOk result
             (C.holds self.new.claimed ≡ (if row.new.locked && not row.old.locked then either (C.holds self.old.claimed) (has (types_of row.new)) else C.holds self.old.claimed)) }
@@ -88,13 +88,13 @@ impl<C: Claimed> Claims<C> {
         rows: &mut [PayloadParams],
         remote: &[PayloadParams],
     ) -> Result<(), NegotiationError>
-        requires may { MayBegin rows.old remote.now }
+        requires may { RoundMayBegin rows.old remote.now }
         requires claimed { C.holds self.old.claimed ≡ has (locked_types rows.old) }
         requires unlocked { C.holds self.old.unlocked ≡ has (open_types rows.old) }
-        ensures ok { OnOk result (Begun rows.old remote.now self.old.receives rows.new) }
-        ensures claimed { OnOk result (C.holds self.new.claimed ≡ taken_by rows.old rows.new) }
+        ensures ok { OnOk result (RoundBegun rows.old remote.now self.old.receives rows.new) }
+        ensures claimed { OnOk result (C.holds self.new.claimed ≡ types_taken_by rows.old rows.new) }
         ensures unlocked { OnOk result (C.holds self.new.unlocked ≡ has (open_types rows.old)) }
-        ensures err { IfErr result (StopsFirst rows.old remote.now self.old.receives) }
+        ensures err { IfErr result (StopsFirstPass rows.old remote.now self.old.receives) }
     {
         for row in rows.iter_mut() {
             let choice = self.choice(row, remote);

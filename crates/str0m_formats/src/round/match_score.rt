@@ -1,6 +1,6 @@
 //! How well two specs fit.
 ghost use Rattle.std.specs.Prelude.{◌≡◌, ◌≤◌, IfSome, option_map};
-ghost use Rattle.str0m_formats.specs.round.MatchScore.{same_flag, unless, opus_score, is_mono, mode_score, amr_wb_score, level_score, h264_level_score, h264_score, profile_numbers, profile_number, triple_score, profile_score, vp9_score, av1_score, format_score, codec_score, same_spec, score};
+ghost use Rattle.str0m_formats.specs.round.MatchScore.{same_flag, unless_cost, opus_score, is_mono, mode_score, amr_wb_score, level_score, h264_level_score, h264_score, profile_numbers, profile_number, triple_score, profile_score, vp9_score, av1_score, format_score, codec_score, same_spec, score};
 
 use crate::codec::Codec;
 use crate::codec::codec_spec::CodecSpec;
@@ -30,7 +30,7 @@ fn is_same_flag(own: Option<bool>, other: Option<bool>) -> bool
 
 /// What a difference costs.
 fn cost_unless(is_same: bool, cost: usize) -> usize
-    ensures cost { result ≡ unless is_same cost }
+    ensures cost { result ≡ unless_cost is_same cost }
     ensures bound { result ≤ cost }
 {
     if is_same { 0 } else { cost }

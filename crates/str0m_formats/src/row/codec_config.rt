@@ -4,12 +4,12 @@ ghost use Rattle.std.specs.List.Sorted.{IsStrictlyIncreasing};
 ghost use Rattle.std.specs.Prelude.{◌≡◌, ◌==◌, ◌+◌, ◌≤◌, ◌++◌, ◌∷◌, [], All, IfOk, IsOk, List, ℕ, OnErr, OnOk, option_copied, vec_capacity, vec_len};
 ghost use Rattle.str0m_formats.specs.Prelude.{H265ProfileTierLevel, H266ProfileTierLevel, receives};
 ghost use Rattle.str0m_formats.specs.round.Choices.{FirstAccepted, IsChoice, IsMatchedType, highest_event, points_with};
-ghost use Rattle.str0m_formats.specs.round.Claimed.{AllDistinct};
+ghost use Rattle.str0m_formats.specs.round.Claimed.{AllTypesDistinct};
 ghost use Rattle.str0m_formats.specs.row.CodecConfig.{video_spec, h264_row, h265_row, h266_row, IsTripleOr, IsH265Triple, IsH266Triple};
 ghost use Rattle.str0m_formats.specs.row.DefaultRows.{AreDefault};
 ghost use Rattle.str0m_formats.specs.row.KindRows.{kind_rows, rows_left};
 ghost use Rattle.str0m_formats.specs.row.PayloadParams.{new_row, types};
-ghost use Rattle.str0m_formats.specs.row.RedDistances.{AreKept};
+ghost use Rattle.str0m_formats.specs.row.RedDistances.{AreDistancesKept};
 
 use crate::codec::Codec;
 use crate::codec::codec_spec::CodecSpec;
@@ -108,7 +108,7 @@ impl CodecConfig {
         ensures rows { result.params.items ≡ [] }
         ensures distances { result.red_distances ≡ 1 ∷ [] }
         ensures default { AreDefault result.params.items }
-        ensures distinct { AllDistinct (types result.params.items) }
+        ensures distinct { AllTypesDistinct (types result.params.items) }
     {
         CodecConfig::new_from_payload_params(alloc, Vec::new(alloc))
     }
@@ -249,7 +249,7 @@ impl CodecConfig {
     /// added where it is missing: a receiver takes the nearest level for the packet before. Whether
     /// rows have a RED isn't changed, nor is any row.
     pub fn set_red_distances(&mut self, distances: &[u32])
-        ensures kept { AreKept distances.now self.new.red_distances }
+        ensures kept { AreDistancesKept distances.now self.new.red_distances }
         ensures rows { self.new.params ≡ self.old.params }
     {
         self.red_distances = RedDistances::kept(distances);

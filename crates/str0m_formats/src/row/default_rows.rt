@@ -1,7 +1,7 @@
 //! The default rows of codecs, which are taken in and out together.
 ghost use Rattle.std.specs.Prelude.{◌≡◌, ◌++◌, ◌∷◌, [], false, IfOk, OnOk, OnErr, IsOk, length};
 ghost use Rattle.str0m_formats.specs.declared.codec.Codec.{Codec};
-ghost use Rattle.str0m_formats.specs.round.Claimed.{AllDistinct};
+ghost use Rattle.str0m_formats.specs.round.Claimed.{AllTypesDistinct};
 ghost use Rattle.str0m_formats.specs.row.DefaultRows.{default_rows, static_rows, except, AreDefault, Enables, usual_rows};
 ghost use Rattle.str0m_formats.specs.row.PayloadParams.{types};
 
@@ -25,7 +25,7 @@ impl CodecConfig {
         ensures thirteen { IfOk result (λ config. length config.params.items ≡ 13) }
         ensures distances { IfOk result (λ config. config.red_distances ≡ 1 ∷ []) }
         ensures default { IfOk result (λ config. AreDefault config.params.items) }
-        ensures distinct { IfOk result (λ config. AllDistinct (types config.params.items)) }
+        ensures distinct { IfOk result (λ config. AllTypesDistinct (types config.params.items)) }
     {
         let mut config = CodecConfig::empty(alloc);
         config.enable_opus(true, false)?;

@@ -27,7 +27,7 @@ impl PayloadParams {
         ensures { IsTrue result ↔ IsPlain self.now }
     {
         let codec = self.spec.codec;
-        is_bounded(self)
+        is_plain_bounded(self)
             && has_plain_triples(self.spec)
             && if codec.is_audio() {
                 is_plain_audio(self.spec)
@@ -40,7 +40,7 @@ impl PayloadParams {
 }
 
 /// Whether the types have seven bits, and the modes and the distance keep to their ranges.
-fn is_bounded(row: &PayloadParams) -> bool
+fn is_plain_bounded(row: &PayloadParams) -> bool
     ensures { IsTrue result ↔ IsBounded row.now }
 {
     let format = row.spec.format;

@@ -1,7 +1,7 @@
 //! How far back the redundant levels of RED reach (RFC 2198, section 3).
 ghost use Rattle.std.specs.List.{list_any};
 ghost use Rattle.std.specs.Prelude.{◌≡◌, ◌==◌, ◌∷◌, []};
-ghost use Rattle.str0m_formats.specs.row.RedDistances.{AreDistances, keeps, kept_to};
+ghost use Rattle.str0m_formats.specs.row.RedDistances.{AreDistances, keeps, distances_kept_to};
 
 use std::marker::Model;
 
@@ -29,7 +29,7 @@ fn has(given: &[u32], distance: u32) -> bool
     given.iter().any(|g| distance == *g)
 }
 
-fn is_kept(given: &[u32], distance: u32) -> bool
+fn is_distance_kept(given: &[u32], distance: u32) -> bool
     ensures { result ≡ keeps given.now distance }
 {
     distance == 1 || has(given, distance)
@@ -46,13 +46,13 @@ impl RedDistances {
     }
 
     pub(crate) fn kept(given: &[u32]) -> RedDistances
-        ensures { result ≡ kept_to 16 given.now }
+        ensures { result ≡ distances_kept_to 16 given.now }
     {
         let mut levels = [0; 16];
         let mut count = 0;
         for seen in 0..16 {
             let distance = seen + 1;
-            if is_kept(given, distance) {
+            if is_distance_kept(given, distance) {
                 levels[count] = distance;
                 count += 1;
             }

@@ -14,10 +14,11 @@ unfolding fmtps_of
 no_lines lines pt empty = ap (λ (ls : List (ℕ × Bor (List FormatParam))). line_values (lines_with pt ls)) empty
 
 -- one line more, beside its type
-with_more : (pt : ℕ) (lines : List (ℕ × Bor (List FormatParam))) (item : ℕ × Bor (List FormatParam)) (o : Option (Bor (List FormatParam)))
+line_with_more : (pt : ℕ) (lines : List (ℕ × Bor (List FormatParam))) (item : ℕ × Bor (List FormatParam))
+    (o : Option (Bor (List FormatParam)))
     → line_with pt item ≡ o
     → line_values (lines_with pt (lines ++ item ∷ [])) ≡ line_values (lines_with pt lines) ++ line_values (option_to_list o)
-with_more pt lines item o is = grind (arith, filter_map-append, map_one, map-append)
+line_with_more pt lines item o is = grind (arith, filter_map-append, map_one, map-append)
 
 lines_more : (attrs : List MediaAttribute) (i : ℕ) (attr : MediaAttribute) (pt : ℕ) (o : Option (List FormatParam)) → i < length attrs
     → attr ≡ get_or attrs i attr
@@ -38,11 +39,11 @@ own_values n pt values same = rw (eq-eqb n pt same) refl
 other_values : (n pt : ℕ) (values : List FormatParam) → (n ≡ pt → ⊥) → values_in pt (Fmtp n values) ≡ None
 other_values n pt values ne = rw (ne_eqb n pt ne) refl
 
-with_own : (n pt : ℕ) (line : Bor (List FormatParam)) → n ≡ pt → line_with pt (n, line) ≡ Some line
-with_own n pt line same = rw (eq-eqb n pt same) refl
+line_with_own : (n pt : ℕ) (line : Bor (List FormatParam)) → n ≡ pt → line_with pt (n, line) ≡ Some line
+line_with_own n pt line same = rw (eq-eqb n pt same) refl
 
-with_other : (n pt : ℕ) (line : Bor (List FormatParam)) → (n ≡ pt → ⊥) → line_with pt (n, line) ≡ None
-with_other n pt line ne = rw (ne_eqb n pt ne) refl
+line_with_other : (n pt : ℕ) (line : Bor (List FormatParam)) → (n ≡ pt → ⊥) → line_with pt (n, line) ≡ None
+line_with_other n pt line ne = rw (ne_eqb n pt ne) refl
 
 -- what is no fmtp line adds none
 pub lines_other : (attrs : List MediaAttribute) (i : ℕ) (attr : MediaAttribute) (pt : ℕ) → i < length attrs → attr ≡ get_or attrs i attr
@@ -58,32 +59,33 @@ pub lines_pushed : (attrs : List MediaAttribute) (lines : List (ℕ × Bor (List
 lines_pushed attrs lines i n line attr pt lt is variant so_far =
     elim (cases_eq n pt) [
       | inl same ↦
-          with_more pt lines (n, line) (Some line) (with_own n pt line same)
+          line_with_more pt lines (n, line) (Some line) (line_with_own n pt line same)
           ∙ ap (λ (vs : List (List FormatParam)). vs ++ line.now ∷ []) so_far
           ∙ sym (lines_more attrs i attr pt (Some line.now) lt is (ap (values_in pt) variant ∙ own_values n pt line.now same))
       | inr ne ↦
-          with_more pt lines (n, line) None (with_other n pt line ne)
+          line_with_more pt lines (n, line) None (line_with_other n pt line ne)
           ∙ append-nil (line_values (lines_with pt lines))
           ∙ so_far ∙ sym (lines_same attrs i attr pt lt is (ap (values_in pt) variant ∙ other_values n pt line.now ne))
     ]
 
-yes : (pt : ℕ) (item : ℕ × Bor (List FormatParam)) → (item.0 == pt) ≡ true → line_with pt item ≡ Some item.1
-yes pt item is = rw is refl
+is_type_line : (pt : ℕ) (item : ℕ × Bor (List FormatParam)) → (item.0 == pt) ≡ true → line_with pt item ≡ Some item.1
+is_type_line pt item is = rw is refl
 
 no : (pt : ℕ) (item : ℕ × Bor (List FormatParam)) → (item.0 == pt) ≡ false → line_with pt item ≡ None
 no pt item is = rw is refl
 
 -- a line of the type is found
-pub found_own : (lines : List (ℕ × Bor (List FormatParam))) (found : List (Bor (List FormatParam))) (i pt : ℕ)
+pub own_line_found : (lines : List (ℕ × Bor (List FormatParam))) (found : List (Bor (List FormatParam))) (i pt : ℕ)
     (item : ℕ × Bor (List FormatParam))
     → i < length lines → item ≡ get_or lines i item → (item.0 == pt) ≡ true → found ≡ lines_with pt (take i lines)
     → found ++ item.1 ∷ [] ≡ lines_with pt (take (i + 1) lines)
-found_own lines found i pt item lt is same so_far = grind (arith, map_more (line_with pt) lines i item lt is, yes pt item same)
+own_line_found lines found i pt item lt is same so_far = grind
+    (arith, map_more (line_with pt) lines i item lt is, is_type_line pt item same)
 
 -- one of another type isn't
-pub found_other : (lines : List (ℕ × Bor (List FormatParam))) (found : List (Bor (List FormatParam))) (i pt : ℕ)
+pub other_line_not_found : (lines : List (ℕ × Bor (List FormatParam))) (found : List (Bor (List FormatParam))) (i pt : ℕ)
     (item : ℕ × Bor (List FormatParam))
     → i < length lines → item ≡ get_or lines i item → (item.0 == pt) ≡ false → found ≡ lines_with pt (take i lines)
     → found ≡ lines_with pt (take (i + 1) lines)
-found_other lines found i pt item lt is apart so_far =
+other_line_not_found lines found i pt item lt is apart so_far =
     grind (arith, map_more (line_with pt) lines i item lt is, no pt item apart, append-nil (lines_with pt (take i lines)))

@@ -1,7 +1,7 @@
 -- What the fmtp lines of one row answer: to questions on its own types exactly its own, to those on other types nothing.
 use Rattle.str0m_sdp.proofs.Common.{◌≡◌, ◌==◌, Option, ℕ, false, List, [], ◌∷◌, Some, None, refl, ap, ◌∙◌, append-nil, has, types_of}
 use Rattle.str0m_sdp.proofs.Common.{FormatParam, PayloadParams, filter_map}
-use Rattle.str0m_sdp.proofs.section.RowAttributesAnswers.{flipped}
+use Rattle.str0m_sdp.proofs.section.RowAttributesAnswers.{row_eq_false_flipped}
 use Rattle.str0m_sdp.proofs.section.RowAttributesReads.{fmtp_lines, red_reads, reads, each, all_fmtp, all_rtx, all_red, quiet, parts_said}
 use Rattle.str0m_sdp.proofs.section.SectionRowsApart.{Roles, self, pt_apart, rtx_apart, red_apart}
 use Rattle.str0m_sdp.proofs.section.SectionRowsParts.{always}
@@ -54,10 +54,10 @@ pub apt_own : (row : PayloadParams) (vs : List (List FormatParam)) (t : ℕ) →
 apt_own row vs t r is =
     parts_said (apt_in t) row vs [] (row.pt ∷ []) [] refl (λ w. refl)
     (quiet (apt_in t) (fmtp_lines row.pt vs)
-    (all_fmtp (λ a. apt_in t a ≡ None) row vs (always _ (λ v. rw (flipped t row.pt (r.rtx t is)) refl) vs)))
+    (all_fmtp (λ a. apt_in t a ≡ None) row vs (always _ (λ v. rw (row_eq_false_flipped t row.pt (r.rtx t is)) refl) vs)))
     (ap (λ o. filter_map (apt_in t) (rtx_lines row o)) is ∙ here)
     (quiet (apt_in t) (red_reads row row.red)
-    (all_red (λ a. apt_in t a ≡ None) row row.red (λ n e. (λ m. refl, rw (flipped t n (r.rtx_red t n is e)) refl))))
+    (all_red (λ a. apt_in t a ≡ None) row row.red (λ n e. (λ m. refl, rw (row_eq_false_flipped t n (r.rtx_red t n is e)) refl))))
   where
     here : filter_map (apt_in t) (rtx_lines row (Some t)) ≡ row.pt ∷ []
     here = rw (self t) refl

@@ -2,14 +2,15 @@
 use Rattle.str0m_formats.specs.declared.codec.Codec.TheVariants as codec
 use Rattle.str0m_sdp.proofs.Common.{◌≡◌, ◌≢◌, ◌≤◌, inl, ℕ, Bool, true, false, List, [], ◌∷◌, ◌++◌, Option, Some, IfSome, All, refl, sym, ap}
 use Rattle.str0m_sdp.proofs.Common.{◌∙◌, subst, arith, AllByRecursion, flat_map, All-from_recursion, content, other, types, same_codec, has}
-use Rattle.str0m_sdp.proofs.Common.{AllDistinct, Codec, FormatParam, Apt, BarePtList, PayloadParams, IsPlain, count_by, true≢false}
-use Rattle.str0m_sdp.proofs.Common.{times-some, all_both}
+use Rattle.str0m_sdp.proofs.Common.{AllTypesDistinct, Codec, FormatParam, Apt, BarePtList, PayloadParams, IsPlain, count_by, true≢false}
+use Rattle.str0m_sdp.proofs.Common.{type_times-some, line_all_of_both}
 use Rattle.str0m_sdp.proofs.section.MadeSectionFrame.{HasNoTypes, NameNoType, NamesNoType}
-use Rattle.str0m_sdp.proofs.section.MappingsBack.{IsSaid, section, each_type}
+use Rattle.str0m_sdp.proofs.section.MappingsBack.{IsMappingSaid, section, each_type}
 use Rattle.str0m_sdp.proofs.section.RowAttributesQuestions.{lines, attrs_of, apt_is, maps_are}
 use Rattle.str0m_sdp.proofs.section.RowAttributesReads.{each}
 use Rattle.str0m_sdp.proofs.section.SectionRowsAgain.{pt_mapped, rtx_mapped, red_mapped, primary_among}
-use Rattle.str0m_sdp.proofs.section.SectionRowsParts.{always, weaker, over_lines, each_among, taken_apart, count-append, none_counted}
+use Rattle.str0m_sdp.proofs.section.SectionRowsParts.{always, rows_all_weaker, over_lines, rows_each_among, rows_taken_apart, count-append}
+use Rattle.str0m_sdp.proofs.section.SectionRowsParts.{rows_none_counted}
 use Rattle.str0m_sdp.specs.declared.attribute.MediaAttribute.{MediaAttribute}
 use Rattle.str0m_sdp.specs.declared.attribute.MediaAttribute.TheVariants.{Fmtp}
 use Rattle.str0m_sdp.specs.declared.attribute.proto.Proto.TheVariants.{Srtp}
@@ -34,8 +35,8 @@ no_direction attr h = grind arith
 IfSome_all : {A : Type 0} (o : Option A) (P : A → Type 0) → ((x : A) → P x) → IfSome o P
 IfSome_all o P f = grind arith
 
-no_other : (first : ℕ) (v : List FormatParam) → AllByRecursion NamesNoType v → All (NamesNoOther first) v
-no_other first v h = grind (arith, All-from_recursion, weaker, NamesNoType)
+made_section_no_other : (first : ℕ) (v : List FormatParam) → AllByRecursion NamesNoType v → All (NamesNoOther first) v
+made_section_no_other first v h = grind (arith, All-from_recursion, rows_all_weaker, NamesNoType)
 
 no_companion : (c : Codec) → content c ≢ other → (same_codec c codec.Rtx ≡ false) × (same_codec c codec.Red ≡ false)
 no_companion c h = grind arith
@@ -48,26 +49,26 @@ frame_names m attr h = grind arith
 
 module _ (values : PayloadParams → List (List FormatParam)) where
   of_types : (rows : List PayloadParams) → AllByRecursion (λ attr. is_of_type attr ≡ true) (flat_map (lines values) rows)
-  of_types rows = over_lines (λ attr. is_of_type attr ≡ true) (lines values) rows (each_among _ rows (λ before row after e.
+  of_types rows = over_lines (λ attr. is_of_type attr ≡ true) (lines values) rows (rows_each_among _ rows (λ before row after e.
       each (λ attr. is_of_type attr ≡ true) row (values row) (λ m. refl) (λ w. refl) (always _ (λ v. refl) (values row))
       (λ n k. (λ m. refl, refl)) (λ n k. (λ m. refl, refl))))
 
   -- what no line of a type passes is counted in the frame alone
   pub counted_in_frame : (p : MediaAttribute → Bool) → ((attr : MediaAttribute) → is_of_type attr ≡ true → p attr ≡ false)
       → (frame : List MediaAttribute) (rows : List PayloadParams) → count_by p (attrs_of values frame rows) ≡ count_by p frame
-  counted_in_frame p fails frame rows = grind (arith, count-append, none_counted, weaker, of_types)
+  counted_in_frame p fails frame rows = grind (arith, count-append, rows_none_counted, rows_all_weaker, of_types)
 
-  module _ (frame : MediaLine) (bare : HasNoTypes frame.attrs) (rows : List PayloadParams) (d : AllDistinct (types rows))
-      (said : AllByRecursion (λ r. IsSaid r (values r)) rows) where
+  module _ (frame : MediaLine) (bare : HasNoTypes frame.attrs) (rows : List PayloadParams) (d : AllTypesDistinct (types rows))
+      (said : AllByRecursion (λ r. IsMappingSaid r (values r)) rows) where
     -- each type of the rows is mapped once
     pub mapped_once : All (IsMapped (attrs_of values frame.attrs rows)) (types rows)
     mapped_once =
         All-from_recursion _ (types rows)
-        (weaker _ (IsMapped (attrs_of values frame.attrs rows)) (λ t h. inl (once t h)) (types rows) (each_type values rows)) where
+        (rows_all_weaker _ (IsMapped (attrs_of values frame.attrs rows)) (λ t h. inl (once t h)) (types rows) (each_type values rows)) where
           once : (t : ℕ) → has (types rows) t ≡ true → count_by (maps t) (attrs_of values frame.attrs rows) ≡ 1
           once t h =
               let same = maps_are values frame.attrs rows bare t in
-              let one = times-some (types rows) t h in
+              let one = type_times-some (types rows) t h in
               let at_most = d t in
               omega (arith, same, one, at_most)
 
@@ -75,9 +76,9 @@ module _ (values : PayloadParams → List (List FormatParam)) where
     pub agree : All (AgreesOnApt (attrs_of values frame.attrs rows)) (attrs_of values frame.attrs rows)
     agree =
         All-from_recursion (AgreesOnApt attrs) attrs
-        (all_both (AgreesOnApt attrs) frame.attrs (flat_map (lines values) rows)
-        (weaker _ (AgreesOnApt attrs) (frame_agrees attrs) frame.attrs bare)
-        (over_lines (AgreesOnApt attrs) (lines values) rows (each_among _ rows one)))
+        (line_all_of_both (AgreesOnApt attrs) frame.attrs (flat_map (lines values) rows)
+        (rows_all_weaker _ (AgreesOnApt attrs) (frame_agrees attrs) frame.attrs bare)
+        (over_lines (AgreesOnApt attrs) (lines values) rows (rows_each_among _ rows one)))
       where
         attrs : List MediaAttribute
         attrs = attrs_of values frame.attrs rows
@@ -85,14 +86,14 @@ module _ (values : PayloadParams → List (List FormatParam)) where
         format : (row : PayloadParams) (vs : List (List FormatParam)) → NameNoType vs
             → AllByRecursion (λ v. AgreesOnApt attrs (Fmtp row.pt v)) vs
         format row [] h = tt
-        format row (v ∷ vs) h = (IfSome_all (first_apt row.pt attrs) _ (λ first. no_other first v h.0), format row vs h.1)
+        format row (v ∷ vs) h = (IfSome_all (first_apt row.pt attrs) _ (λ first. made_section_no_other first v h.0), format row vs h.1)
 
         one : (before : List PayloadParams) (row : PayloadParams) (after : List PayloadParams) → rows ≡ before ++ row ∷ after
             → AllByRecursion (AgreesOnApt attrs) (lines values row)
         one before row after e =
             each (AgreesOnApt attrs) row (values row) (λ m. tt) (λ w. tt)
-            (format row (values row) (taken_apart (λ r. IsSaid r (values r)) before row after
-            (subst (AllByRecursion (λ r. IsSaid r (values r))) e said)).1.silent)
+            (format row (values row) (rows_taken_apart (λ r. IsMappingSaid r (values r)) before row after
+            (subst (AllByRecursion (λ r. IsMappingSaid r (values r))) e said)).1.silent)
             (λ n is. (
               λ m. tt,
               subst (λ o. IfSome o (λ first. All (NamesNoOther first) (Apt row.pt ∷ []))) (sym (first_is n is))
@@ -107,7 +108,7 @@ module _ (values : PayloadParams → List (List FormatParam)) where
             first_is : (n : ℕ) → row.resend ≡ Some n → first_apt n attrs ≡ Some row.pt
             first_is n is =
                 ap (λ xs. first_apt n (attrs_of values frame.attrs xs)) e
-                ∙ apt_is values frame.attrs bare before row after (subst (λ xs. AllDistinct (types xs)) e d) n is
+                ∙ apt_is values frame.attrs bare before row after (subst (λ xs. AllTypesDistinct (types xs)) e d) n is
 
     -- the section is consistent, where the frame has one mid, one setup at most, one direction, and there is a row
     pub consistent : count_by is_mid frame.attrs ≡ 1 → count_by is_setup frame.attrs ≤ 1
@@ -128,8 +129,9 @@ module _ (values : PayloadParams → List (List FormatParam)) where
     pub names_one : AllByRecursion IsPlain rows → All (NamesOne (section values frame rows)) (section values frame rows).attrs
     names_one plain =
         All-from_recursion (NamesOne m) (attrs_of values frame.attrs rows)
-        (all_both (NamesOne m) frame.attrs (flat_map (lines values) rows) (weaker _ (NamesOne m) (frame_names m) frame.attrs bare)
-        (over_lines (NamesOne m) (lines values) rows (each_among _ rows one)))
+        (line_all_of_both (NamesOne m) frame.attrs (flat_map (lines values) rows)
+        (rows_all_weaker _ (NamesOne m) (frame_names m) frame.attrs bare)
+        (over_lines (NamesOne m) (lines values) rows (rows_each_among _ rows one)))
       where
         m : MediaLine
         m = section values frame rows
@@ -144,14 +146,14 @@ module _ (values : PayloadParams → List (List FormatParam)) where
             plain' : AllByRecursion IsPlain (before ++ row ∷ after)
             plain' = subst (AllByRecursion IsPlain) e plain
 
-            d' : AllDistinct (types (before ++ row ∷ after))
-            d' = subst (λ xs. AllDistinct (types xs)) e d
+            d' : AllTypesDistinct (types (before ++ row ∷ after))
+            d' = subst (λ xs. AllTypesDistinct (types xs)) e d
 
             primary : has (primary_types m) row.pt ≡ true
             primary =
                 ap (λ xs. has (primary_types (section values frame xs)) row.pt) e
                 ∙ primary_among values frame bare before row after plain' d'
-                (subst (AllByRecursion (λ r. IsSaid r (values r))) e said)
+                (subst (AllByRecursion (λ r. IsMappingSaid r (values r))) e said)
 
             of_rtx : (n : ℕ) → row.resend ≡ Some n → is_mapped_to codec.Red (mapped m) n ≡ false
             of_rtx n is =
@@ -164,7 +166,7 @@ module _ (values : PayloadParams → List (List FormatParam)) where
                 ∙ red_mapped values frame bare before row after plain' d' codec.Rtx n is ∙ refl
 
             carried : content row.spec.codec ≢ other
-            carried = (taken_apart IsPlain before row after plain').1.carried
+            carried = (rows_taken_apart IsPlain before row after plain').1.carried
 
             of_pt : (c : Codec) → same_codec row.spec.codec c ≡ false → is_mapped_to c (mapped m) row.pt ≡ false
             of_pt c fails =

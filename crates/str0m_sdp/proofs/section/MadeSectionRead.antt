@@ -1,8 +1,8 @@
 -- A section that was read, whose types and lines are those of plain, distinct rows, describes these rows.
 use Rattle.str0m_sdp.proofs.Common.{arith, ◌≡◌, ◌≢◌, ◌≤◌, false, List, [], map, All, AllZip, flat_map, recursion_from_All, IsPlain, types}
-use Rattle.str0m_sdp.proofs.Common.{SameRow, AllDistinct, FormatParam, PayloadParams, count_by}
+use Rattle.str0m_sdp.proofs.Common.{SameRow, AllTypesDistinct, FormatParam, PayloadParams, count_by}
 use Rattle.str0m_sdp.proofs.section.MadeSectionConsistent.{consistent, names_one}
-use Rattle.str0m_sdp.proofs.section.MappingsBack.{IsSaid, unlocked, section, mapped_is}
+use Rattle.str0m_sdp.proofs.section.MappingsBack.{IsMappingSaid, unlocked, section, mapped_is}
 use Rattle.str0m_sdp.proofs.section.RowAttributesAnswers.{row_entries}
 use Rattle.str0m_sdp.proofs.section.RowAttributesQuestions.{attrs_of}
 use Rattle.str0m_sdp.proofs.section.SectionRowsAgain.{rows_are, rows_same}
@@ -31,11 +31,12 @@ pub record DescribesRows (m : MediaLine) (rows : List PayloadParams) : Type 0 wh
   pub same : AllZip SameRow (rows_of m) rows
 
 module _ (values : PayloadParams → List (List FormatParam)) where
-  describing : (frame : MediaLine) (rows : List PayloadParams) → IsBareFrame frame frame.attrs → All IsPlain rows → AllDistinct (types rows)
-      → All (λ row. IsSaid row (values row)) rows → rows ≢ [] → DescribesRows (section values frame rows) rows
+  describing : (frame : MediaLine) (rows : List PayloadParams) → IsBareFrame frame frame.attrs → All IsPlain rows
+      → AllTypesDistinct (types rows)
+      → All (λ row. IsMappingSaid row (values row)) rows → rows ≢ [] → DescribesRows (section values frame rows) rows
   describing frame rows f plain d said some = grind (arith, consistent, names_one, mapped_is, rows_are, rows_same, recursion_from_All)
 
   pub describes : (m : MediaLine) (frame : List MediaAttribute) (rows : List PayloadParams) → IsBareFrame m frame
-      → m.attrs ≡ attrs_of values frame rows → m.pts ≡ types rows → All IsPlain rows → AllDistinct (types rows)
-      → All (λ row. IsSaid row (values row)) rows → rows ≢ [] → DescribesRows m rows
+      → m.attrs ≡ attrs_of values frame rows → m.pts ≡ types rows → All IsPlain rows → AllTypesDistinct (types rows)
+      → All (λ row. IsMappingSaid row (values row)) rows → rows ≢ [] → DescribesRows m rows
   describes m frame rows f attrs pts plain d said some = grind (arith, describing (record m { attrs = frame }) rows)

@@ -3,8 +3,8 @@ use Rattle.str0m_sdp.proofs.Common.{arith, ◌≡◌, ◌<◌, ◌+◌, ◌++◌
 use Rattle.str0m_sdp.proofs.Common.{Option, None, nat_eq, filter_map, option_to_list, refl, sym, ap, ◌∙◌, inl, inr, list_any, cases_eq}
 use Rattle.str0m_sdp.proofs.Common.{eq-eqb, ne_eqb, or_right, take_at_read, append-nil, filter_map-append, CodecSpec, set}
 use Rattle.str0m_sdp.proofs.section.MappingsFilterMap.{map_more}
-use Rattle.str0m_sdp.proofs.section.SectionRowsParts.{or_false}
-use Rattle.str0m_sdp.proofs.section.TypeTablesMarks.{any_more, set_marked}
+use Rattle.str0m_sdp.proofs.section.SectionRowsParts.{rows_or_false}
+use Rattle.str0m_sdp.proofs.section.TypeTablesMarks.{mark_any_more, set_marked}
 use Rattle.str0m_sdp.proofs.session.DistinctCandidatesLaws.{distinct_push}
 use Rattle.str0m_sdp.specs.Common.{distinct}
 use Rattle.str0m_sdp.specs.attribute.RtpMap.{spec_of_map}
@@ -43,28 +43,29 @@ bools_assoc : (a b c : Bool) → ((a || b) || c) ≡ (a || (b || c))
 bools_assoc a b c = grind arith
 
 -- a new type is marked
-pub mark_new : (marks : List Bool) (pts : List ℕ) (i new pt : ℕ) (a : Bool) → i < length pts → new ≡ get_or pts i new → new < length marks
+pub mapping_mark_new : (marks : List Bool) (pts : List ℕ) (i new pt : ℕ) (a : Bool) → i < length pts → new ≡ get_or pts i new
+    → new < length marks
     → get_or marks pt false ≡ (a || list_any (λ n. n == pt) (take i pts))
     → get_or (set marks new true) pt false ≡ (a || list_any (λ n. n == pt) (take (i + 1) pts))
-mark_new marks pts i new pt a lt is row so_far =
+mapping_mark_new marks pts i new pt a lt is row so_far =
     let before = list_any (λ n. n == pt) (take i pts) in
     set_marked marks new pt (a || before) row so_far ∙ bools_assoc a before (new == pt)
-    ∙ sym (ap (λ (b : Bool). a || b) (any_more (λ n. n == pt) pts i new lt is))
+    ∙ sym (ap (λ (b : Bool). a || b) (mark_any_more (λ n. n == pt) pts i new lt is))
 
 -- one that is marked stays so
-pub mark_seen : (marks : List Bool) (pts : List ℕ) (i seen pt : ℕ) (a : Bool) → i < length pts → seen ≡ get_or pts i seen
+pub mapping_mark_seen : (marks : List Bool) (pts : List ℕ) (i seen pt : ℕ) (a : Bool) → i < length pts → seen ≡ get_or pts i seen
     → get_or marks seen false ≡ true
     → get_or marks pt false ≡ (a || list_any (λ n. n == pt) (take i pts))
     → get_or marks pt false ≡ (a || list_any (λ n. n == pt) (take (i + 1) pts))
-mark_seen marks pts i seen pt a lt is marked so_far =
+mapping_mark_seen marks pts i seen pt a lt is marked so_far =
     let before = list_any (λ n. n == pt) (take i pts) in
-    let more = any_more (λ n. n == pt) pts i seen lt is in
+    let more = mark_any_more (λ n. n == pt) pts i seen lt is in
     elim (cases_eq seen pt) [
       | inl same ↦
           (rw same at marked) ∙ sym (ap (λ (b : Bool). a || b) more
           ∙ or_right a (before || (seen == pt)) (or_right before (seen == pt) (eq-eqb seen pt same)))
       | inr apart ↦
-          so_far ∙ sym (ap (λ (b : Bool). a || b) (more ∙ ap (λ (b : Bool). before || b) (ne_eqb seen pt apart) ∙ or_false before))
+          so_far ∙ sym (ap (λ (b : Bool). a || b) (more ∙ ap (λ (b : Bool). before || b) (ne_eqb seen pt apart) ∙ rows_or_false before))
     ]
 
 -- the mappings of the lines, one line more: it is one, or none

@@ -28,10 +28,10 @@ kept_item {X} {Y} p f xs i x lt is kept =
     ∙ ap (λ (ys : List Y). filter_map f (filter p (take i xs)) ++ ys) (map_one f x (f x) refl)
 
 -- one that isn't
-pub left_out : {X Y : Type 0} (p : X → Bool) (f : X → Option Y) (xs : List X) (i : ℕ) (x : X) → i < length xs → x ≡ get_or xs i x
+pub filter_map_left_out : {X Y : Type 0} (p : X → Bool) (f : X → Option Y) (xs : List X) (i : ℕ) (x : X) → i < length xs → x ≡ get_or xs i x
     → p x ≡ false
     → filter_map f (filter p (take (i + 1) xs)) ≡ filter_map f (filter p (take i xs))
-left_out {X} {Y} p f xs i x lt is fails =
+filter_map_left_out {X} {Y} p f xs i x lt is fails =
     grind (arith, take_read xs i x lt is, filter-append p (take i xs) (x ∷ []), append-nil (filter p (take i xs)))
 
 pub one_mapped : {Y : Type 0} (Q : Y → Type 0) (o : Option Y) (ys : List Y) → IfSome o Q → All Q ys → All Q (cons_option o ys)
@@ -48,6 +48,6 @@ IfSome_or : {X : Type 0} (P : X → Type 0) (o : Option X) (x : X) → IfSome o 
 IfSome_or P o x all here = grind arith
 
 -- what holds of all holds of the last
-pub last_of_all : {X : Type 0} (P : X → Type 0) (xs : List X) → All P xs → IfSome (last xs) P
-last_of_all P [] all = tt
-last_of_all P (x ∷ xs) all = IfSome_or P (last xs) x (last_of_all P xs (All-tail P x xs all)) (All-head P x xs all)
+pub filter_map_last_of_all : {X : Type 0} (P : X → Type 0) (xs : List X) → All P xs → IfSome (last xs) P
+filter_map_last_of_all P [] all = tt
+filter_map_last_of_all P (x ∷ xs) all = IfSome_or P (last xs) x (filter_map_last_of_all P xs (All-tail P x xs all)) (All-head P x xs all)

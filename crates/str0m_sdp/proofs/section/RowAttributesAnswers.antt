@@ -3,12 +3,12 @@ use Rattle.str0m_formats.specs.declared.codec.Codec.TheVariants as codec
 use Rattle.str0m_sdp.proofs.Common.{arith, ◌≡◌, ◌==◌, ◌&&◌, ◌||◌, ℕ, Bool, true, false, List, [], ◌∷◌, ◌++◌, Option, Some, None}
 use Rattle.str0m_sdp.proofs.Common.{option_to_list, refl, sym, ap, ◌∙◌, AllByRecursion, list_any, ne_eqb, append-nil, list_any-append, when}
 use Rattle.str0m_sdp.proofs.Common.{has, types_of, rtp_rate, empty, Codec, CodecSpec, Apt, BarePtList, FormatParam, PayloadParams, bytes_eq}
-use Rattle.str0m_sdp.proofs.Common.{filter_map, eqb-false, all_both}
+use Rattle.str0m_sdp.proofs.Common.{filter_map, eqb-false, line_all_of_both}
 use Rattle.str0m_sdp.proofs.section.MadeSectionFrame.{NameNoType, NamesNoType}
 use Rattle.str0m_sdp.proofs.section.RowAttributesReads.{fmtp_lines, red_reads, reads, each, all_feedback, all_fmtp, all_rtx, all_red, quiet}
 use Rattle.str0m_sdp.proofs.section.RowAttributesReads.{append_said, parts_said}
 use Rattle.str0m_sdp.proofs.section.SectionRowsApart.{self, pt_apart}
-use Rattle.str0m_sdp.proofs.section.SectionRowsParts.{always, none_passes, or_false, weaker}
+use Rattle.str0m_sdp.proofs.section.SectionRowsParts.{always, rows_none_passes, rows_or_false, rows_all_weaker}
 use Rattle.str0m_sdp.specs.attribute.Feedback.{is_feedback}
 use Rattle.str0m_sdp.specs.attribute.RtpMap.{map_of_spec, spec_of_map}
 use Rattle.str0m_sdp.specs.declared.attribute.MediaAttribute.{MediaAttribute}
@@ -18,8 +18,8 @@ use Rattle.str0m_sdp.specs.section.Companions.{companion_in, names}
 use Rattle.str0m_sdp.specs.section.Mappings.{mapping, is_mapped_to}
 use Rattle.str0m_sdp.specs.section.RowAttributes.{feedback_line, feedback_attrs, rtx_lines}
 
-pub flipped : (m n : ℕ) → (m == n) ≡ false → (n == m) ≡ false
-flipped m n h = ne_eqb n m (λ e. eqb-false m n h (sym e))
+pub row_eq_false_flipped : (m n : ℕ) → (m == n) ≡ false → (n == m) ≡ false
+row_eq_false_flipped m n h = ne_eqb n m (λ e. eqb-false m n h (sym e))
 
 -- ---- the types that go with a type
 
@@ -29,30 +29,30 @@ named_none codec.Red t value h = rw h.1 refl
 named_none _ t value h = refl
 
 none_named : (c : Codec) (t : ℕ) (v : List FormatParam) → AllByRecursion NamesNoType v → list_any (names c t) v ≡ false
-none_named c t v h = none_passes (names c t) v (weaker NamesNoType (λ x. names c t x ≡ false) (named_none c t) v h)
+none_named c t v h = rows_none_passes (names c t) v (rows_all_weaker NamesNoType (λ x. names c t x ≡ false) (named_none c t) v h)
 
-pub and_false : (a : Bool) → (a && false) ≡ false
-and_false a = grind arith
+pub row_and_false : (a : Bool) → (a && false) ≡ false
+row_and_false a = grind arith
 
-unless_both : (a b : Bool) (n : ℕ) → b ≡ false → when (a && b) n ≡ None
-unless_both a b n h = rw h (rw (and_false a) refl)
+row_unless_both : (a b : Bool) (n : ℕ) → b ≡ false → when (a && b) n ≡ None
+row_unless_both a b n h = rw h (rw (row_and_false a) refl)
 
 module _ (mapped : List (ℕ × CodecSpec)) (row : PayloadParams) where
   quiet_lines : (c : Codec) (t : ℕ) (vs : List (List FormatParam)) → NameNoType vs
       → AllByRecursion (λ v. companion_in c mapped t (Fmtp row.pt v) ≡ None) vs
   quiet_lines c t vs h =
-      weaker _ (λ v. companion_in c mapped t (Fmtp row.pt v) ≡ None)
-      (λ v k. unless_both (is_mapped_to c mapped row.pt) _ row.pt (none_named c t v k)) vs h
+      rows_all_weaker _ (λ v. companion_in c mapped t (Fmtp row.pt v) ≡ None)
+      (λ v k. row_unless_both (is_mapped_to c mapped row.pt) _ row.pt (none_named c t v k)) vs h
 
   -- its lines of RTX and of RED name its primary type alone
   other_named : (c : Codec) (t : ℕ) (value : FormatParam) (n : ℕ) → names c t value ≡ false
       → companion_in c mapped t (Fmtp n (value ∷ [])) ≡ None
-  other_named c t value n h = unless_both (is_mapped_to c mapped n) _ n (rw h refl)
+  other_named c t value n h = row_unless_both (is_mapped_to c mapped n) _ n (rw h refl)
 
   -- with a type that isn't the row's primary one
-  pub none_with : (c : Codec) (vs : List (List FormatParam)) (t : ℕ) → NameNoType vs → (row.pt == t) ≡ false
+  pub row_none_with : (c : Codec) (vs : List (List FormatParam)) (t : ℕ) → NameNoType vs → (row.pt == t) ≡ false
       → filter_map (companion_in c mapped t) (reads row vs) ≡ []
-  none_with c vs t none h =
+  row_none_with c vs t none h =
       quiet (companion_in c mapped t) (reads row vs)
       (each (λ a. companion_in c mapped t a ≡ None) row vs (λ m. refl) (λ w. refl) (quiet_lines c t vs none)
       (λ n e. (λ m. refl, other_named c t (Apt row.pt) n (apt c)))
@@ -76,7 +76,7 @@ module _ (mapped : List (ℕ × CodecSpec)) (row : PayloadParams) where
       (go row.resend is)
       (quiet _ (red_reads row row.red)
       (all_red (λ a. companion_in codec.Rtx mapped row.pt a ≡ None) row row.red
-      (λ n e. (λ m. refl, unless_both (is_mapped_to codec.Rtx mapped n) _ n refl))))
+      (λ n e. (λ m. refl, row_unless_both (is_mapped_to codec.Rtx mapped n) _ n refl))))
       ∙ append-nil (option_to_list row.resend)
     where
       go : (o : Option ℕ) → ((n : ℕ) → o ≡ Some n → is_mapped_to codec.Rtx mapped n ≡ true)
@@ -92,7 +92,7 @@ module _ (mapped : List (ℕ × CodecSpec)) (row : PayloadParams) where
       (all_fmtp (λ a. companion_in codec.Red mapped row.pt a ≡ None) row vs (quiet_lines codec.Red row.pt vs none)))
       (quiet _ (rtx_lines row row.resend)
       (all_rtx (λ a. companion_in codec.Red mapped row.pt a ≡ None) row row.resend
-      (λ n e. (λ m. refl, unless_both (is_mapped_to codec.Red mapped n) _ n refl))))
+      (λ n e. (λ m. refl, row_unless_both (is_mapped_to codec.Red mapped n) _ n refl))))
       (go row.red is)
     where
       go : (o : Option ℕ) → ((n : ℕ) → o ≡ Some n → is_mapped_to codec.Red mapped n ≡ true)
@@ -105,7 +105,7 @@ module _ (mapped : List (ℕ × CodecSpec)) (row : PayloadParams) where
 pub feedback_apart : (row : PayloadParams) (vs : List (List FormatParam)) (t : ℕ) (words : List ℕ) → has (types_of row) t ≡ false
     → list_any (is_feedback t words) (reads row vs) ≡ false
 feedback_apart row vs t words h =
-    none_passes (is_feedback t words) (reads row vs)
+    rows_none_passes (is_feedback t words) (reads row vs)
     (each (λ a. is_feedback t words a ≡ false) row vs (λ m. refl) (λ w. rw (pt_apart row t h) refl) (always _ (λ v. refl) vs)
     (λ n e. (λ m. refl, refl)) (λ n e. (λ m. refl, refl)))
 
@@ -124,7 +124,7 @@ pub feedback_own : (row : PayloadParams) (vs : List (List FormatParam)) (words :
 feedback_own row vs words =
     list_any-append (is_feedback row.pt words) (feedback_attrs row) rest
     ∙ ap (λ b. list_any (is_feedback row.pt words) (feedback_attrs row) || b) quiet_rest
-    ∙ or_false _
+    ∙ rows_or_false _
     ∙ flag_line row.pt _ words row.fb_transport_cc _ _ (flag_line row.pt _ words row.fb_remb _ _
     (flag_line row.pt _ words row.fb_fir _ _ (flag_line row.pt _ words row.fb_nack _ (feedback_line row.pt PLI.now row.fb_pli)
     (one_flag row.pt PLI.now words row.fb_pli))))
@@ -134,10 +134,10 @@ feedback_own row vs words =
 
     quiet_rest : list_any (is_feedback row.pt words) rest ≡ false
     quiet_rest =
-        none_passes (is_feedback row.pt words) rest
-        (all_both (λ a. is_feedback row.pt words a ≡ false) _ _
+        rows_none_passes (is_feedback row.pt words) rest
+        (line_all_of_both (λ a. is_feedback row.pt words a ≡ false) _ _
         (all_fmtp (λ a. is_feedback row.pt words a ≡ false) row vs (always _ (λ v. refl) vs))
-        (all_both (λ a. is_feedback row.pt words a ≡ false) _ _
+        (line_all_of_both (λ a. is_feedback row.pt words a ≡ false) _ _
         (all_rtx (λ a. is_feedback row.pt words a ≡ false) row row.resend (λ n e. (λ m. refl, refl)))
         (all_red (λ a. is_feedback row.pt words a ≡ false) row row.red (λ n e. (λ m. refl, refl)))))
 

@@ -1,19 +1,23 @@
 -- Asked of a frame without lines of types and the lines of all rows, each question on a row's type has that row's answer.
 use Rattle.str0m_formats.specs.declared.codec.Codec.TheVariants as codec
 use Rattle.str0m_sdp.proofs.Common.{◌≡◌, ◌==◌, ◌&&◌, ℕ, Bool, true, false, cond, List, [], ◌∷◌, ◌++◌, Option, Some, None, option_to_list}
-use Rattle.str0m_sdp.proofs.Common.{refl, ap, ◌∙◌, arith, AllByRecursion, flat_map, list_any, filter_map-append, times, AllDistinct}
-use Rattle.str0m_sdp.proofs.Common.{types_of, types, CodecSpec, FormatParam, PayloadParams, times-append, times-cons, Codec, count_by}
+use Rattle.str0m_sdp.proofs.Common.{refl, ap, ◌∙◌, arith, AllByRecursion, flat_map, list_any, filter_map-append, type_times}
+use Rattle.str0m_sdp.proofs.Common.{AllTypesDistinct}
+use Rattle.str0m_sdp.proofs.Common.{types_of, types, CodecSpec, FormatParam, PayloadParams, type_times-append, type_times-cons, Codec}
+use Rattle.str0m_sdp.proofs.Common.{count_by}
 use Rattle.str0m_sdp.proofs.Common.{filter_map}
 use Rattle.str0m_sdp.proofs.section.FmtpLinesAnswers.{values_apart, values_own, apt_apart, apt_own}
 use Rattle.str0m_sdp.proofs.section.MadeSectionFrame.{HasNoTypes, NameNoType, frame_mapping, frame_maps, frame_feedback, frame_values}
 use Rattle.str0m_sdp.proofs.section.MadeSectionFrame.{frame_apt, frame_companion}
-use Rattle.str0m_sdp.proofs.section.RowAttributesAnswers.{NamesItself, row_entries, and_false, none_with, rtx_own, red_own, feedback_apart}
+use Rattle.str0m_sdp.proofs.section.RowAttributesAnswers.{NamesItself, row_entries, row_and_false, row_none_with, rtx_own, red_own}
+use Rattle.str0m_sdp.proofs.section.RowAttributesAnswers.{feedback_apart}
 use Rattle.str0m_sdp.proofs.section.RowAttributesAnswers.{feedback_own, mapping_own}
 use Rattle.str0m_sdp.proofs.section.RowAttributesReads.{reads, fmtp_lines, red_reads, quiet, all_feedback, all_fmtp}
 use Rattle.str0m_sdp.proofs.section.SectionRowsApart.{LacksType, Roles, unique, roles, row_distinct, has_pt, has_rtx, pt_apart}
-use Rattle.str0m_sdp.proofs.section.SectionRowsOwn.{AreOpen, own_said}
-use Rattle.str0m_sdp.proofs.section.SectionRowsParts.{always, or_false, weaker, together, taken_apart, none_passes, none_counted}
-use Rattle.str0m_sdp.proofs.section.SectionRowsParts.{count-append, own_holds, AllFail}
+use Rattle.str0m_sdp.proofs.section.SectionRowsOwn.{AreRowsOpen, own_said}
+use Rattle.str0m_sdp.proofs.section.SectionRowsParts.{always, rows_or_false, rows_all_weaker, together, rows_taken_apart, rows_none_passes}
+use Rattle.str0m_sdp.proofs.section.SectionRowsParts.{rows_none_counted}
+use Rattle.str0m_sdp.proofs.section.SectionRowsParts.{count-append, rows_own_holds, AllFail}
 use Rattle.str0m_sdp.specs.Common.{first, last}
 use Rattle.str0m_sdp.specs.attribute.Feedback.{is_feedback, has_feedback}
 use Rattle.str0m_sdp.specs.attribute.RtpMap.{map_of_spec}
@@ -41,8 +45,8 @@ pub record SayFeedback (attrs : List MediaAttribute) (row : PayloadParams) : Typ
   pub pli : has_feedback attrs row.pt PLI.now ≡ row.fb_pli
   pub remb : has_feedback attrs row.pt REMB.now ≡ row.fb_remb
 
-and_true : (a : Bool) → (a && true) ≡ a
-and_true a = grind arith
+row_and_true : (a : Bool) → (a && true) ≡ a
+row_and_true a = grind arith
 
 -- a question asked of the lines of all rows, where each row's lines answer by a list
 pub over_rows : {R X Y : Type 0} (q : X → Option Y) (lines : R → List X) (f : R → List Y) (rows : List R)
@@ -59,7 +63,7 @@ module _ (values : PayloadParams → List (List FormatParam)) where
   attrs_of frame rows = frame ++ flat_map lines rows
 
   module _ (frame : List MediaAttribute) (bare : HasNoTypes frame) (before : List PayloadParams) (row : PayloadParams)
-      (after : List PayloadParams) (d : AllDistinct (types (before ++ row ∷ after))) where
+      (after : List PayloadParams) (d : AllTypesDistinct (types (before ++ row ∷ after))) where
     own_roles : Roles row
     own_roles = roles row (row_distinct before row after d)
 
@@ -68,47 +72,49 @@ module _ (values : PayloadParams → List (List FormatParam)) where
     unfolding fmtps_of
     values_are =
         own_said (values_in row.pt) lines frame before row after
-        (quiet (values_in row.pt) frame (weaker _ (λ a. values_in row.pt a ≡ None) (frame_values row.pt) frame bare))
+        (quiet (values_in row.pt) frame (rows_all_weaker _ (λ a. values_in row.pt a ≡ None) (frame_values row.pt) frame bare))
         (others before (unique before row after row.pt d (has_pt row)).0) (others after (unique before row after row.pt d (has_pt row)).1)
         ∙ values_own row (values row) own_roles
       where
-        others : (rows : List PayloadParams) → LacksType row.pt rows → AreOpen (values_in row.pt) lines rows
-        others rows h = weaker _ (λ r. filter_map (values_in row.pt) (lines r) ≡ []) (λ r k. values_apart r (values r) row.pt k) rows h
+        others : (rows : List PayloadParams) → LacksType row.pt rows → AreRowsOpen (values_in row.pt) lines rows
+        others rows h = rows_all_weaker _ (λ r. filter_map (values_in row.pt) (lines r) ≡ []) (λ r k. values_apart r (values r) row.pt k)
+            rows h
 
     -- the primary type that its RTX type names
     pub apt_is : (t : ℕ) → row.resend ≡ Some t → first_apt t (attrs_of frame (before ++ row ∷ after)) ≡ Some row.pt
     apt_is t is =
         first_apt-is t (attrs_of frame (before ++ row ∷ after))
         ∙ ap first (own_said (apt_in t) lines frame before row after
-        (quiet (apt_in t) frame (weaker _ (λ a. apt_in t a ≡ None) (frame_apt t) frame bare))
+        (quiet (apt_in t) frame (rows_all_weaker _ (λ a. apt_in t a ≡ None) (frame_apt t) frame bare))
         (others before (unique before row after t d (has_rtx row t is)).0) (others after (unique before row after t d (has_rtx row t is)).1)
         ∙ apt_own row (values row) t own_roles is)
       where
-        others : (rows : List PayloadParams) → LacksType t rows → AreOpen (apt_in t) lines rows
-        others rows h = weaker _ (λ r. filter_map (apt_in t) (lines r) ≡ []) (λ r k. apt_apart r (values r) t k) rows h
+        others : (rows : List PayloadParams) → LacksType t rows → AreRowsOpen (apt_in t) lines rows
+        others rows h = rows_all_weaker _ (λ r. filter_map (apt_in t) (lines r) ≡ []) (λ r k. apt_apart r (values r) t k) rows h
 
     -- its feedback
     has_flag : (words : List ℕ) → has_feedback (attrs_of frame (before ++ row ∷ after)) row.pt words
         ≡ list_any (is_feedback row.pt words) (lines row)
     unfolding has_feedback
     has_flag words =
-        own_holds (is_feedback row.pt words) lines frame before row after
-        (none_passes (is_feedback row.pt words) frame
-        (weaker _ (λ a. is_feedback row.pt words a ≡ false) (frame_feedback row.pt words) frame bare))
+        rows_own_holds (is_feedback row.pt words) lines frame before row after
+        (rows_none_passes (is_feedback row.pt words) frame
+        (rows_all_weaker _ (λ a. is_feedback row.pt words a ≡ false) (frame_feedback row.pt words) frame bare))
         (others before (unique before row after row.pt d (has_pt row)).0) (others after (unique before row after row.pt d (has_pt row)).1)
       where
         others : (rows : List PayloadParams) → LacksType row.pt rows → AllFail (is_feedback row.pt words) lines rows
         others rows h =
-            weaker _ (λ r. list_any (is_feedback row.pt words) (lines r) ≡ false)
+            rows_all_weaker _ (λ r. list_any (is_feedback row.pt words) (lines r) ≡ false)
             (λ r k. feedback_apart r (values r) row.pt words k) rows h
 
     pub feedback_is : SayFeedback (attrs_of frame (before ++ row ∷ after)) row
     feedback_is = record {
-      transport_cc = has_flag TRANSPORT_CC.now ∙ feedback_own row (values row) TRANSPORT_CC.now ∙ simp (and_true, and_false, or_false);
-      fir = has_flag FIR.now ∙ feedback_own row (values row) FIR.now ∙ simp (and_true, and_false, or_false);
-      nack = has_flag NACK.now ∙ feedback_own row (values row) NACK.now ∙ simp (and_true, and_false, or_false);
-      pli = has_flag PLI.now ∙ feedback_own row (values row) PLI.now ∙ simp (and_true, and_false);
-      remb = has_flag REMB.now ∙ feedback_own row (values row) REMB.now ∙ simp (and_true, and_false, or_false);
+      transport_cc = has_flag TRANSPORT_CC.now ∙ feedback_own row (values row) TRANSPORT_CC.now
+          ∙ simp (row_and_true, row_and_false, rows_or_false);
+      fir = has_flag FIR.now ∙ feedback_own row (values row) FIR.now ∙ simp (row_and_true, row_and_false, rows_or_false);
+      nack = has_flag NACK.now ∙ feedback_own row (values row) NACK.now ∙ simp (row_and_true, row_and_false, rows_or_false);
+      pli = has_flag PLI.now ∙ feedback_own row (values row) PLI.now ∙ simp (row_and_true, row_and_false);
+      remb = has_flag REMB.now ∙ feedback_own row (values row) REMB.now ∙ simp (row_and_true, row_and_false, rows_or_false);
     }
 
     -- its RTX type and its RED type, where these are mapped to RTX and RED, and no value of a row's format names a type
@@ -119,20 +125,20 @@ module _ (values : PayloadParams → List (List FormatParam)) where
       companion_is c own is =
           ap last (own_said (companion_in c mapped row.pt) lines frame before row after
           (quiet (companion_in c mapped row.pt) frame
-          (weaker _ (λ a. companion_in c mapped row.pt a ≡ None) (frame_companion c mapped row.pt) frame bare))
-          (others before (taken_apart _ before row after silent).0 (unique before row after row.pt d (has_pt row)).0)
-          (others after (taken_apart _ before row after silent).2 (unique before row after row.pt d (has_pt row)).1)
+          (rows_all_weaker _ (λ a. companion_in c mapped row.pt a ≡ None) (frame_companion c mapped row.pt) frame bare))
+          (others before (rows_taken_apart _ before row after silent).0 (unique before row after row.pt d (has_pt row)).0)
+          (others after (rows_taken_apart _ before row after silent).2 (unique before row after row.pt d (has_pt row)).1)
           ∙ is)
           ∙ last_option own
         where
           others : (rows : List PayloadParams) → AllByRecursion (λ r. NameNoType (values r)) rows → LacksType row.pt rows
-              → AreOpen (companion_in c mapped row.pt) lines rows
+              → AreRowsOpen (companion_in c mapped row.pt) lines rows
           others rows s h =
               together _ _ (λ r. filter_map (companion_in c mapped row.pt) (lines r) ≡ [])
-              (λ r k l. none_with mapped r c (values r) row.pt k (pt_apart r row.pt l)) rows s h
+              (λ r k l. row_none_with mapped r c (values r) row.pt k (pt_apart r row.pt l)) rows s h
 
       own_silent : NameNoType (values row)
-      own_silent = (taken_apart (λ r. NameNoType (values r)) before row after silent).1
+      own_silent = (rows_taken_apart (λ r. NameNoType (values r)) before row after silent).1
 
       pub rtx_is : ((n : ℕ) → row.resend ≡ Some n → is_mapped_to codec.Rtx mapped n ≡ true)
           → companion codec.Rtx mapped (attrs_of frame (before ++ row ∷ after)) row.pt ≡ row.resend
@@ -146,20 +152,20 @@ module _ (values : PayloadParams → List (List FormatParam)) where
   pub mappings_are : (frame : List MediaAttribute) (rows : List PayloadParams) → HasNoTypes frame
       → AllByRecursion (λ row. NamesItself row.spec) rows
       → filter_map mapping (attrs_of frame rows) ≡ flat_map row_entries rows
-  mappings_are frame rows bare same = grind (arith, filter_map-append, quiet, weaker, frame_mapping, over_rows, mapping_own)
+  mappings_are frame rows bare same = grind (arith, filter_map-append, quiet, rows_all_weaker, frame_mapping, over_rows, mapping_own)
 
   -- a type is mapped as often as it stands among the types of the rows
-  maps_in : (t : ℕ) (row : PayloadParams) → count_by (maps t) (lines row) ≡ times (types_of row) t
+  maps_in : (t : ℕ) (row : PayloadParams) → count_by (maps t) (lines row) ≡ type_times (types_of row) t
   maps_in t row =
       let a = count-append (maps t) (RtpMap row.pt (map_of_spec row.spec) ∷ []) (feedback_attrs row ++ rest) in
       let b = count-append (maps t) (feedback_attrs row) rest in
       let c = count-append (maps t) (fmtp_lines row.pt (values row)) (rtx_lines row row.resend ++ red_reads row row.red) in
       let e = count-append (maps t) (rtx_lines row row.resend) (red_reads row row.red) in
-      let none = none_counted (maps t) (feedback_attrs row) (all_feedback (λ x. maps t x ≡ false) row (λ w. refl)) in
-      let none' = none_counted (maps t) (fmtp_lines row.pt (values row))
+      let none = rows_none_counted (maps t) (feedback_attrs row) (all_feedback (λ x. maps t x ≡ false) row (λ w. refl)) in
+      let none' = rows_none_counted (maps t) (fmtp_lines row.pt (values row))
       (all_fmtp (λ x. maps t x ≡ false) row (values row) (always _ (λ v. refl) (values row))) in
-      let whole = times-cons row.pt (option_to_list row.resend ++ option_to_list row.red) t in
-      let parts = times-append (option_to_list row.resend) (option_to_list row.red) t in
+      let whole = type_times-cons row.pt (option_to_list row.resend ++ option_to_list row.red) t in
+      let parts = type_times-append (option_to_list row.resend) (option_to_list row.red) t in
       let r = rtx row.resend in
       let s = red row.red in
       let one = first_one in
@@ -171,27 +177,27 @@ module _ (values : PayloadParams → List (List FormatParam)) where
       first_one : count_by (maps t) (RtpMap row.pt (map_of_spec row.spec) ∷ []) ≡ cond {A = ℕ} (row.pt == t) 1 0
       first_one = omega arith
 
-      rtx : (o : Option ℕ) → count_by (maps t) (rtx_lines row o) ≡ times (option_to_list o) t
+      rtx : (o : Option ℕ) → count_by (maps t) (rtx_lines row o) ≡ type_times (option_to_list o) t
       rtx None = refl
       rtx (Some n) = omega arith
 
-      red : (o : Option ℕ) → count_by (maps t) (red_reads row o) ≡ times (option_to_list o) t
+      red : (o : Option ℕ) → count_by (maps t) (red_reads row o) ≡ type_times (option_to_list o) t
       red None = refl
       red (Some n) = omega arith
 
   pub maps_are : (frame : List MediaAttribute) (rows : List PayloadParams) → HasNoTypes frame → (t : ℕ)
-      → count_by (maps t) (attrs_of frame rows) ≡ times (types rows) t
+      → count_by (maps t) (attrs_of frame rows) ≡ type_times (types rows) t
   maps_are frame rows bare t =
       let a = count-append (maps t) frame (flat_map lines rows) in
-      let none = none_counted (maps t) frame (weaker _ (λ x. maps t x ≡ false) (frame_maps t) frame bare) in
+      let none = rows_none_counted (maps t) frame (rows_all_weaker _ (λ x. maps t x ≡ false) (frame_maps t) frame bare) in
       let b = go rows in
       omega (arith, a, none, b)
     where
-      go : (rows : List PayloadParams) → count_by (maps t) (flat_map lines rows) ≡ times (types rows) t
+      go : (rows : List PayloadParams) → count_by (maps t) (flat_map lines rows) ≡ type_times (types rows) t
       go [] = refl
       go (row ∷ rows) =
           let a = count-append (maps t) (lines row) (flat_map lines rows) in
-          let b = times-append (types_of row) (types rows) t in
+          let b = type_times-append (types_of row) (types rows) t in
           let one = maps_in t row in
           let tail = go rows in
           omega (arith, a, b, one, tail)

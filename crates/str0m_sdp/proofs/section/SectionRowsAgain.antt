@@ -5,14 +5,14 @@ use Rattle.str0m_formats.specs.row.KindRows.{has_audio}
 use Rattle.str0m_sdp.proofs.Common.{arith, ◌≡◌, ◌≢◌, ◌&&◌, ◌||◌, ℕ, Bool, true, false, cond, List, [], ◌∷◌, ◌++◌, map, Option, Some, None}
 use Rattle.str0m_sdp.proofs.Common.{refl, sym, ap, ◌∙◌, subst, option_map, or_left, or_right, AllByRecursion, AllZip, flat_map, cons_option}
 use Rattle.str0m_sdp.proofs.Common.{filter_map-append, filter-append, content, events, other, format_of_fmtp, empty, types_of, types}
-use Rattle.str0m_sdp.proofs.Common.{SameRow, same_codec, has, AllDistinct, Codec, FormatParam, PayloadParams, IsPlain, ◌==◌, filter}
+use Rattle.str0m_sdp.proofs.Common.{SameRow, same_codec, has, AllTypesDistinct, Codec, FormatParam, PayloadParams, IsPlain, ◌==◌, filter}
 use Rattle.str0m_sdp.proofs.Common.{filter_map, Content, audio, video, has_video}
 use Rattle.str0m_sdp.proofs.section.MadeSectionFrame.{HasNoTypes, NameNoType}
-use Rattle.str0m_sdp.proofs.section.MappingsBack.{IsSaid, unlocked, section, mapped_is, mapped_among, entry_pt, entry_rtx, entry_red}
+use Rattle.str0m_sdp.proofs.section.MappingsBack.{IsMappingSaid, unlocked, section, mapped_is, mapped_among, entry_pt, entry_rtx, entry_red}
 use Rattle.str0m_sdp.proofs.section.RowAttributesAnswers.{row_entries, rtx_entry, red_entry}
 use Rattle.str0m_sdp.proofs.section.RowAttributesQuestions.{attrs_of, values_are, feedback_is, SayFeedback, rtx_is, red_is}
 use Rattle.str0m_sdp.proofs.section.SectionRowsApart.{Roles, roles, row_distinct, self, has_pt, has_rtx, has_red, has_at-append}
-use Rattle.str0m_sdp.proofs.section.SectionRowsParts.{weaker, taken_apart, each_among}
+use Rattle.str0m_sdp.proofs.section.SectionRowsParts.{rows_all_weaker, rows_taken_apart, rows_each_among}
 use Rattle.str0m_sdp.specs.declared.section.media_line.MediaLine.{MediaLine}
 use Rattle.str0m_sdp.specs.section.Companions.{rtx_companion, red_companion}
 use Rattle.str0m_sdp.specs.section.Mappings.{mapped, is_mapped_to}
@@ -55,12 +55,12 @@ kept_rows : {R X Y : Type 0} (p : X → Bool) (f : X → Option Y) (entries : R 
 kept_rows p f entries g [] h = refl
 kept_rows p f entries g (r ∷ rows) h = grind (arith, filter-append, filter_map-append, kept_rows p f entries g rows h.1)
 
-no_others : (m : MediaLine) (row : PayloadParams) (a b : Option ℕ) → filter (is_kept m) (rtx_entry row a ++ red_entry row b) ≡ []
-no_others m row a b = grind arith
+row_no_others : (m : MediaLine) (row : PayloadParams) (a b : Option ℕ) → filter (is_kept m) (rtx_entry row a ++ red_entry row b) ≡ []
+row_no_others m row a b = grind arith
 
 module _ (values : PayloadParams → List (List FormatParam)) (frame : MediaLine) (bare : HasNoTypes frame.attrs) where
   module _ (before : List PayloadParams) (row : PayloadParams) (after : List PayloadParams)
-      (plain : AllByRecursion IsPlain (before ++ row ∷ after)) (d : AllDistinct (types (before ++ row ∷ after))) where
+      (plain : AllByRecursion IsPlain (before ++ row ∷ after)) (d : AllTypesDistinct (types (before ++ row ∷ after))) where
     row_roles : Roles row
     row_roles = roles row (row_distinct before row after d)
 
@@ -83,15 +83,15 @@ module _ (values : PayloadParams → List (List FormatParam)) (frame : MediaLine
         ap (λ m. is_mapped_to c m n) (mapped_is values frame (before ++ row ∷ after) bare plain)
         ∙ mapped_among c n before row after d (has_red row n is) ∙ entry_red c n row row_roles is
 
-    module _ (said : AllByRecursion (λ r. IsSaid r (values r)) (before ++ row ∷ after)) where
+    module _ (said : AllByRecursion (λ r. IsMappingSaid r (values r)) (before ++ row ∷ after)) where
       silent : AllByRecursion (λ r. NameNoType (values r)) (before ++ row ∷ after)
-      silent = weaker _ (λ r. NameNoType (values r)) (λ r s. s.silent) (before ++ row ∷ after) said
+      silent = rows_all_weaker _ (λ r. NameNoType (values r)) (λ r s. s.silent) (before ++ row ∷ after) said
 
       own_plain : IsPlain row
-      own_plain = (taken_apart IsPlain before row after plain).1
+      own_plain = (rows_taken_apart IsPlain before row after plain).1
 
-      said_here : IsSaid row (values row)
-      said_here = (taken_apart (λ r. IsSaid r (values r)) before row after said).1
+      row_said_here : IsMappingSaid row (values row)
+      said_here = (rows_taken_apart (λ r. IsMappingSaid r (values r)) before row after said).1
 
       pub rtx_type_is : rtx_companion (section values frame (before ++ row ∷ after)) row.pt ≡ row.resend
       rtx_type_is =
@@ -127,7 +127,7 @@ module _ (values : PayloadParams → List (List FormatParam)) (frame : MediaLine
       unfolding row_at
       row_again =
           ap (λ o. option_map (row_with (section values frame (before ++ row ∷ after)) row.pt (record row.spec { format = empty })) o)
-          (ap (λ vs. format_of_fmtp row.spec.codec vs) (values_are values frame.attrs bare before row after d) ∙ said_here.format)
+          (ap (λ vs. format_of_fmtp row.spec.codec vs) (values_are values frame.attrs bare before row after d) ∙ row_said_here.format)
           ∙ ap (λ r. Some r) same_row
 
       -- of its types the primary one alone has a row
@@ -139,20 +139,20 @@ module _ (values : PayloadParams → List (List FormatParam)) (frame : MediaLine
           (rtx_entry row row.resend ++ red_entry row row.red)) (filter (is_kept m) (rtx_entry row row.resend ++ red_entry row row.red))))
           (kept_content (content row.spec.codec) (has (types (before ++ row ∷ after)) row.pt) own_plain.carried
           (has_types before row after row.pt (has_pt row)))
-          ∙ ap (λ es. filter_map (row_at m) ((row.pt, record row.spec { format = empty }) ∷ es)) (no_others m row row.resend row.red)
+          ∙ ap (λ es. filter_map (row_at m) ((row.pt, record row.spec { format = empty }) ∷ es)) (row_no_others m row row.resend row.red)
           ∙ ap (λ o. cons_option o []) row_again
         where
           m : MediaLine
           m = section values frame (before ++ row ∷ after)
 
   -- the rows that the section describes
-  pub rows_are : (rows : List PayloadParams) → AllByRecursion IsPlain rows → AllDistinct (types rows)
-      → AllByRecursion (λ r. IsSaid r (values r)) rows
+  pub rows_are : (rows : List PayloadParams) → AllByRecursion IsPlain rows → AllTypesDistinct (types rows)
+      → AllByRecursion (λ r. IsMappingSaid r (values r)) rows
       → rows_of (section values frame rows) ≡ map unlocked rows
   unfolding rows_of
   rows_are rows plain d said =
       ap (λ es. filter_map (row_at m) (filter (is_kept m) es)) (mapped_is values frame rows bare plain)
-      ∙ kept_rows (is_kept m) (row_at m) row_entries unlocked rows (each_among _ rows one)
+      ∙ kept_rows (is_kept m) (row_at m) row_entries unlocked rows (rows_each_among _ rows one)
     where
       m : MediaLine
       m = section values frame rows
@@ -161,11 +161,11 @@ module _ (values : PayloadParams → List (List FormatParam)) (frame : MediaLine
           → filter_map (row_at m) (filter (is_kept m) (row_entries row)) ≡ unlocked row ∷ []
       one before row after e =
           ap (λ xs. filter_map (row_at (section values frame xs)) (filter (is_kept (section values frame xs)) (row_entries row))) e
-          ∙ one_row before row after (subst (AllByRecursion IsPlain) e plain) (subst (λ xs. AllDistinct (types xs)) e d)
-          (subst (AllByRecursion (λ r. IsSaid r (values r))) e said)
+          ∙ one_row before row after (subst (AllByRecursion IsPlain) e plain) (subst (λ xs. AllTypesDistinct (types xs)) e d)
+          (subst (AllByRecursion (λ r. IsMappingSaid r (values r))) e said)
 
-  pub rows_same : (rows : List PayloadParams) → AllByRecursion IsPlain rows → AllDistinct (types rows)
-      → AllByRecursion (λ r. IsSaid r (values r)) rows
+  pub rows_same : (rows : List PayloadParams) → AllByRecursion IsPlain rows → AllTypesDistinct (types rows)
+      → AllByRecursion (λ r. IsMappingSaid r (values r)) rows
       → AllZip SameRow (rows_of (section values frame rows)) rows
   rows_same rows plain d said = subst (λ xs. AllZip SameRow xs rows) (sym (rows_are rows plain d said)) (go rows) where
     go : (rows : List PayloadParams) → AllZip SameRow (map unlocked rows) rows
@@ -173,7 +173,7 @@ module _ (values : PayloadParams → List (List FormatParam)) (frame : MediaLine
     go (row ∷ rows) = (refl, go rows)
 
   pub primary_among : (before : List PayloadParams) (row : PayloadParams) (after : List PayloadParams)
-      → AllByRecursion IsPlain (before ++ row ∷ after) → AllDistinct (types (before ++ row ∷ after))
-      → AllByRecursion (λ r. IsSaid r (values r)) (before ++ row ∷ after)
+      → AllByRecursion IsPlain (before ++ row ∷ after) → AllTypesDistinct (types (before ++ row ∷ after))
+      → AllByRecursion (λ r. IsMappingSaid r (values r)) (before ++ row ∷ after)
       → has (primary_types (section values frame (before ++ row ∷ after))) row.pt ≡ true
   primary_among before row after plain d said = grind (arith, rows_are, has_primary)

@@ -4,13 +4,13 @@ use Rattle.str0m_sdp.proofs.Common.{rules, arith, ◌≡◌, ◌≤◌, ◌++◌
 use Rattle.str0m_sdp.proofs.Common.{filter, find, nat_eq, option_to_list, filter_map, All-nil, All-head, All-tail, IsBounded, static_spec}
 use Rattle.str0m_sdp.proofs.Common.{format_of_fmtp, empty, set_all, Codec, CodecSpec, FormatParam, FormatParams, nat_lt, option_map}
 use Rattle.str0m_sdp.proofs.Common.{All-append, All-filter, AreModes, IsDistance, events_end, is_event, kept, values_of, static_small}
-use Rattle.str0m_sdp.proofs.section.MappingsFilterMap.{all_mapped, last_of_all}
+use Rattle.str0m_sdp.proofs.section.MappingsFilterMap.{all_mapped, filter_map_last_of_all}
 use Rattle.str0m_sdp.specs.Common.{distinct}
 use Rattle.str0m_sdp.specs.declared.attribute.MediaAttribute.{MediaAttribute}
 use Rattle.str0m_sdp.specs.declared.section.media_line.MediaLine.{MediaLine}
 use Rattle.str0m_sdp.specs.section.Companions.{companion_in, companion, rtx_companion, red_companion}
 use Rattle.str0m_sdp.specs.section.Mappings.{mapping, unmapped, mapped}
-use Rattle.str0m_sdp.specs.section.SectionRows.{IsInBounds, KeepsToLine, KeepsToLines, values_in, fmtps_of, is_kept, row_with, row, rows}
+use Rattle.str0m_sdp.specs.section.SectionRows.{IsRowInBounds, KeepsToLine, KeepsToLines, values_in, fmtps_of, is_kept, row_with, row, rows}
 
 abbrev IsType : ℕ → Type 0
 IsType n = n ≤ 127
@@ -18,40 +18,42 @@ IsType n = n ≤ 127
 -- ---- formats
 
 -- the fields of a format that have ranges keep to them
-abbrev Within : FormatParams → Type 0
-Within p = IfSome p.mode_set AreModes × IfSome p.sprop_max_don_diff IsDistance
+abbrev FieldsWithin : FormatParams → Type 0
+FieldsWithin p = IfSome p.mode_set AreModes × IfSome p.sprop_max_don_diff IsDistance
 
-set_within : (param : FormatParam) (p : FormatParams) → IsInBounds param → Within p → Within (set param p)
-set_within param p range within = grind arith
+bound_set_within : (param : FormatParam) (p : FormatParams) → IsRowInBounds param → FieldsWithin p → FieldsWithin (set param p)
+bound_set_within param p range within = grind arith
 
-all_within : (params : List FormatParam) (p : FormatParams) → All IsInBounds params → Within p → Within (set_all p params)
-all_within [] p ranges within = within
-all_within (param ∷ params) p ranges within =
-    all_within params (set param p) (All-tail IsInBounds param params ranges)
-    (set_within param p (All-head IsInBounds param params ranges) within)
+bound_all_within : (params : List FormatParam) (p : FormatParams) → All IsRowInBounds params → FieldsWithin p
+    → FieldsWithin (set_all p params)
+bound_all_within [] p ranges within = within
+bound_all_within (param ∷ params) p ranges within =
+    bound_all_within params (set param p) (All-tail IsRowInBounds param params ranges)
+    (bound_set_within param p (All-head IsRowInBounds param params ranges) within)
 
-values_within : (lines : List (List FormatParam)) → All (All IsInBounds) lines → All IsInBounds (values_of lines)
-values_within [] ranges = All-nil IsInBounds
+values_within : (lines : List (List FormatParam)) → All (All IsRowInBounds) lines → All IsRowInBounds (values_of lines)
+values_within [] ranges = All-nil IsRowInBounds
 values_within (line ∷ lines) ranges =
-    All-append IsInBounds (kept line) (values_of lines)
-    (All-filter (λ param. not (is_event param)) IsInBounds line (All-head (All IsInBounds) line lines ranges))
-    (values_within lines (All-tail (All IsInBounds) line lines ranges))
+    All-append IsRowInBounds (kept line) (values_of lines)
+    (All-filter (λ param. not (is_event param)) IsRowInBounds line (All-head (All IsRowInBounds) line lines ranges))
+    (values_within lines (All-tail (All IsRowInBounds) line lines ranges))
 
-events_within : (max : Option ℕ) → IfSome (option_map (λ n. record empty { telephone_event_max = Some n }) max) Within
+events_within : (max : Option ℕ) → IfSome (option_map (λ n. record empty { telephone_event_max = Some n }) max) FieldsWithin
 events_within max = grind arith
 
-unless_refused : (b : Bool) (p : FormatParams) → Within p → IfSome (cond b None (Some p)) Within
+unless_refused : (b : Bool) (p : FormatParams) → FieldsWithin p → IfSome (cond b None (Some p)) FieldsWithin
 unless_refused b p within = grind arith
 
-format_within : (codec : Codec) (lines : List (List FormatParam)) → All (All IsInBounds) lines → IfSome (format_of_fmtp codec lines) Within
-format_within codec lines ranges = grind (arith, events_within, events_end, unless_refused, all_within, values_within)
+format_within : (codec : Codec) (lines : List (List FormatParam)) → All (All IsRowInBounds) lines
+    → IfSome (format_of_fmtp codec lines) FieldsWithin
+format_within codec lines ranges = grind (arith, events_within, events_end, unless_refused, bound_all_within, values_within)
 
-line_within : (pt : ℕ) (attr : MediaAttribute) → KeepsToLine attr → IfSome (values_in pt attr) (All IsInBounds)
+line_within : (pt : ℕ) (attr : MediaAttribute) → KeepsToLine attr → IfSome (values_in pt attr) (All IsRowInBounds)
 line_within pt attr keeps = grind arith
 
-lines_within : (attrs : List MediaAttribute) (pt : ℕ) → All KeepsToLine attrs → All (All IsInBounds) (fmtps_of attrs pt)
+lines_within : (attrs : List MediaAttribute) (pt : ℕ) → All KeepsToLine attrs → All (All IsRowInBounds) (fmtps_of attrs pt)
 unfolding fmtps_of
-lines_within attrs pt keeps = all_mapped KeepsToLine (All IsInBounds) (values_in pt) (line_within pt) attrs keeps
+lines_within attrs pt keeps = all_mapped KeepsToLine (All IsRowInBounds) (values_in pt) (line_within pt) attrs keeps
 
 -- ---- types
 
@@ -62,10 +64,10 @@ companion_small_in codec types pt attr keeps = grind arith
 companion_small : (codec : Codec) (types : List (ℕ × CodecSpec)) (attrs : List MediaAttribute) (pt : ℕ) → All KeepsToLine attrs
     → IfSome (companion codec types attrs pt) IsType
 unfolding companion
-companion_small codec types attrs pt keeps = search (rules, last_of_all, all_mapped, companion_small_in)
+companion_small codec types attrs pt keeps = search (rules, filter_map_last_of_all, all_mapped, companion_small_in)
 
-small_if : (b : Bool) (o : Option ℕ) → IfSome o IsType → IfSome (cond b o None) IsType
-small_if b o small = grind arith
+bound_small_if : (b : Bool) (o : Option ℕ) → IfSome o IsType → IfSome (cond b o None) IsType
+bound_small_if b o small = grind arith
 
 mapping_small : (attr : MediaAttribute) → KeepsToLine attr → IfSome (mapping attr) (λ type. IsType type.0)
 mapping_small attr keeps = grind arith
@@ -100,10 +102,10 @@ if_format P Q f o each holds = grind arith
 row_bounded : (m : MediaLine) → KeepsToLines m → (type : ℕ × CodecSpec) → IsType type.0 → IfSome (row m type) IsBounded
 unfolding row
 row_bounded m keeps (pt, spec) small =
-    if_format Within IsBounded (row_with m pt spec) (format_of_fmtp spec.codec (fmtps_of m.attrs pt))
+    if_format FieldsWithin IsBounded (row_with m pt spec) (format_of_fmtp spec.codec (fmtps_of m.attrs pt))
     (λ format within. record {
       types = small_types pt (rtx_companion m pt) (red_companion m pt spec.codec) small
-          (companion_small _ (mapped m) m.attrs pt keeps) (small_if _ _ (companion_small _ (mapped m) m.attrs pt keeps));
+          (companion_small _ (mapped m) m.attrs pt keeps) (bound_small_if _ _ (companion_small _ (mapped m) m.attrs pt keeps));
       modes = within.0;
       distance = within.1;
     })

@@ -14,25 +14,25 @@ use Rattle.str0m_sdp.specs.declared.section.media_line.MediaLine.{MediaLine}
 use Rattle.str0m_sdp.specs.declared.section.section_rows.TypeFacts.{TypeFacts}
 use Rattle.str0m_sdp.specs.section.Companions.{names}
 use Rattle.str0m_sdp.specs.section.Mappings.{is_mapped_to, mapped}
-use Rattle.str0m_sdp.specs.section.SectionRowsFacts.{AreOf, SayOf}
+use Rattle.str0m_sdp.specs.section.SectionRowsFacts.{TablesAreOf, TablesSayOf}
 
 -- each type is told by its mark whether it is of the codec
-abbrev pub Marks : List Bool → (ℕ → Bool) → Type 0
-Marks marks is = (pt : ℕ) → pt < 256 → get_or marks pt false ≡ is pt
+abbrev pub TypeMarks : List Bool → (ℕ → Bool) → Type 0
+TypeMarks marks is = (pt : ℕ) → pt < 256 → get_or marks pt false ≡ is pt
 
 -- an fmtp line joins the others, and is noted in the tables of the codecs whose type it is of
 pub fmtp_gathered : (types : List (ℕ × CodecSpec)) (attrs : List MediaAttribute) (words : TypeFacts)
     (lines : List (ℕ × Bor (List FormatParam)))
     (rtx_types red_types : List Bool) (rtx red : List (Option ℕ)) (i n : ℕ) (line : Bor (List FormatParam)) (attr : MediaAttribute)
     → i < length attrs → attr ≡ get_or attrs i attr → attr ≡ Fmtp n line.now → n < 256
-    → Marks rtx_types (is_mapped_to Rtx types) → Marks red_types (is_mapped_to Red types)
+    → TypeMarks rtx_types (is_mapped_to Rtx types) → TypeMarks red_types (is_mapped_to Red types)
     → length rtx ≡ length words.rtx → length red ≡ length words.red
     → ((m : ℕ) → m < length words.rtx
     → get_or rtx m None ≡ cond (get_or rtx_types n false && list_any (names Rtx m) line.now) (Some n) (get_or words.rtx m None))
     → ((m : ℕ) → m < length words.red
     → get_or red m None ≡ cond (get_or red_types n false && list_any (names Red m) line.now) (Some n) (get_or words.red m None))
-    → AreOf types (take i attrs) words lines
-    → AreOf types (take (i + 1) attrs) (record words { rtx = rtx; red = red }) (lines ++ (n, line) ∷ [])
+    → TablesAreOf types (take i attrs) words lines
+    → TablesAreOf types (take (i + 1) attrs) (record words { rtx = rtx; red = red }) (lines ++ (n, line) ∷ [])
 fmtp_gathered types attrs words lines rtx_types red_types rtx red i n line attr lt is variant small rtx_marks red_marks rtx_whole red_whole
     rtx_noted red_noted so_far =
     record {
@@ -53,8 +53,8 @@ fmtp_gathered types attrs words lines rtx_types red_types rtx red i n line attr 
 pub feedback_gathered : (types : List (ℕ × CodecSpec)) (attrs : List MediaAttribute) (words : TypeFacts)
     (lines : List (ℕ × Bor (List FormatParam)))
     (i n : ℕ) (value : List ℕ) (attr : MediaAttribute) → i < length attrs → attr ≡ get_or attrs i attr → attr ≡ RtcpFb n value → n < 256
-    → AreOf types (take i attrs) words lines
-    → AreOf types (take (i + 1) attrs)
+    → TablesAreOf types (take i attrs) words lines
+    → TablesAreOf types (take (i + 1) attrs)
     (record words { feedback = set words.feedback n (either_feedback (get_or words.feedback n empty_feedback) (named_feedback value)) })
     lines
 feedback_gathered types attrs words lines i n value attr lt is variant small so_far =
@@ -65,13 +65,13 @@ pub other_gathered : (types : List (ℕ × CodecSpec)) (attrs : List MediaAttrib
     (lines : List (ℕ × Bor (List FormatParam)))
     (i : ℕ) (attr : MediaAttribute) → i < length attrs → attr ≡ get_or attrs i attr
     → ((n : ℕ) (values : List FormatParam) → attr ≡ Fmtp n values → ⊥) → ((n : ℕ) (value : List ℕ) → attr ≡ RtcpFb n value → ⊥)
-    → AreOf types (take i attrs) words lines → AreOf types (take (i + 1) attrs) words lines
+    → TablesAreOf types (take i attrs) words lines → TablesAreOf types (take (i + 1) attrs) words lines
 other_gathered types attrs words lines i attr lt is no_fmtp no_feedback so_far = grind (arith, companion_other, feedback_other, lines_other)
 
 -- before any attribute nothing is said
 pub nothing_gathered : (types : List (ℕ × CodecSpec)) (words : TypeFacts)
     → words.rtx ≡ replicate 256 None → words.red ≡ replicate 256 None → words.feedback ≡ replicate 256 empty_feedback
-    → AreOf types [] words []
+    → TablesAreOf types [] words []
 nothing_gathered types words rtx red feedback =
     record {
       rtx_rows = ap (λ (rows : List (Option ℕ)). length rows) rtx;
@@ -88,5 +88,5 @@ nothing_gathered types words rtx red feedback =
 
 -- what is gathered of all attributes is what the section says
 pub all_gathered : (m : MediaLine) (words : TypeFacts) (lines : List (ℕ × Bor (List FormatParam)))
-    → Marks words.in_m_line (λ pt. list_any (λ n. n == pt) m.pts) → AreOf (mapped m) m.attrs words lines → SayOf m words
+    → TypeMarks words.in_m_line (λ pt. list_any (λ n. n == pt) m.pts) → TablesAreOf (mapped m) m.attrs words lines → TablesSayOf m words
 all_gathered m words lines in_m_line all = grind arith

@@ -7,13 +7,13 @@ use Rattle.str0m_sdp.proofs.Common.{slice_get, nat_eq_equiv, bytes_decides, cons
 use Rattle.str0m_sdp.proofs.Common.{str_eq_ignore_ascii_case, append-nil, take_more, filter_map-append, insert_entry, insert_key}
 use Rattle.str0m_sdp.proofs.Common.{insert_all, when, eqb-true, filter_map, option_map, option_flatten, str_to_ascii_lowercase, fold-append}
 use Rattle.str0m_sdp.proofs.Common.{◌>>=◌, cut, before, keys_of}
-use Rattle.str0m_sdp.proofs.session.DistinctCandidatesLaws.{inserted-distinct, distinct-apart}
+use Rattle.str0m_sdp.proofs.session.DistinctCandidatesLaws.{distinct_unseen_inserted-distinct, distinct-apart}
 use Rattle.str0m_sdp.specs.Common.{last, distinct}
 use Rattle.str0m_sdp.specs.declared.attribute.MediaAttribute.{MediaAttribute}
 use Rattle.str0m_sdp.specs.declared.attribute.MediaAttribute.TheVariants.{Ssrc}
 use Rattle.str0m_sdp.specs.declared.section.ssrc_info.SsrcInfo.{SsrcInfo}
 use Rattle.str0m_sdp.specs.section.SsrcInfo.{source_of, repair_pair, repair_source, source_value_of, repaired_by, cname_said, id_of}
-use Rattle.str0m_sdp.specs.section.SsrcInfo.{stream_said, track_said, latest, info, infos, empty_info}
+use Rattle.str0m_sdp.specs.section.SsrcInfo.{stream_said, track_said, latest_said, info, infos, empty_info}
 use Rattle.str0m_sdp.specs.section.SsrcInfoReading.{track_after, with_ids, with_value, so_far, info_from, AreGathered}
 
 -- ---- entries with a number as their key
@@ -23,10 +23,10 @@ module _ {V : Type 0} where
   keys_put [] k v = refl
   keys_put (e ∷ es) k v = grind (arith, keys_put es k v)
 
-  looked_up : (es : List (ℕ × V)) (k s : ℕ) (v : V) → lookup (nat_eq s) (insert_entry nat_eq es k v)
+  ssrc_looked_up : (es : List (ℕ × V)) (k s : ℕ) (v : V) → lookup (nat_eq s) (insert_entry nat_eq es k v)
       ≡ cond (nat_eq k s) (Some v) (lookup (nat_eq s) es)
-  looked_up [] k s v = ap (λ b. cond b (Some v) None) (nat_eq_equiv.symm s k)
-  looked_up (e ∷ es) k s v = grind (arith, looked_up es k s v, nat_eq_equiv)
+  ssrc_looked_up [] k s v = ap (λ b. cond b (Some v) None) (nat_eq_equiv.symm s k)
+  ssrc_looked_up (e ∷ es) k s v = grind (arith, ssrc_looked_up es k s v, nat_eq_equiv)
 
   -- values that follow from their keys
   source_keyed : (f : ℕ → V) (es : List (ℕ × V)) → ((i : ℕ) (e : ℕ × V) → slice_get es i ≡ Some e → e.1 ≡ f e.0)
@@ -36,13 +36,13 @@ module _ {V : Type 0} where
 
 -- ---- what one more attribute says
 
-last_pushed : {X : Type 0} (xs : List X) (x : X) → last (xs ++ x ∷ []) ≡ Some x
-last_pushed [] x = refl
-last_pushed (y ∷ ys) x = ap (λ o. option_or o (Some y)) (last_pushed ys x)
+ssrc_last_pushed : {X : Type 0} (xs : List X) (x : X) → last (xs ++ x ∷ []) ≡ Some x
+ssrc_last_pushed [] x = refl
+ssrc_last_pushed (y ∷ ys) x = ap (λ o. option_or o (Some y)) (ssrc_last_pushed ys x)
 
-latest_more : {X : Type 0} (said : MediaAttribute → Option X) (attrs : List MediaAttribute) (attr : MediaAttribute)
-    → latest said (attrs ++ attr ∷ []) ≡ option_or (said attr) (latest said attrs)
-latest_more {X} said attrs attr = grind (arith, filter_map-append, append-nil, last_pushed)
+ssrc_latest_more : {X : Type 0} (said : MediaAttribute → Option X) (attrs : List MediaAttribute) (attr : MediaAttribute)
+    → latest_said said (attrs ++ attr ∷ []) ≡ option_or (said attr) (latest_said said attrs)
+ssrc_latest_more {X} said attrs attr = grind (arith, filter_map-append, append-nil, ssrc_last_pushed)
 
 -- the track that a value names
 abbrev track_named : List ℕ → Option (Option (List ℕ))
@@ -54,23 +54,23 @@ track_set parts old = grind arith
 
 module _ (groups values : List MediaAttribute) where
   -- with the name and the ids that one more attribute gives
-  abbrev more_said : ℕ → Option (List ℕ) → Option (List ℕ) → SsrcInfo
-  more_said s cname ids = record {
+  abbrev ssrc_more_said : ℕ → Option (List ℕ) → Option (List ℕ) → SsrcInfo
+  ssrc_more_said s cname ids = record {
     ssrc = s;
-    repairs = latest (repaired_by s) groups;
-    cname = option_or cname (latest (cname_said s) values);
-    stream_id = option_flatten (option_or (option_map (λ value. id_of (before 32 value)) ids) (latest (stream_said s) values));
-    track_id = option_flatten (option_or (ids >>= track_named) (latest (track_said s) values));
+    repairs = latest_said (repaired_by s) groups;
+    cname = option_or cname (latest_said (cname_said s) values);
+    stream_id = option_flatten (option_or (option_map (λ value. id_of (before 32 value)) ids) (latest_said (stream_said s) values));
+    track_id = option_flatten (option_or (ids >>= track_named) (latest_said (track_said s) values));
   }
 
   value_more : (attr : MediaAttribute) (s : ℕ) (cname ids : Option (List ℕ)) → source_value_of (codes "cname") s attr ≡ cname
-      → source_value_of (codes "msid") s attr ≡ ids → info_from groups (values ++ attr ∷ []) s ≡ more_said s cname ids
-  value_more attr s cname ids named has = grind (arith, latest_more, cname_said, stream_said, track_said)
+      → source_value_of (codes "msid") s attr ≡ ids → info_from groups (values ++ attr ∷ []) s ≡ ssrc_more_said s cname ids
+  value_more attr s cname ids named has = grind (arith, ssrc_latest_more, cname_said, stream_said, track_said)
 
   group_more : (attr : MediaAttribute) (s : ℕ) (repaired : Option ℕ) → repaired_by s attr ≡ repaired
       → info_from (groups ++ attr ∷ []) values s ≡ record (info_from groups values s)
-      { repairs = option_or repaired (latest (repaired_by s) groups) }
-  group_more attr s repaired is = grind (arith, latest_more)
+      { repairs = option_or repaired (latest_said (repaired_by s) groups) }
+  group_more attr s repaired is = grind (arith, ssrc_latest_more)
 
   -- an attribute that isn't of a source says nothing
   other_value : (attr : MediaAttribute) → ((k : ℕ) (name value : List ℕ) → attr ≡ Ssrc k name value → ⊥) → (s : ℕ)
@@ -114,7 +114,7 @@ module _ (groups values : List MediaAttribute) where
       by true p false q true r =
           ap (λ n. with_ids value (info_from groups values n)) (eqb-true k s p)
           ∙ (λ i. record (with_ids value (info_from groups values s))
-          { track_id = sym (track_set (cut 32 value) (latest (track_said s) values)) i })
+          { track_id = sym (track_set (cut 32 value) (latest_said (track_said s) values)) i })
           ∙ sym (value_more (Ssrc k name value) s None (Some value) (valued (codes "cname") true false p q)
           (valued (codes "msid") true true p r))
       by true p false q false r =
@@ -143,7 +143,7 @@ gathered_put sources groups values groups' values' es new k v h put step = recor
   keys = ap keys_of put ∙ keys_put es k v ∙ ap (λ l. insert_key nat_eq l k) h.keys
       ∙ sym (fold-append (insert_key nat_eq) [] sources (k ∷ []));
   said = λ s.
-      ap (λ es. so_far es s) put ∙ ap (λ o. unwrap_or o (empty_info s)) (looked_up es k s v)
+      ap (λ es. so_far es s) put ∙ ap (λ o. unwrap_or o (empty_info s)) (ssrc_looked_up es k s v)
       ∙ inside (nat_eq k s) (lookup (nat_eq s) es) (empty_info s)
       ∙ ap (λ info. cond (nat_eq k s) v info) (h.said s) ∙ step s;
 }
@@ -157,9 +157,10 @@ take_line : (lines : List MediaAttribute) (i : ℕ) (line : MediaAttribute) → 
     → take (i + 1) lines ≡ take i lines ++ line ∷ []
 take_line lines i line inside at = take_more lines i line inside ∙ ap (λ l. take i lines ++ l ∷ []) (sym at)
 
-chosen : (said : MediaAttribute → Option ℕ) (done : List MediaAttribute) (line : MediaAttribute) (o : Option ℕ) → said line ≡ o
+ssrc_line_chosen : (said : MediaAttribute → Option ℕ) (done : List MediaAttribute) (line : MediaAttribute) (o : Option ℕ) → said line ≡ o
     → filter_map said done ++ cons_option o [] ≡ filter_map said (done ++ line ∷ [])
-chosen said done line o is = ap (λ o. filter_map said done ++ cons_option o []) (sym is) ∙ sym (filter_map-append said done (line ∷ []))
+ssrc_line_chosen said done line o is = ap (λ o. filter_map said done ++ cons_option o []) (sym is)
+    ∙ sym (filter_map-append said done (line ∷ []))
 
 pub put_value : (lines : List MediaAttribute) (i : ℕ) (line : MediaAttribute) (k : ℕ) (name value : List ℕ) (es new : List (ℕ × SsrcInfo))
     → i < length lines → line ≡ get_or lines i line → line ≡ Ssrc k name value
@@ -173,7 +174,7 @@ put_value lines i line k name value es new inside at is h put =
     put ∙ ap (λ info. insert_entry nat_eq es k (with_value name value info)) (h.said k) in
     subst (λ l. AreGathered (filter_map source_of l) [] l new) (sym more)
     (subst (λ sources. AreGathered sources [] (done ++ Ssrc k name value ∷ []) new)
-    (chosen source_of done (Ssrc k name value) (Some k) refl)
+    (ssrc_line_chosen source_of done (Ssrc k name value) (Some k) refl)
     (gathered_put _ [] done [] (done ++ Ssrc k name value ∷ []) es new k _ h set (one_value_set [] done k name value)))
 
 pub pass_value : (lines : List MediaAttribute) (i : ℕ) (line : MediaAttribute) (es new : List (ℕ × SsrcInfo)) → i < length lines
@@ -184,7 +185,7 @@ pass_value lines i line es new inside at other h same =
     let done = take i lines in
     subst (λ l. AreGathered (filter_map source_of l) [] l new) (sym (take_line lines i line inside at)) (record {
       keys = ap keys_of same ∙ h.keys ∙ ap (insert_all nat_eq [])
-          (sym (append-nil (filter_map source_of done)) ∙ chosen source_of done line None (no_source line other));
+          (sym (append-nil (filter_map source_of done)) ∙ ssrc_line_chosen source_of done line None (no_source line other));
       said = λ s. ap (λ es. so_far es s) same ∙ h.said s ∙ sym (other_value [] done line other s);
     })
   where
@@ -204,7 +205,7 @@ module _ (sources : List ℕ) (lines : List MediaAttribute) (i : ℕ) (line : Me
       put ∙ ap (λ info. insert_entry nat_eq es pair.1 (record info { repairs = Some pair.0 })) (h.said pair.1) in
       let more : (sources ++ filter_map repair_source done) ++ pair.1 ∷ [] ≡ sources ++ filter_map repair_source (done ++ line ∷ []) =
       append_assoc sources (filter_map repair_source done) (pair.1 ∷ [])
-      ∙ ap (λ l. sources ++ l) (chosen repair_source done line (Some pair.1) (ap (option_map (λ pair. pair.1)) is)) in
+      ∙ ap (λ l. sources ++ l) (ssrc_line_chosen repair_source done line (Some pair.1) (ap (option_map (λ pair. pair.1)) is)) in
       subst (λ l. AreGathered (sources ++ filter_map repair_source l) l lines new) (sym (take_line lines i line inside at))
       (subst (λ l. AreGathered l (done ++ line ∷ []) lines new) more
       (gathered_put _ done lines (done ++ line ∷ []) lines es new pair.1 _ h set (one_group done lines line pair.0 pair.1 is)))
@@ -214,7 +215,8 @@ module _ (sources : List ℕ) (lines : List MediaAttribute) (i : ℕ) (line : Me
   pass_repair none same =
       let done = take i lines in
       let more : filter_map repair_source done ≡ filter_map repair_source (done ++ line ∷ []) =
-      sym (append-nil (filter_map repair_source done)) ∙ chosen repair_source done line None (ap (option_map (λ pair. pair.1)) none) in
+      sym (append-nil (filter_map repair_source done)) ∙ ssrc_line_chosen repair_source done line None
+      (ap (option_map (λ pair. pair.1)) none) in
       subst (λ l. AreGathered (sources ++ filter_map repair_source l) l lines new) (sym (take_line lines i line inside at)) (record {
         keys = ap keys_of same ∙ h.keys ∙ ap (λ l. insert_all nat_eq [] (sources ++ l)) more;
         said = λ s. ap (λ es. so_far es s) same ∙ h.said s ∙ sym (other_group done lines line none s);
@@ -225,7 +227,7 @@ pub gathered_infos : (attrs : List MediaAttribute) (es : List (ℕ × SsrcInfo))
     → AreGathered (filter_map source_of attrs ++ filter_map repair_source attrs) attrs attrs es → values_of es ≡ infos attrs
 gathered_infos attrs es h =
     let all = filter_map source_of attrs ++ filter_map repair_source attrs in
-    let keys : keys_of es ≡ distinct nat_eq all = h.keys ∙ inserted-distinct nat_eq nat_eq_equiv all in
+    let keys : keys_of es ≡ distinct nat_eq all = h.keys ∙ distinct_unseen_inserted-distinct nat_eq nat_eq_equiv all in
     let apart : IsDistinct nat_eq (keys_of es) = subst (IsDistinct nat_eq) (sym keys) (distinct-apart nat_eq nat_eq_equiv all) in
     source_keyed (info attrs) es (λ i e at. sym
     (ap (λ o. unwrap_or o (empty_info e.0)) (lookup_from_place nat_eq_equiv es i e.0 e.1 apart at)) ∙ h.said e.0)

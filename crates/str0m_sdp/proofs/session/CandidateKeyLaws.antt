@@ -51,32 +51,32 @@ type_alike a b = λ i. nat_eq (type_tag a i) (type_tag b i)
 -- ---- the keys
 
 -- they are equal where the candidates are
-equal_alike : (a b : Candidate) (x y : CandidateKey) → IsKeyOf a x → IsKeyOf b y → key.eq-value.it x y ≡ same_candidate a b
-equal_alike a b x y p q = grind (arith, protocol_tag, address_alike, kind_tag, option_alike, type_alike)
+equal_candidates_alike : (a b : Candidate) (x y : CandidateKey) → IsKeyOf a x → IsKeyOf b y → key.eq-value.it x y ≡ same_candidate a b
+equal_candidates_alike a b x y p q = grind (arith, protocol_tag, address_alike, kind_tag, option_alike, type_alike)
 
 -- and stand at one place of the order there
 pub key_alike : (a b : Candidate) (x y : CandidateKey) → IsKeyOf a x → IsKeyOf b y → is_eq (order.cmp-value.it x y) ≡ same_candidate a b
-key_alike a b x y p q = sym (laws.matches_eq-law x y) ∙ equal_alike a b x y p q
+key_alike a b x y p q = sym (laws.matches_eq-law x y) ∙ equal_candidates_alike a b x y p q
 
 -- ---- one more of them
 
-either_last : (s t : Bool) → cond s true t ≡ (t || (s || false))
-either_last s t = grind arith
+key_either_last : (s t : Bool) → cond s true t ≡ (t || (s || false))
+key_either_last s t = grind arith
 
 -- a candidate after those that were seen, and its key among theirs
-pub seen_more : (old new : BTreeSet CandidateKey) (once pushed : List (Bor Candidate)) (c : Bor Candidate) (k : CandidateKey)
+pub candidate_seen_more : (old new : BTreeSet CandidateKey) (once pushed : List (Bor Candidate)) (c : Bor Candidate) (k : CandidateKey)
     → IsKeyOf c.now k → Updates order.cmp-value.it old new k true → pushed ≡ once ++ c ∷ []
     → ((d : Candidate) (q : CandidateKey) → IsKeyOf d q → contains order.cmp-value.it old q
     ≡ list_any (same_candidate d) (map (λ x. x.now) once))
     → (d : Candidate) (q : CandidateKey) → IsKeyOf d q → contains order.cmp-value.it new q
     ≡ list_any (same_candidate d) (map (λ x. x.now) pushed)
-seen_more old new once pushed c k is more last seen d q of =
+candidate_seen_more old new once pushed c k is more last seen d q of =
     let cs = map (λ (x : Bor Candidate). x.now) once in
     more.0 q
     ∙ ap (λ (b : Bool). cond b true (contains order.cmp-value.it old q)) (key_alike c.now d k q is of)
     ∙ ap (λ (b : Bool). cond (same_candidate c.now d) true b) (seen d q of)
     ∙ ap (λ (b : Bool). cond b true (list_any (same_candidate d) cs)) ((decided same_candidate candidate_Decides).symm c.now d)
-    ∙ either_last (same_candidate d c.now) (list_any (same_candidate d) cs)
+    ∙ key_either_last (same_candidate d c.now) (list_any (same_candidate d) cs)
     ∙ sym (ap (λ (xs : List (Bor Candidate)). list_any (same_candidate d) (map (λ x. x.now) xs)) last
     ∙ ap (λ (xs : List Candidate). list_any (same_candidate d) xs) (map-append (λ (x : Bor Candidate). x.now) once (c ∷ []))
     ∙ list_any-append (same_candidate d) cs (c.now ∷ []))

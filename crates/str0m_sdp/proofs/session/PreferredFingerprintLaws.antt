@@ -3,7 +3,7 @@ use Rattle.std.proofs.lemmas.List.MinMax.{IsFirstBest-from_best_of, IsStrictWeak
 use Rattle.str0m_sdp.proofs.Common.{arith, ◌≡◌, List, [], ◌∷◌, ◌++◌, filter_map, map, Option, Some, Result, refl, ap, ◌∙◌, cons_option}
 use Rattle.str0m_sdp.proofs.Common.{option_or, IfOk, best_of, get_or_default}
 use Rattle.str0m_sdp.specs.Common.{first}
-use Rattle.str0m_sdp.specs.session.PreferredFingerprint.{is_preferred, IsPreferred, better_of, preferred, first_filled}
+use Rattle.str0m_sdp.specs.session.PreferredFingerprint.{is_preferred, IsPreferred, better_of, preferred, first_filled_list}
 use Rattle.str0m_values.specs.Fingerprint.{preference_of}
 use Rattle.str0m_values.specs.declared.fingerprint.Fingerprint.{Fingerprint}
 
@@ -27,17 +27,17 @@ preferred_is (print ∷ prints) =
 
 -- where one list holds none, the preferred is that of the others
 pub preferred_of_first : (prints : List Fingerprint) (lists : List (List Fingerprint))
-    → option_or (preferred prints) (preferred (first_filled lists)) ≡ preferred (first_filled (prints ∷ lists))
+    → option_or (preferred prints) (preferred (first_filled_list lists)) ≡ preferred (first_filled_list (prints ∷ lists))
 preferred_of_first prints lists = grind arith
 
-first_or : {Y : Type 0} (o : Option Y) (ys : List Y) → first (cons_option o ys) ≡ option_or o (first ys)
-first_or o ys = grind arith
+first_fingerprint_or : {Y : Type 0} (o : Option Y) (ys : List Y) → first (cons_option o ys) ≡ option_or o (first ys)
+first_fingerprint_or o ys = grind arith
 
 -- the first list that holds anything is the first that has a preferred one
 pub preferred_among : {X : Type 0} (prints : X → List Fingerprint) (xs : List X)
-    → first (filter_map (λ x. preferred (prints x)) xs) ≡ preferred (first_filled (map prints xs))
+    → first (filter_map (λ x. preferred (prints x)) xs) ≡ preferred (first_filled_list (map prints xs))
 preferred_among prints [] = refl
-preferred_among prints (x ∷ xs) = grind (arith, first_or, preferred_among prints xs, preferred_of_first)
+preferred_among prints (x ∷ xs) = grind (arith, first_fingerprint_or, preferred_among prints xs, preferred_of_first)
 
 -- a copy of the preferred one
 pub preferred_copied : {E : Type 0} (r : Result (Option Fingerprint) E) (found : Option Fingerprint) (prints : List Fingerprint)

@@ -6,8 +6,8 @@ use Rattle.str0m_sdp.specs.declared.label.TheConstants as label
 use Rattle.str0m_sdp.specs.form.Printed.{attribute_line}
 
 -- a value whose text isn't empty
-abbrev pub is_shown : FormatParam → Bool
-is_shown value = nat_lt 0 (length (param_text value))
+abbrev pub is_fmtp_shown : FormatParam → Bool
+is_fmtp_shown value = nat_lt 0 (length (param_text value))
 
 -- the line of values that are all shown; no line for none
 abbrev pub shown_line : ℕ → List FormatParam → List ℕ
@@ -17,4 +17,4 @@ shown_line pt (value ∷ values) =
 
 -- the line of the values that are shown
 abbrev pub fmtp_text : ℕ → List FormatParam → List ℕ
-fmtp_text pt values = shown_line pt (filter is_shown values)
+fmtp_text pt values = shown_line pt (filter is_fmtp_shown values)

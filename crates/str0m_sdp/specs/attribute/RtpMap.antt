@@ -20,13 +20,13 @@ sampling_rate G722 rate = 16000
 sampling_rate _ rate = rate
 
 -- one channel is what no count says (RFC 8866, section 6.6)
-abbrev pub unless_one : Option ℕ → Option ℕ
-unless_one None = None
-unless_one (Some n) = if n == 1 then None else Some n
+abbrev pub channels_unless_one : Option ℕ → Option ℕ
+channels_unless_one None = None
+channels_unless_one (Some n) = if n == 1 then None else Some n
 
 -- the channels of a codec, of which G722 doesn't count a single one
 abbrev pub channels_of : Codec → Option ℕ → Option ℕ
-channels_of G722 channels = unless_one channels
+channels_of G722 channels = channels_unless_one channels
 channels_of _ channels = channels
 
 -- the codec at the rate and with the channels that its mapping says, and nothing said of its format

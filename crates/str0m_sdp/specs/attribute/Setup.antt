@@ -30,8 +30,8 @@ settled Passive Passive = None
 -- ---- answers (RFC 8842, section 5.3; RFC 4145, section 4.1; RFC 8829, section 5.3.1)
 
 -- an answer chooses one of the two roles
-abbrev pub IsChosen : Setup → Type 0
-IsChosen role = (role ≡ Active) ⊎ (role ≡ Passive)
+abbrev pub IsChosenSetup : Setup → Type 0
+IsChosenSetup role = (role ≡ Active) ⊎ (role ≡ Passive)
 
 -- the offer leaves the choice to the answer
 abbrev pub LeavesRole : Option Setup → Type 0
@@ -39,6 +39,6 @@ LeavesRole offered = (offered ≡ None) ⊎ (offered ≡ Some ActPass)
 
 -- a role that answers what is offered: one of the two, which both sides settle on, and the active one where the choice is free
 pub record AnswersRole (offered : Option Setup) (role : Setup) : Type 0 where
-  pub chosen : IsChosen role
+  pub chosen : IsChosenSetup role
   pub fits : IfSome offered (λ theirs. settled role theirs ≡ Some role)
   pub begins : LeavesRole offered → role ≡ Active

@@ -28,9 +28,9 @@ unfoldable pub mapped : MediaLine → List (ℕ × CodecSpec)
 mapped m = filter_map mapping m.attrs ++ filter_map (unmapped m.attrs) (distinct nat_eq m.pts)
 
 -- whether the type stands for the codec
-abbrev pub is_of : Codec → ℕ → ℕ × CodecSpec → Bool
-is_of codec pt row = row.0 == pt && same_codec row.1.codec codec
+abbrev pub stands_for_codec : Codec → ℕ → ℕ × CodecSpec → Bool
+stands_for_codec codec pt row = row.0 == pt && same_codec row.1.codec codec
 
 -- whether one of these types is this one, for the codec
 abbrev pub is_mapped_to : Codec → List (ℕ × CodecSpec) → ℕ → Bool
-is_mapped_to codec mapped pt = list_any (is_of codec pt) mapped
+is_mapped_to codec mapped pt = list_any (stands_for_codec codec pt) mapped

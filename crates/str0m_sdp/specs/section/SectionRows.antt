@@ -56,15 +56,15 @@ NamesOne m attr = Unit {0}
 -- ---- sections whose rows keep to their ranges, and the lines that see to it
 
 -- a value of an fmtp line whose number keeps to its range
-abbrev pub IsInBounds : FormatParam → Type 0
-IsInBounds (ModeSet mask) = AreModes mask
-IsInBounds (SpropMaxDonDiff n) = IsDistance n
-IsInBounds _ = Unit {0}
+abbrev pub IsRowInBounds : FormatParam → Type 0
+IsRowInBounds (ModeSet mask) = AreModes mask
+IsRowInBounds (SpropMaxDonDiff n) = IsDistance n
+IsRowInBounds _ = Unit {0}
 
 -- an rtpmap or fmtp line as it can be read: of a type of seven bits (RFC 3550, section 5.1), and its values in their ranges
 abbrev pub KeepsToLine : MediaAttribute → Type 0
 KeepsToLine (RtpMap pt value) = pt ≤ 127
-KeepsToLine (Fmtp pt values) = (pt ≤ 127) × All IsInBounds values
+KeepsToLine (Fmtp pt values) = (pt ≤ 127) × All IsRowInBounds values
 KeepsToLine _ = Unit {0}
 
 abbrev pub KeepsToLines : MediaLine → Type 0

@@ -22,14 +22,14 @@ row_of words pt spec =
     })
 
 -- the tables say what the section says
-pub record SayOf (m : MediaLine) (words : TypeFacts) : Type 0 where
+pub record TablesSayOf (m : MediaLine) (words : TypeFacts) : Type 0 where
   pub in_m_line : (pt : ℕ) → pt < 256 → get_or words.in_m_line pt false ≡ list_any (λ n. n == pt) m.pts
   pub rtx : (pt : ℕ) → pt < 256 → get_or words.rtx pt None ≡ companion Rtx (mapped m) m.attrs pt
   pub red : (pt : ℕ) → pt < 256 → get_or words.red pt None ≡ companion Red (mapped m) m.attrs pt
   pub feedback : (pt : ℕ) → pt < 256 → get_or words.feedback pt empty_feedback ≡ feedback_of m.attrs pt
 
 -- the tables, and the fmtp lines beside their types, say what these attributes say of each type
-pub record AreOf (types : List (ℕ × CodecSpec)) (attrs : List MediaAttribute) (words : TypeFacts) (lines : List (ℕ × Bor (List FormatParam))) : Type 0 where
+pub record TablesAreOf (types : List (ℕ × CodecSpec)) (attrs : List MediaAttribute) (words : TypeFacts) (lines : List (ℕ × Bor (List FormatParam))) : Type 0 where
   pub rtx_rows : length words.rtx ≡ 256
   pub red_rows : length words.red ≡ 256
   pub feedback_rows : length words.feedback ≡ 256

@@ -23,8 +23,8 @@ abbrev pub ArePlaced : Sources → Type 0
 ArePlaced sources = (s : ℕ) → get nat_cmp sources.places s ≡ place_in s sources.infos.items
 
 -- what is written at the place is written at the source, and places stay
-abbrev pub IsPutAt : Sources → Sources → ℕ → ℕ → Type 0
-IsPutAt old new s place =
+abbrev pub IsPutAtSource : Sources → Sources → ℕ → ℕ → Type 0
+IsPutAtSource old new s place =
     (info : SsrcInfo) → info.ssrc ≡ s
     → (entries_of (slice_set new.infos.items place info) ≡ insert_entry nat_eq (entries old) s info)
     × ((q : ℕ) → get nat_cmp new.places q ≡ place_in q (slice_set new.infos.items place info))

@@ -61,17 +61,17 @@ abbrev pub track_said : ℕ → MediaAttribute → Option (Option (List ℕ))
 track_said s attr = source_value_of (codes "msid") s attr >>= (λ value. option_map (λ parts. id_of (before 32 parts.1)) (cut 32 value))
 
 -- what the last attribute says that says something
-abbrev pub latest : {X : Type 0} → (MediaAttribute → Option X) → List MediaAttribute → Option X
-latest said attrs = last (filter_map said attrs)
+abbrev pub latest_said : {X : Type 0} → (MediaAttribute → Option X) → List MediaAttribute → Option X
+latest_said said attrs = last (filter_map said attrs)
 
 -- the source, with what is said of it last
 abbrev pub info : List MediaAttribute → ℕ → SsrcInfo
 info attrs s = record {
   ssrc = s;
-  repairs = latest (repaired_by s) attrs;
-  cname = latest (cname_said s) attrs;
-  stream_id = option_flatten (latest (stream_said s) attrs);
-  track_id = option_flatten (latest (track_said s) attrs);
+  repairs = latest_said (repaired_by s) attrs;
+  cname = latest_said (cname_said s) attrs;
+  stream_id = option_flatten (latest_said (stream_said s) attrs);
+  track_id = option_flatten (latest_said (track_said s) attrs);
 }
 
 -- each source of a section

@@ -7,7 +7,7 @@ use Rattle.std.specs.Str.{str_eq_ignore_ascii_case}
 use Rattle.str0m_sdp.specs.Prelude.{before, cut}
 use Rattle.str0m_sdp.specs.declared.attribute.MediaAttribute.{MediaAttribute}
 use Rattle.str0m_sdp.specs.declared.section.ssrc_info.SsrcInfo.{SsrcInfo}
-use Rattle.str0m_sdp.specs.section.SsrcInfo.{id_of, latest, repaired_by, cname_said, stream_said, track_said, empty_info}
+use Rattle.str0m_sdp.specs.section.SsrcInfo.{id_of, latest_said, repaired_by, cname_said, stream_said, track_said, empty_info}
 
 -- the track that a value names after its first space, where it has one
 abbrev pub track_after : Option (List ℕ × List ℕ) → Option (List ℕ) → Option (List ℕ)
@@ -32,10 +32,10 @@ so_far entries s = unwrap_or (lookup (nat_eq s) entries) (empty_info s)
 abbrev pub info_from : List MediaAttribute → List MediaAttribute → ℕ → SsrcInfo
 info_from groups values s = record {
   ssrc = s;
-  repairs = latest (repaired_by s) groups;
-  cname = latest (cname_said s) values;
-  stream_id = option_flatten (latest (stream_said s) values);
-  track_id = option_flatten (latest (track_said s) values);
+  repairs = latest_said (repaired_by s) groups;
+  cname = latest_said (cname_said s) values;
+  stream_id = option_flatten (latest_said (stream_said s) values);
+  track_id = option_flatten (latest_said (track_said s) values);
 }
 
 -- the entries are of these sources, in order, with what these groups and these values say

@@ -26,10 +26,10 @@ preferred [] = None
 preferred (print ∷ prints) = Some (best_of is_preferred print prints)
 
 -- the first list that holds anything
-abbrev pub first_filled : {X : Type 0} → List (List X) → List X
-first_filled [] = []
-first_filled ([] ∷ lists) = first_filled lists
-first_filled ((x ∷ xs) ∷ lists) = x ∷ xs
+abbrev pub first_filled_list : {X : Type 0} → List (List X) → List X
+first_filled_list [] = []
+first_filled_list ([] ∷ lists) = first_filled_list lists
+first_filled_list ((x ∷ xs) ∷ lists) = x ∷ xs
 
 -- the fingerprints of a section
 abbrev pub media_fingerprints : MediaLine → List Fingerprint
@@ -37,4 +37,4 @@ media_fingerprints m = filter_map media_fingerprint m.attrs
 
 -- the fingerprints of the session, else of the first section that has one
 abbrev pub sdp_fingerprints : Sdp → List Fingerprint
-sdp_fingerprints sdp = first_filled (filter_map session_fingerprint sdp.session.attrs ∷ map media_fingerprints sdp.media_lines)
+sdp_fingerprints sdp = first_filled_list (filter_map session_fingerprint sdp.session.attrs ∷ map media_fingerprints sdp.media_lines)

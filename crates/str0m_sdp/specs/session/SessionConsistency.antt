@@ -19,8 +19,8 @@ abbrev pub section_mids : List MediaLine → List (List ℕ)
 section_mids sections = filter_map section_mid sections
 
 -- no mid stands twice
-abbrev pub AreDistinct : List (List ℕ) → Type 0
-AreDistinct mids = AllPairs (λ a b. a ≢ b) mids
+abbrev pub AreMidsDistinct : List (List ℕ) → Type 0
+AreMidsDistinct mids = AllPairs (λ a b. a ≢ b) mids
 
 -- the mids that a group lists (RFC 5888, section 5), and those of the first group, whatever its type
 abbrev pub group_of : SessionAttribute → Option (List (List ℕ))
@@ -52,12 +52,12 @@ IsGrouped sdp = MatchOption (first_group sdp.session.attrs) ⊥ (λ group. mids_
 -- each section is consistent, no two have one mid (RFC 5888, section 4), and they are grouped
 pub record ConsistentSdp (sdp : Sdp) : Type 0 where
   pub sections : All Consistent sdp.media_lines
-  pub mids : AreDistinct (section_mids sdp.media_lines)
+  pub mids : AreMidsDistinct (section_mids sdp.media_lines)
   pub group : IsGrouped sdp
 
 -- so few sections that their mids are compared each with each, which takes no memory
-abbrev pub AreFew : List MediaLine → Type 0
-AreFew sections = length sections ≤ 16
+abbrev pub AreSectionsFew : List MediaLine → Type 0
+AreSectionsFew sections = length sections ≤ 16
 
 -- an answer says whether something holds, out of memory aside
 abbrev pub SaysWhether : Type 0 → Result (Unit {0}) SdpError → Type 0

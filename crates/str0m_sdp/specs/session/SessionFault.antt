@@ -14,9 +14,9 @@ use Rattle.str0m_sdp.specs.session.SessionConsistency.{first_group, is_listed, m
 -- ---- what may be wrong, a question each
 
 -- the first mid that a later section has again (RFC 5888, section 4)
-abbrev pub first_again : List (List ℕ) → Option (List ℕ)
-first_again [] = None
-first_again (mid ∷ mids) = when (is_listed mids (Some mid)) mid <|> first_again mids
+abbrev pub first_mid_again : List (List ℕ) → Option (List ℕ)
+first_mid_again [] = None
+first_mid_again (mid ∷ mids) = when (is_listed mids (Some mid)) mid <|> first_mid_again mids
 
 -- the first place where two lists of mids differ
 abbrev pub first_difference : List (List ℕ) → List (List ℕ) → Option (List ℕ × List ℕ)
@@ -38,7 +38,7 @@ group_fault sections (Some group) = listing_fault (mids_in_part group sections) 
 -- between the sections, then between them and the group
 abbrev pub first_session_fault : Sdp → Option SessionFault
 first_session_fault sdp =
-    option_map SharedMid (first_again (section_mids sdp.media_lines))
+    option_map SharedMid (first_mid_again (section_mids sdp.media_lines))
     <|> group_fault sdp.media_lines (first_group sdp.session.attrs)
 
 -- ---- the message
@@ -62,7 +62,7 @@ session_message sdp =
     <|> option_map session_fault_text (first_session_fault sdp)
 
 -- a contradiction is told by this text, and out of memory tells none
-abbrev pub Tells : Option (List ℕ) → SdpError → Type 0
-Tells message (ParseError text) = ⊥
-Tells message (Inconsistent text) = Some (string_bytes text) ≡ message
-Tells message Memory = Unit {0}
+abbrev pub TellsContradiction : Option (List ℕ) → SdpError → Type 0
+TellsContradiction message (ParseError text) = ⊥
+TellsContradiction message (Inconsistent text) = Some (string_bytes text) ≡ message
+TellsContradiction message Memory = Unit {0}

@@ -1,10 +1,10 @@
 //! Attributes that say the same once they are printed and read.
 
 ghost use Rattle.std.specs.Prelude.{◌≡◌, ◌∷◌, ◌↔◌, [], IsTrue, MatchOption};
-ghost use Rattle.str0m_sdp.specs.section.Alike.{Alike, AlikeLayers, as_read, ids, showing};
+ghost use Rattle.str0m_sdp.specs.section.Alike.{Alike, AlikeLayers, as_read, ids, alike_shown};
 
 use crate::attribute::MediaAttribute;
-use crate::attribute::fmtp::{first_shown, is_shown};
+use crate::attribute::fmtp::{first_fmtp_shown, is_fmtp_shown};
 use crate::attribute::simulcast::{Simulcast, SimulcastLayer};
 use str0m_formats::FormatParam;
 
@@ -21,41 +21,41 @@ fn as_read(param: FormatParam) -> FormatParam
 }
 
 /// The first value that is shown, as it is read, and those after it.
-fn next_shown(values: &[FormatParam]) -> Option<(FormatParam, &[FormatParam])>
+fn next_alike_shown(values: &[FormatParam]) -> Option<(FormatParam, &[FormatParam])>
     ensures { MatchOption result
-        (showing values.now ≡ [])
-        (λ found. showing values.now ≡ found.0 ∷ showing found.1.now) }
+        (alike_shown values.now ≡ [])
+        (λ found. alike_shown values.now ≡ found.0 ∷ alike_shown found.1.now) }
 {
-    match first_shown(values) {
+    match first_fmtp_shown(values) {
         Some((value, more)) => Some((as_read(value), more)),
         None => None,
     }
 }
 
 #[tactic(auto, using(str0m_formats::proofs::param_Decides))]
-fn is_same(param: FormatParam, other: FormatParam) -> bool
+fn is_alike_param(param: FormatParam, other: FormatParam) -> bool
     ensures { IsTrue result ↔ (param ≡ other) }
 {
     param == other
 }
 
 /// Whether the same values are shown, in the same order.
-fn are_same_shown(values: &[FormatParam], others: &[FormatParam]) -> bool
-    ensures { IsTrue result ↔ (showing values.now ≡ showing others.now) }
+fn are_alike_shown(values: &[FormatParam], others: &[FormatParam]) -> bool
+    ensures { IsTrue result ↔ (alike_shown values.now ≡ alike_shown others.now) }
 {
     let mut left = others;
     for value in values {
-        if is_shown(*value) {
-            let Some((other, more)) = next_shown(left) else {
+        if is_fmtp_shown(*value) {
+            let Some((other, more)) = next_alike_shown(left) else {
                 return false;
             };
-            if !is_same(other, as_read(*value)) {
+            if !is_alike_param(other, as_read(*value)) {
                 return false;
             }
             left = more;
         }
     }
-    next_shown(left).is_none()
+    next_alike_shown(left).is_none()
 }
 
 #[tactic(auto, using(crate::proofs::attribute::AttributeEqual::id_Decides))]
@@ -117,7 +117,7 @@ impl MediaAttribute {
                     pt: other_pt,
                     values: others,
                 },
-            ) => pt == other_pt && are_same_shown(values.as_slice(), others.as_slice()),
+            ) => pt == other_pt && are_alike_shown(values.as_slice(), others.as_slice()),
             (MediaAttribute::Simulcast(simulcast), MediaAttribute::Simulcast(other)) => {
                 is_same_simulcast(simulcast, other) || are_alike_layers(simulcast, other)
             }

@@ -6,7 +6,7 @@ use std::alloc::AllocError;
 use str0m_formats::FormatParam;
 use str0m_values::Pt;
 
-fn is_of(number: u8, pt: Pt) -> bool
+fn is_line_of_type(number: u8, pt: Pt) -> bool
     ensures { result ≡ (number == pt) }
 {
     number == pt.value()
@@ -22,7 +22,7 @@ pub(crate) fn find_lines<'a>(
 {
     found.clear();
     for (number, values) in lines {
-        if is_of(*number, pt) {
+        if is_line_of_type(*number, pt) {
             found.push(*values)?;
         }
     }

@@ -27,7 +27,7 @@ struct TypeFacts {
 }
 
 impl TypeFacts {
-    ghost use Rattle.str0m_sdp.specs.section.SectionRowsFacts.{row_of, SayOf, AreOf};
+    ghost use Rattle.str0m_sdp.specs.section.SectionRowsFacts.{row_of, TablesSayOf, TablesAreOf};
 
     /// Gathers in one pass what the attributes say of each type: the fmtp lines (RFC 8866, section 6.15), each beside the number
     /// of its type, and in the tables what these and the rtcp-fb lines name. A table is changed where it stands, since to hand
@@ -38,8 +38,8 @@ impl TypeFacts {
         attrs: &'a [MediaAttribute],
         types: &[(Pt, CodecSpec)],
     ) -> Result<Vec<(u8, &'a [FormatParam])>, AllocError>
-        requires { AreOf types.now [] self.old [] }
-        ensures words { IfOk result (λ lines. AreOf types.now attrs.now self.new lines.items) }
+        requires { TablesAreOf types.now [] self.old [] }
+        ensures words { IfOk result (λ lines. TablesAreOf types.now attrs.now self.new lines.items) }
         ensures in_m_line { self.new.in_m_line ≡ self.old.in_m_line }
     {
         let mut lines = Vec::with_capacity(alloc, types.len())?;
@@ -79,7 +79,7 @@ impl TypeFacts {
 
     /// Whether the type has a row.
     fn is_kept(&self, pt: Pt, spec: CodecSpec) -> bool
-        ensures { (m : MediaLine) → SayOf m self.now → result ≡ is_kept m (pt, spec) }
+        ensures { (m : MediaLine) → TablesSayOf m self.now → result ≡ is_kept m (pt, spec) }
     {
         let codec = spec.codec;
         is_audio(codec) || is_video(codec) || (is_events(codec) && self.in_m_line[place(pt)])
@@ -93,7 +93,7 @@ impl TypeFacts {
         pt: Pt,
         spec: CodecSpec,
     ) -> Result<(), AllocError>
-        ensures { (m : MediaLine) → SayOf m self.now → format ≡ format_of_fmtp spec.codec (fmtps_of m.attrs pt) →
+        ensures { (m : MediaLine) → TablesSayOf m self.now → format ≡ format_of_fmtp spec.codec (fmtps_of m.attrs pt) →
             OnOk result (rows.new.items ≡ rows.old.items ++ option_to_list (row m (pt, spec))) }
     {
         match format {

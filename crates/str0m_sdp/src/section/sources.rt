@@ -4,7 +4,7 @@
 ghost use Rattle.indexmap.specs.IndexMap.{insert_entry};
 ghost use Rattle.std.specs.Map.{values_of};
 ghost use Rattle.std.specs.Prelude.{◌≡◌, ◌<◌, [], length, nat_eq, slice_get, IfOk, OnOk, Some};
-ghost use Rattle.str0m_sdp.specs.section.Sources.{ArePlaced, IsPutAt, entries};
+ghost use Rattle.str0m_sdp.specs.section.Sources.{ArePlaced, IsPutAtSource, entries};
 ghost use Rattle.str0m_sdp.specs.section.SsrcInfoReading.{so_far, with_value};
 
 use crate::section::ssrc_info::SsrcInfo;
@@ -36,7 +36,7 @@ impl Sources {
         requires { ArePlaced self.old }
         ensures within { IfOk result (λ place. place < length self.new.infos.items) }
         ensures info { IfOk result (λ place. slice_get self.new.infos.items place ≡ Some (so_far (entries self.old) ssrc)) }
-        ensures put { IfOk result (λ place. IsPutAt self.old self.new ssrc place) }
+        ensures put { IfOk result (λ place. IsPutAtSource self.old self.new ssrc place) }
     {
         if let Some(place) = self.places.get(&*ssrc) {
             return Ok(*place);

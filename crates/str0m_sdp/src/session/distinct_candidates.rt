@@ -26,7 +26,7 @@ impl<'a> fmt::Debug for DistinctCandidates<'a> {
 }
 
 /// Adds those that aren't there yet, in order.
-pub(crate) fn add_all<'a>(
+pub(crate) fn add_all_candidates<'a>(
     found: &mut SeenCandidates<'a>,
     candidates: Candidates<'a>,
 ) -> Result<(), AllocError>

@@ -13,7 +13,7 @@ use crate::attribute::SessionAttribute;
 use crate::attribute::setup::Setup;
 use crate::section::media_line::MediaLine;
 use crate::session::Sdp;
-use crate::session::distinct_candidates::{DistinctCandidates, add_all};
+use crate::session::distinct_candidates::{DistinctCandidates, add_all_candidates};
 use crate::session::preferred_fingerprint::{copied_fingerprint, preferred};
 use crate::session::seen_candidates::SeenCandidates;
 use crate::session::transport::{copied_creds, first_creds};
@@ -86,9 +86,9 @@ impl Sdp {
         ensures once { IfOk result (λ candidates. IsEachOnce (all_candidates self.now) (distinct_left candidates)) }
     {
         let mut found = SeenCandidates::new(*self.media_lines.allocator());
-        add_all(&mut found, self.session.ice_candidates())?;
+        add_all_candidates(&mut found, self.session.ice_candidates())?;
         for line in self.media_lines.as_slice() {
-            add_all(&mut found, line.ice_candidates())?;
+            add_all_candidates(&mut found, line.ice_candidates())?;
         }
         Ok(DistinctCandidates {
             left: found.into_iter(),

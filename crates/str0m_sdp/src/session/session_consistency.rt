@@ -3,8 +3,8 @@ ghost use Rattle.std.specs.Prelude.{◌≡◌, ◌==◌, ◌++◌, IfErr, IfOk, 
 ghost use Rattle.str0m_sdp.specs.Prelude.{when, ◌<|>◌};
 ghost use Rattle.str0m_sdp.specs.declared.session.fault.SessionFault.TheVariants.{Count, Order};
 ghost use Rattle.str0m_sdp.specs.session.OrderedMids.{is_member, part_mid};
-ghost use Rattle.str0m_sdp.specs.session.SessionConsistency.{AreFew, ConsistentSdp, IsContradiction, SaysWhether, first_group, is_listed, mids_in_part, section_mid, section_mids, takes_part};
-ghost use Rattle.str0m_sdp.specs.session.SessionFault.{Tells, first_again, first_difference, first_session_fault, listing_fault, sections_message, session_message};
+ghost use Rattle.str0m_sdp.specs.session.SessionConsistency.{AreSectionsFew, ConsistentSdp, IsContradiction, SaysWhether, first_group, is_listed, mids_in_part, section_mid, section_mids, takes_part};
+ghost use Rattle.str0m_sdp.specs.session.SessionFault.{TellsContradiction, first_mid_again, first_difference, first_session_fault, listing_fault, sections_message, session_message};
 
 use crate::attribute::SessionAttribute;
 use crate::section::consistency::first_mid;
@@ -12,7 +12,7 @@ use crate::section::media_line::MediaLine;
 use crate::session::Sdp;
 use crate::session::error::SdpError;
 use crate::session::fault::SessionFault;
-use crate::session::ordered_mids::{find_again, is_held, names_of};
+use crate::session::ordered_mids::{find_mid_again, is_mid_held, names_of};
 use std::alloc::{AllocError, Global};
 use std::collections::BTreeSet;
 use str0m_values::{Items, Mid};
@@ -61,7 +61,7 @@ fn has_mid(sections: &[MediaLine], mid: Mid) -> bool
 
 /// The first mid that stands again in a later section, by a look at each later one.
 fn scan_shared(sections: &[MediaLine]) -> Option<Mid>
-    ensures { result ≡ first_again (section_mids sections.now) }
+    ensures { result ≡ first_mid_again (section_mids sections.now) }
 {
     let mut left = sections;
     while let Some((section, later)) = left.split_first() {
@@ -98,17 +98,17 @@ fn gather_mids(sections: &[MediaLine], alloc: Global) -> Result<Vec<Mid>, AllocE
 
 /// The first mid that stands again in a later section, by an ordered set.
 fn find_shared(sections: &[MediaLine], alloc: Global) -> Result<Option<Mid>, AllocError>
-    ensures { IfOk result (λ found. found ≡ first_again (section_mids sections.now)) }
+    ensures { IfOk result (λ found. found ≡ first_mid_again (section_mids sections.now)) }
 {
     let mids = gather_mids(sections, alloc)?;
-    let found = find_again(mids.as_slice(), alloc)?;
+    let found = find_mid_again(mids.as_slice(), alloc)?;
     Ok(found)
 }
 
 /// The first mid that stands again in a later section.
 fn shared_mid(sections: &Items<MediaLine>) -> Result<Option<Mid>, AllocError>
-    ensures found { IfOk result (λ found. found ≡ first_again (section_mids sections.now)) }
-    ensures takes_no_memory { AreFew sections.now → IsOk result }
+    ensures found { IfOk result (λ found. found ≡ first_mid_again (section_mids sections.now)) }
+    ensures takes_no_memory { AreSectionsFew sections.now → IsOk result }
 {
     if sections.len() > FEW {
         return find_shared(sections.as_slice(), *sections.allocator());
@@ -172,7 +172,7 @@ fn first_difference(group: &[Mid], sections: &[MediaLine]) -> Option<(Mid, Mid)>
 fn is_member(names: &BTreeSet<&str>, m: &MediaLine) -> bool
     ensures { result ≡ is_member names.now m.now }
 {
-    !m.disabled || is_held(names, section_mid(m))
+    !m.disabled || is_mid_held(names, section_mid(m))
 }
 
 /// The mid of a section that does.
@@ -264,7 +264,7 @@ fn group_fault(
     sections: &Items<MediaLine>,
 ) -> Result<Option<SessionFault>, AllocError>
     ensures fault { IfOk result (λ fault. fault ≡ listing_fault (mids_in_part group.now sections.now) group.now) }
-    ensures takes_no_memory { AreFew sections.now → IsOk result }
+    ensures takes_no_memory { AreSectionsFew sections.now → IsOk result }
 {
     let alloc = *sections.allocator();
     let sections = sections.as_slice();
@@ -278,7 +278,7 @@ fn group_fault(
 /// Finds the first fault between the sections, and between them and the group.
 fn session_fault(sdp: &Sdp) -> Result<Option<SessionFault>, AllocError>
     ensures fault { IfOk result (λ fault. fault ≡ first_session_fault sdp.now) }
-    ensures takes_no_memory { AreFew sdp.now.media_lines → IsOk result }
+    ensures takes_no_memory { AreSectionsFew sdp.now.media_lines → IsOk result }
 {
     let sections = &sdp.media_lines;
     if let Some(mid) = shared_mid(sections)? {
@@ -306,9 +306,9 @@ impl Sdp {
     #[tactic(auto, using(crate::proofs::session::SessionFaultLaws::contradictions))]
     pub fn assert_consistency(&self) -> Result<(), SdpError>
         ensures exact { SaysWhether (ConsistentSdp self.now) result }
-        ensures takes_no_memory { AreFew self.now.media_lines → ConsistentSdp self.now → result ≡ Ok tt }
+        ensures takes_no_memory { AreSectionsFew self.now.media_lines → ConsistentSdp self.now → result ≡ Ok tt }
         ensures named { IfErr result IsContradiction }
-        ensures first { IfErr result (Tells (session_message self.now)) }
+        ensures first { IfErr result (TellsContradiction (session_message self.now)) }
     {
         if let Some(message) = section_message(self.media_lines.as_slice())? {
             return Err(SdpError::Inconsistent(message));

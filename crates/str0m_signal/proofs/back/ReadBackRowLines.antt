@@ -11,7 +11,7 @@ use Rattle.str0m_signal.proofs.Common.{TelephoneEvents, BareRange, BarePtList, R
 use Rattle.str0m_signal.proofs.Common.{media_attribute_text, row_attrs, MediaAttribute, Fmtp, reads, feedback_line, feedback_attrs}
 use Rattle.str0m_signal.proofs.Common.{fmtp_line, format_values, format_attrs, rtx_lines, rtx_attrs, red_lines, red_attrs, map_of_spec}
 use Rattle.str0m_signal.proofs.Common.{pairs_line_read, fmtp_lines, red_reads, RtpMap, linked, TRANSPORT_CC, REMB, FIR, NACK, PLI}
-use Rattle.str0m_signal.proofs.form.FmtpPrinted.{AreShown, apt_printed, list_printed, range_printed, pairs_printed}
+use Rattle.str0m_signal.proofs.form.FmtpPrinted.{AreFmtpPairsShown, apt_printed, list_printed, range_printed, pairs_printed}
 use Rattle.str0m_signal.proofs.form.RtpMapPrinted.{KeepsToMapping, mapping_printed, feedback_printed}
 use Rattle.str0m_signal.proofs.session.AttributesPrinted.{LinesReadAs, one_read, both_read, HoldsNoEnd, no_end}
 use Rattle.str0m_signal.specs.back.Writable.{IsPrintedAs}
@@ -21,8 +21,8 @@ use Rattle.str0m_signal.specs.form.MediaAttribute.{IsMediaLine}
 abbrev pub ReadAs : List MediaAttribute → List MediaAttribute → Type 0
 ReadAs = LinesReadAs media_attribute_text IsMediaLine
 
-pub joins : (xs ys reads more : List MediaAttribute) → ReadAs xs reads → ReadAs ys more → ReadAs (xs ++ ys) (reads ++ more)
-joins = both_read media_attribute_text IsMediaLine
+pub read_as_joined : (xs ys reads more : List MediaAttribute) → ReadAs xs reads → ReadAs ys more → ReadAs (xs ++ ys) (reads ++ more)
+read_as_joined = both_read media_attribute_text IsMediaLine
 
 pub one : (x a : MediaAttribute) → IsPrintedAs IsMediaLine (media_attribute_text x) a → ReadAs (x ∷ []) (a ∷ [])
 one x a h = one_read media_attribute_text IsMediaLine x a [] [] h refl
@@ -62,15 +62,15 @@ module _ (row : PayloadParams) (keeps : KeepsToRow row) where
 
   pub feedback_read : ReadAs (feedback_attrs row) (feedback_attrs row)
   feedback_read =
-      joins _ _ _ _ (feedback TRANSPORT_CC.now row.fb_transport_cc (lit< tt) (no_end TRANSPORT_CC.now refl refl))
-      (joins _ _ _ _ (feedback REMB.now row.fb_remb (lit< tt) (no_end REMB.now refl refl))
-      (joins _ _ _ _ (feedback FIR.now row.fb_fir (lit< tt) (no_end FIR.now refl refl))
-      (joins _ _ _ _ (feedback NACK.now row.fb_nack (lit< tt) (no_end NACK.now refl refl))
+      read_as_joined _ _ _ _ (feedback TRANSPORT_CC.now row.fb_transport_cc (lit< tt) (no_end TRANSPORT_CC.now refl refl))
+      (read_as_joined _ _ _ _ (feedback REMB.now row.fb_remb (lit< tt) (no_end REMB.now refl refl))
+      (read_as_joined _ _ _ _ (feedback FIR.now row.fb_fir (lit< tt) (no_end FIR.now refl refl))
+      (read_as_joined _ _ _ _ (feedback NACK.now row.fb_nack (lit< tt) (no_end NACK.now refl refl))
       (feedback PLI.now row.fb_pli (lit< tt) (no_end PLI.now refl refl)))))
 
   rtx : (o : Option ℕ) → IfSome o (λ n. n ≤ 127) → ReadAs (rtx_lines row o) (rtx_lines row o)
   rtx None h = refl
-  rtx (Some n) h = grind (arith, joins, named_printed n, apt_printed n row.pt h, small)
+  rtx (Some n) h = grind (arith, read_as_joined, named_printed n, apt_printed n row.pt h, small)
 
   red : (o : Option ℕ) → IfSome o (λ n. n ≤ 127) → ReadAs (red_lines row o) (red_reads row o)
   red None h = refl
@@ -79,7 +79,7 @@ module _ (row : PayloadParams) (keeps : KeepsToRow row) where
       let map : Mapping = record { codec = codec.Red; clock_rate = clock; channels = row.spec.channels } in
       let twice = Fmtp n (Red row.pt ∷ []) in
       let list = Fmtp n (BarePtList row.pt ∷ []) in
-      joins (RtpMap n map ∷ []) (twice ∷ []) (RtpMap n map ∷ []) (list ∷ [])
+      read_as_joined (RtpMap n map ∷ []) (twice ∷ []) (RtpMap n map ∷ []) (list ∷ [])
       (one (RtpMap n map) (RtpMap n map) (named_printed n map h (record { clock = row_rate; channels = keeps.channels }) (λ e. cc)))
       (one twice list (list_printed n row.pt (Red row.pt) refl h (omega (arith, small))))
 
@@ -87,17 +87,17 @@ module _ (row : PayloadParams) (keeps : KeepsToRow row) where
   pub row_read : (values : List (List FormatParam)) → ReadAs (format_attrs row) (fmtp_lines row.pt values)
       → ReadAs (row_attrs row) (reads row values)
   row_read values format =
-      joins (RtpMap row.pt (map_of_spec row.spec) ∷ []) _ (RtpMap row.pt (map_of_spec row.spec) ∷ []) _
+      read_as_joined (RtpMap row.pt (map_of_spec row.spec) ∷ []) _ (RtpMap row.pt (map_of_spec row.spec) ∷ []) _
       (one (RtpMap row.pt (map_of_spec row.spec)) (RtpMap row.pt (map_of_spec row.spec))
       (named_printed row.pt (map_of_spec row.spec) small (record { clock = row_rate; channels = keeps.channels }) keeps.named))
-      (joins (feedback_attrs row) _ (feedback_attrs row) _ feedback_read
-      (joins (format_attrs row) _ (fmtp_lines row.pt values) _ format
-      (joins (rtx_attrs row) (red_attrs row) (rtx_lines row row.resend) (red_reads row row.red) (rtx row.resend keeps.resend)
+      (read_as_joined (feedback_attrs row) _ (feedback_attrs row) _ feedback_read
+      (read_as_joined (format_attrs row) _ (fmtp_lines row.pt values) _ format
+      (read_as_joined (rtx_attrs row) (red_attrs row) (rtx_lines row row.resend) (red_reads row row.red) (rtx row.resend keeps.resend)
       (red row.red keeps.red))))
 
 -- ---- the lines of a format
 
-pub params_printed : (pt : ℕ) (params : List FormatParam) (pairs : List (List ℕ × List ℕ)) → pt ≤ 127 → AreShown params
+pub params_printed : (pt : ℕ) (params : List FormatParam) (pairs : List (List ℕ × List ℕ)) → pt ≤ 127 → AreFmtpPairsShown params
     → AllByRecursion IsSolidPair pairs → linked (map param_text params) ≡ linked (map joined_pair pairs)
     → (params ≢ [] → pairs ≢ []) → (params ≡ [] → pairs ≡ [])
     → ReadAs (fmtp_line pt params) (fmtp_lines pt (pairs_line_read pairs))
@@ -138,4 +138,4 @@ pub rows_read : (rows : List PayloadParams) (values : PayloadParams → List (Li
     → AllByRecursion (λ row. ReadAs (row_attrs row) (reads row (values row))) rows
     → ReadAs (flat_map row_attrs rows) (flat_map (λ row. reads row (values row)) rows)
 rows_read [] values h = refl
-rows_read (row ∷ rows) values h = grind (arith, joins, rows_read rows values h.1)
+rows_read (row ∷ rows) values h = grind (arith, read_as_joined, rows_read rows values h.1)

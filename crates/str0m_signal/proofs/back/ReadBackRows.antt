@@ -1,7 +1,7 @@
 -- The last part of the headline: plain, distinct rows, printed in a writable session, are read back, in order.
 use Rattle.str0m_sdp.proofs.{DescribesRows}
 use Rattle.str0m_signal.proofs.Common.{rules, ◌≡◌, ◌≢◌, ◌<◌, ◌^◌, ℕ, true, List, [], ◌∷◌, length, refl, sym, ◌∙◌, subst, recursion_from_All}
-use Rattle.str0m_signal.proofs.Common.{same_Some, HoldsRowNumbers, types, AllDistinct, PayloadParams, is_media, MediaLine, Sdp}
+use Rattle.str0m_signal.proofs.Common.{same_Some, HoldsRowNumbers, types, AllTypesDistinct, PayloadParams, is_media, MediaLine, Sdp}
 use Rattle.str0m_signal.proofs.Common.{values_printed, IsPlain, All, describes_read_back}
 use Rattle.str0m_signal.proofs.back.ReadBackPlainRows.{types_fit, plain_rows_read}
 use Rattle.str0m_signal.proofs.back.ReadBackWithRows.{section_read, ReadWithRows, with_rows_read}
@@ -53,5 +53,5 @@ some_left (row ∷ rows) (first ∷ more) e some = λ none. absurd cc
 
 -- rows that stay as many, plain and distinct may be printed still
 pub still_printable : (before after : List PayloadParams) → length after ≡ length before → (All IsPlain before → All IsPlain after)
-    → (AllDistinct (types before) → AllDistinct (types after)) → MayBePrinted before → MayBePrinted after
+    → (AllTypesDistinct (types before) → AllTypesDistinct (types after)) → MayBePrinted before → MayBePrinted after
 still_printable before after e plain distinct may = search (rules, some_left)

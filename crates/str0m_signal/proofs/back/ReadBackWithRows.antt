@@ -4,7 +4,7 @@ use Rattle.str0m_signal.proofs.Common.{◌≡◌, ◌≢◌, ◌<◌, ◌^◌, i
 use Rattle.str0m_signal.proofs.Common.{AllByRecursion, flat_map, slice_get, types, FormatParam, PayloadParams, session_attribute_text}
 use Rattle.str0m_signal.proofs.Common.{Consistent, is_media, row_attrs, is_of_type, sdp_text, MediaLine, Sdp, reads, slice_set, not, filter}
 use Rattle.str0m_signal.proofs.Common.{made}
-use Rattle.str0m_signal.proofs.back.ReadBackRowLines.{ReadAs, joins, rows_read}
+use Rattle.str0m_signal.proofs.back.ReadBackRowLines.{ReadAs, read_as_joined, rows_read}
 use Rattle.str0m_signal.proofs.session.AttributesPrinted.{LinesReadAs}
 use Rattle.str0m_signal.proofs.session.ReaderPrinted.{read_of, reading_printed}
 use Rattle.str0m_signal.proofs.session.SectionLines.{AreTypes, head_printed}
@@ -89,7 +89,7 @@ with_rows_read sdp i w row rows values small media fits each consistent =
       head = head_printed m media row.pt _ refl fits;
       bandwidth = frame.bandwidth;
       attributes =
-          joins (filter (λ attr. not (is_of_type attr)) w.section.attrs) (flat_map row_attrs theirs) w.own.0.attrs
+          read_as_joined (filter (λ attr. not (is_of_type attr)) w.section.attrs) (flat_map row_attrs theirs) w.own.0.attrs
           (flat_map (λ r. reads r (values r)) theirs)
           frame.attributes (rows_read theirs values each);
     } in

@@ -4,7 +4,8 @@ use Rattle.str0m_signal.proofs.Common.{codes, AllByRecursion, slice_get, cases_B
 use Rattle.str0m_signal.proofs.Common.{is_of_type, MediaAttribute, SessionAttribute, MediaLine, Srtp, Sdp}
 use Rattle.str0m_signal.proofs.form.MediaAttributeAgain.{ComesBack, media_again}
 use Rattle.str0m_signal.proofs.form.SessionAttributeAgain.{session_again}
-use Rattle.str0m_signal.proofs.line.LinesAgain.{IsFine, IsOnLine, one_line, chain_lines, taken_line, behind_is, bandwidth_again, head_of}
+use Rattle.str0m_signal.proofs.line.LinesAgain.{IsFine, IsOnLine, one_line, chain_lines, taken_line, line_behind_is, bandwidth_again}
+use Rattle.str0m_signal.proofs.line.LinesAgain.{head_of}
 use Rattle.str0m_signal.proofs.line.LinesAgain.{head_again}
 use Rattle.str0m_signal.proofs.line.WordsCharacterStarts.{StartsWithin, of_utf8}
 use Rattle.str0m_signal.proofs.session.SectionAgain.{are_again, consistent_again, frame_again}
@@ -45,7 +46,7 @@ come_back : (attrs : List MediaAttribute) → AllByRecursion (IsOnLine IsMediaLi
     → AllByRecursion ComesBack attrs
 come_back [] lines may = tt
 come_back (x ∷ xs) ((content, quiet, starts, (text, e, form)), lines) may =
-    search (rules, behind_is content text e quiet starts, media_again text x, come_back xs lines may.1)
+    search (rules, line_behind_is content text e quiet starts, media_again text x, come_back xs lines may.1)
 
 -- the section's lines are read as a consistent one
 section_again : (m : MediaLine) → WasRead m → FitsKind m.typ m.proto m.pts → AllByRecursion FitsAgain m.attrs
@@ -108,7 +109,7 @@ session_attributes : (attrs : List SessionAttribute) → AllByRecursion (IsOnLin
     → AreReadAs session_attribute_text IsSessionLine SessionGoesWith attrs attrs
 session_attributes [] lines = refl
 session_attributes (x ∷ xs) ((content, quiet, starts, (text, e, form)), lines) =
-    let own = behind_is content text e quiet starts in
+    let own = line_behind_is content text e quiet starts in
     inr (x, xs, refl, session_again text x own.quiet own.starts form, inl refl, session_attributes xs lines)
 
 AllByRecursion-at : {A : Type 0} (P : A → Type 0) (xs : List A) → AllByRecursion P xs → (j : ℕ) (x : A) → slice_get xs j ≡ Some x → P x

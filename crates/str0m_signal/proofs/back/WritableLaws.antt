@@ -18,15 +18,15 @@ module _ {A : Type 0} {P : A → Type 0} where
   pub back_same : (read asked : A) {T : Type 0} → IsTheOnly P (Some read) → T ↔ (read ≡ asked) → T ↔ P asked
   back_same read asked only is = grind arith
 
-  pub lost_same : (asked : A) → IsTheOnly P None → IsTrue false ↔ P asked
-  lost_same asked none = (λ h. absurd (true≢false (sym h)), λ p. absurd (none-some asked (none.only asked p)))
+  pub writable_lost_same : (asked : A) → IsTheOnly P None → IsTrue false ↔ P asked
+  writable_lost_same asked none = (λ h. absurd (true≢false (sym h)), λ p. absurd (none-some asked (none.only asked p)))
 
   -- stands beside another promise
   pub back_beside : (read : A) {Q T : Type 0} → IsTheOnly P (Some read) → T ↔ Q → T ↔ (((x : A) × P x) × Q)
   back_beside read only is = (λ t. ((read, only.found), is.0 t), λ h. is.1 h.1)
 
-  pub lost_beside : {Q : Type 0} → IsTheOnly P None → IsTrue false ↔ (((x : A) × P x) × Q)
-  lost_beside none = (λ h. absurd (true≢false (sym h)), λ h. absurd (none-some h.0.0 (none.only h.0.0 h.0.1)))
+  pub writable_lost_beside : {Q : Type 0} → IsTheOnly P None → IsTrue false ↔ (((x : A) × P x) × Q)
+  writable_lost_beside none = (λ h. absurd (true≢false (sym h)), λ h. absurd (none-some h.0.0 (none.only h.0.0 h.0.1)))
 
 -- ---- the m-line
 
@@ -70,9 +70,9 @@ module _ (m : MediaLine) where
 
 -- ---- consistency, told by no fault
 
-pub told_by : {A : Type 0} (fault : Option A) (P : Type 0) (answer : Bool) → NoneIff fault P → is_some fault ≡ not answer
+pub writable_told_by : {A : Type 0} (fault : Option A) (P : Type 0) (answer : Bool) → NoneIff fault P → is_some fault ≡ not answer
     → IsTrue answer ↔ P
-told_by fault P answer told is = grind arith
+writable_told_by fault P answer told is = grind arith
 
 -- ---- a frame, by the consistency of a section without payload types
 
@@ -80,11 +80,11 @@ told_by fault P answer told is = grind arith
 abbrev pub disabled_copy : MediaLine → MediaLine
 disabled_copy m = record m { disabled = true; proto = Srtp; pts = [] }
 
-none_of : (attrs : List MediaAttribute) → list_any is_of_type attrs ≡ false → All (λ attr. is_of_type attr ≡ false) attrs
-none_of attrs none = grind (arith, cases_Bool, list_any_at)
+writable_none_of : (attrs : List MediaAttribute) → list_any is_of_type attrs ≡ false → All (λ attr. is_of_type attr ≡ false) attrs
+writable_none_of attrs none = grind (arith, cases_Bool, list_any_at)
 
 pub frame_alone : (m : MediaLine) {T : Type 0} → list_any is_of_type m.attrs ≡ false → T ↔ Consistent (disabled_copy m) → T ↔ IsFrame m
-frame_alone m none is = grind (arith, none_of, frame_agrees)
+frame_alone m none is = grind (arith, writable_none_of, frame_agrees)
 
 pub no_frame : (m : MediaLine) → list_any is_of_type m.attrs ≡ true → IsTrue false ↔ IsFrame m
 no_frame m some = grind (arith, list_any_none)
@@ -95,24 +95,25 @@ abbrev pub FrameComesBack : MediaLine → Type 0
 FrameComesBack m = (read : MediaLine) × IsMediaReadAs m read × Consistent read
 
 -- those before a place
-abbrev pub OthersBefore : List MediaLine → ℕ → ℕ → Type 0
-OthersBefore sections own i = (j : ℕ) (m : MediaLine) → j < i → slice_get sections j ≡ Some m → j ≢ own → FrameComesBack m
+abbrev pub OtherLinesBefore : List MediaLine → ℕ → ℕ → Type 0
+OtherLinesBefore sections own i = (j : ℕ) (m : MediaLine) → j < i → slice_get sections j ≡ Some m → j ≢ own → FrameComesBack m
 
 -- all
 abbrev pub Others : List MediaLine → ℕ → Type 0
 Others sections own = (j : ℕ) (m : MediaLine) → slice_get sections j ≡ Some m → j ≢ own → FrameComesBack m
 
-pub others_more : (sections : List MediaLine) (own i : ℕ) (m : MediaLine) → i < length sections → m ≡ get_or sections i m
+pub writable_others_more : (sections : List MediaLine) (own i : ℕ) (m : MediaLine) → i < length sections → m ≡ get_or sections i m
     → (i ≢ own → FrameComesBack m)
-    → OthersBefore sections own i → OthersBefore sections own (i + 1)
-others_more sections own i m lt at back before = grind (arith, cases_lt, slice_get_read, same_Some)
+    → OtherLinesBefore sections own i → OtherLinesBefore sections own (i + 1)
+writable_others_more sections own i m lt at back before = grind (arith, cases_lt, slice_get_read, same_Some)
 
-pub one_lost : (sections : List MediaLine) (own i : ℕ) (m : MediaLine) → i < length sections → m ≡ get_or sections i m → i ≢ own
+pub writable_one_section_lost : (sections : List MediaLine) (own i : ℕ) (m : MediaLine) → i < length sections → m ≡ get_or sections i m
+    → i ≢ own
     → ¬ FrameComesBack m
     → IsTrue false ↔ Others sections own
-one_lost sections own i m lt at other lost = grind (arith, slice_get_read)
+writable_one_section_lost sections own i m lt at other lost = grind (arith, slice_get_read)
 
-pub all_back : (sections : List MediaLine) (own i : ℕ) → length sections ≤ i → OthersBefore sections own i
+pub all_back : (sections : List MediaLine) (own i : ℕ) → length sections ≤ i → OtherLinesBefore sections own i
     → IsTrue true ↔ Others sections own
 all_back sections own i end before = grind (arith, slice_get_within)
 

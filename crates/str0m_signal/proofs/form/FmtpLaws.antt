@@ -5,11 +5,12 @@ use Rattle.str0m_signal.proofs.Common.{ap, subst, ◌∙◌, arith, inl, inr, le
 use Rattle.str0m_signal.proofs.Common.{append-nil, some_pair_parts, FormatParam, Lacks, IsRest, Bor, pair_texts, pairs_read_is, params_read}
 use Rattle.str0m_signal.proofs.Common.{FirstFit, lacks, ◌>>=◌, cut, strip, when, is_rest, num, before, cut_at, cut_found, strip_found}
 use Rattle.str0m_signal.proofs.Common.{strip_at, when_some, lacks_true, lacks_from, Lacks-append, bind_some, some_is, if_some, reads_first}
-use Rattle.str0m_signal.proofs.Common.{rest_true, number_lacks, num_found, num_reads, before_front, Reads, AreRead, pairs_read_only, front}
+use Rattle.str0m_signal.proofs.Common.{num_rest_true, number_lacks, num_found, num_reads, before_front, Reads, AreRead, pairs_read_only}
+use Rattle.str0m_signal.proofs.Common.{front}
 use Rattle.str0m_signal.proofs.Common.{before_lacks}
 use Rattle.str0m_signal.proofs.line.BareValuesLaws.{bare_both}
 use Rattle.str0m_signal.proofs.line.PairLaws.{value_given, EndsValue, IsBlank-skip}
-use Rattle.str0m_signal.proofs.line.PairsOneByOne.{all_found, all_given}
+use Rattle.str0m_signal.proofs.line.PairsOneByOne.{all_pairs_found, all_pairs_given}
 use Rattle.str0m_signal.specs.form.Fmtp.{IsBlank, AreBlanks, IsKey, IsValue, IsFmtpEnd, StartsUnblank, IsPair, ArePairs, IsPairsForm}
 use Rattle.str0m_signal.specs.form.Fmtp.{IsListForm, IsRangeForm, IsAnything, IsFmtp}
 use Rattle.str0m_signal.specs.form.FmtpReading.{fmtp_value_read, skip_blanks, fmtp_next_read, fmtp_key_read, pair_read, pairs_read}
@@ -17,40 +18,40 @@ use Rattle.str0m_signal.specs.form.FmtpReading.{pairs_form_read, fmtp_values_rea
 
 -- ---- the parts of a pair
 
-before_keeps : (c d : ℕ) (text : List ℕ) → Lacks d text → Lacks d (before c text)
-before_keeps c d text h = go (cut c text) refl
+fmtp_before_keeps : (c d : ℕ) (text : List ℕ) → Lacks d text → Lacks d (before c text)
+fmtp_before_keeps c d text h = go (cut c text) refl
   where
     go : (o : Option (List ℕ × List ℕ)) → cut c text ≡ o → Lacks d (front text o)
     go None e = h
     go (Some p) e = Lacks-append d p.0 (c ∷ p.1) (rw (cut_found c text p.0 p.1 e).0 at h)
 
 pub value_found : (text value rest : List ℕ) → fmtp_value_read text ≡ Some (value, rest) → (text ≡ value ++ rest) × IsValue value
-value_found text value rest e = grind (arith, bind_some, when_some, some_pair_parts, before_keeps, before_lacks, ltb-true, strip_found)
+value_found text value rest e = grind (arith, bind_some, when_some, some_pair_parts, fmtp_before_keeps, before_lacks, ltb-true, strip_found)
 
 pub key_found : (text key : List ℕ) → Lacks 61 text → fmtp_key_read text ≡ Some key → (text ≡ key) × IsKey key
 key_found text key equals e = grind (arith, if_some, when_some, ltb-true, lacks_from)
 
 pub key_given : (key : List ℕ) → IsKey key → fmtp_key_read key ≡ Some key
-key_given key h = rw (lacks_true 32 key h.2, lacks_true 9 key h.3, rest_true key h.0) refl
+key_given key h = rw (lacks_true 32 key h.2, lacks_true 9 key h.3, num_rest_true key h.0) refl
 
 -- blanks, and then nothing or another character
-pub record Skips (text : List ℕ) : Type 0 where
+pub record SkipsBlanks (text : List ℕ) : Type 0 where
   pub blanks : List ℕ
   pub joined : text ≡ blanks ++ skip_blanks text
   pub are : AreBlanks blanks
   pub plain : IsRest (skip_blanks text) → StartsUnblank (skip_blanks text)
 
-skips_more : (b : ℕ) (xs : List ℕ) → IsBlank b → skip_blanks (b ∷ xs) ≡ skip_blanks xs → Skips xs → Skips (b ∷ xs)
-skips_more b xs is e more = record {
+fmtp_skips_blanks_more : (b : ℕ) (xs : List ℕ) → IsBlank b → skip_blanks (b ∷ xs) ≡ skip_blanks xs → SkipsBlanks xs → SkipsBlanks (b ∷ xs)
+fmtp_skips_blanks_more b xs is e more = record {
   blanks = b ∷ more.blanks;
   joined = ap (λ (t : List ℕ). b ∷ t) more.joined ∙ ap (λ (t : List ℕ). b ∷ (more.blanks ++ t)) (sym e);
   are = (is, more.are);
   plain = λ h. subst StartsUnblank (sym e) (more.plain (subst IsRest e h));
 }
 
-pub skips : (text : List ℕ) → Skips text
-skips [] = record { blanks = []; joined = refl; are = tt; plain = λ h. absurd (omega (arith, h)) }
-skips (x ∷ xs) = grind (arith, cases_eq, skips_more, skips xs, ne_eqb)
+pub fmtp_skips_blanks : (text : List ℕ) → SkipsBlanks text
+fmtp_skips_blanks [] = record { blanks = []; joined = refl; are = tt; plain = λ h. absurd (omega (arith, h)) }
+fmtp_skips_blanks (x ∷ xs) = grind (arith, cases_eq, fmtp_skips_blanks_more, fmtp_skips_blanks xs, ne_eqb)
 
 pub starts_kept : (text : List ℕ) → StartsUnblank text → skip_blanks text ≡ text
 starts_kept text h = grind arith
@@ -75,15 +76,15 @@ rest_empty (y ∷ ys) e = absurd (both_ways (is_rest (y ∷ ys)) e (lt-ltb 0 (le
 fmtp_next_found : (text : List ℕ) (next : Option (List ℕ)) → fmtp_next_read text ≡ Some next → FollowsValue text next
 fmtp_next_found [] next e = subst (FollowsValue []) (some_is None next e) (inl refl)
 fmtp_next_found (x ∷ xs) next e =
-    let filled : is_rest (x ∷ xs) ≡ true = rest_true (x ∷ xs) (omega arith) in
+    let filled : is_rest (x ∷ xs) ≡ true = num_rest_true (x ∷ xs) (omega arith) in
     let e' : (strip (codes ";") (x ∷ xs) >>= λ t. Some (when (is_rest (skip_blanks t)) (skip_blanks t))) ≡ Some next = rw filled at e in
     let a = bind_some (strip (codes ";") (x ∷ xs)) (λ t. Some (when (is_rest (skip_blanks t)) (skip_blanks t))) next e' in
     let behind = strip_found (codes ";") (x ∷ xs) a.0 a.1 in
-    let s = skips a.0 in
+    let s = fmtp_skips_blanks a.0 in
     subst (FollowsValue (x ∷ xs)) (some_is (when (is_rest (skip_blanks a.0)) (skip_blanks a.0)) next a.2)
     (go (x ∷ xs) a.0 behind s (is_rest (skip_blanks a.0)) refl)
   where
-    go : (text t : List ℕ) → text ≡ codes ";" ++ t → (s : Skips t) (b : Bool) → is_rest (skip_blanks t) ≡ b
+    go : (text t : List ℕ) → text ≡ codes ";" ++ t → (s : SkipsBlanks t) (b : Bool) → is_rest (skip_blanks t) ≡ b
         → FollowsValue text (when b (skip_blanks t))
     go text t behind s true e = (
       s.blanks,
@@ -101,8 +102,8 @@ fmtp_next_found (x ∷ xs) next e =
 pair_stands : (text : List ℕ) (pair : List ℕ × List ℕ) (next : Option (List ℕ)) (tail : List ℕ)
     → text ≡ pair.0 ++ (codes "=" ++ (pair.1 ++ tail)) → IsKey pair.0 → IsValue pair.1 → FollowsValue (skip_blanks tail) next
     → IsPair text pair next
-pair_stands text pair None tail e key value h = grind (arith, skips tail)
-pair_stands text pair (Some more) tail e key value h = grind (arith, skips tail)
+pair_stands text pair None tail e key value h = grind (arith, fmtp_skips_blanks tail)
+pair_stands text pair (Some more) tail e key value h = grind (arith, fmtp_skips_blanks tail)
 
 pub pair_found : (text : List ℕ) (pair : List ℕ × List ℕ) (next : Option (List ℕ)) → pair_read text ≡ Some (pair, next)
     → IsPair text pair next
@@ -142,15 +143,15 @@ end_ends : (end : List ℕ) → IsFmtpEnd end → EndsValue end
 end_ends end h = elim h [ inl e ↦ subst EndsValue (sym e) tt | inr k ↦ subst EndsValue (sym k.1) (inl refl) ]
 
 end_read : (end : List ℕ) → IsFmtpEnd end → fmtp_next_read (skip_blanks end) ≡ Some None
-end_read end h = grind (arith, rest_true, blanks_gone)
+end_read end h = grind (arith, num_rest_true, blanks_gone)
 
-next_more : (after more : List ℕ) → AreBlanks after → StartsUnblank more → fmtp_next_read (59 ∷ (after ++ more)) ≡ Some (Some more)
-next_more after more h starts =
+fmtp_next_more : (after more : List ℕ) → AreBlanks after → StartsUnblank more → fmtp_next_read (59 ∷ (after ++ more)) ≡ Some (Some more)
+fmtp_next_more after more h starts =
     rw (
-      rest_true (59 ∷ (after ++ more)) (omega arith),
+      num_rest_true (59 ∷ (after ++ more)) (omega arith),
       IsBlank-skip after more h,
       starts_kept more starts,
-      rest_true more (starts_filled more starts),
+      num_rest_true more (starts_filled more starts),
     ) refl
 
 pub pair_given : (text : List ℕ) (pair : List ℕ × List ℕ) (next : Option (List ℕ)) → IsPair text pair next
@@ -176,14 +177,15 @@ pair_given text pair (Some more) h =
       key_given pair.0 key,
       value_given pair.1 tail value.0 value.1 value.2 value.3 (blanks_end h.0 behind h.5 (inl refl)),
       IsBlank-skip h.0 behind h.5,
-      next_more h.1 more h.6 h.7,
+      fmtp_next_more h.1 more h.6 h.7,
     ) refl
 
 pub pairs_found : (text : List ℕ) (pairs : List (List ℕ × List ℕ)) → pairs_read text ≡ Some pairs → ArePairs text pairs
-pairs_found text pairs e = all_found pair_read pair_shorter IsPair pair_found pair_given (suc (length text)) text pairs e
+pairs_found text pairs e = all_pairs_found pair_read pair_shorter IsPair pair_found pair_given (suc (length text)) text pairs e
 
 pub pairs_given : (text : List ℕ) (pairs : List (List ℕ × List ℕ)) → ArePairs text pairs → pairs_read text ≡ Some pairs
-pairs_given text pairs h = all_given pair_read pair_shorter IsPair pair_found pair_given pairs (suc (length text)) text h (omega arith)
+pairs_given text pairs h = all_pairs_given pair_read pair_shorter IsPair pair_found pair_given pairs (suc (length text)) text h
+    (omega arith)
 
 -- ---- the forms of an fmtp line
 
@@ -201,7 +203,7 @@ pairs_both = record {
   sound = λ more values e.
       let a = bind_some (strip (codes " ") more) (λ t. pairs_read (skip_blanks t) >>= λ pairs. Some (params_read pairs)) values e in
       let p = bind_some (pairs_read (skip_blanks a.0)) (λ pairs. Some (params_read pairs)) values a.2 in
-      let s = skips a.0 in
+      let s = fmtp_skips_blanks a.0 in
       let r = pairs_found (skip_blanks a.0) p.0 p.1 in
       let values_are : AreRead p.0 values = subst (AreRead p.0) (some_is (params_read p.0) values p.2) (pairs_read_is p.0) in (
         s.blanks,

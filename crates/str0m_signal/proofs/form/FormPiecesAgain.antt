@@ -1,9 +1,9 @@
 -- Pieces of lines that are printed as they were read: each has its form again, and holds no character that it hadn't.
 use Rattle.str0m_signal.proofs.Common.{◌≤◌, ◌<◌, ◌^◌, ℕ, List, [], ◌∷◌, ◌++◌, refl, sym, subst, arith, inl, digit_value, decimal, join_by}
-use Rattle.str0m_signal.proofs.Common.{append-nil, Parted, Lacks, IsNum, Lacks-append, lacks_both}
-use Rattle.str0m_signal.proofs.form.FmtpPrinted.{behind_lacks}
+use Rattle.str0m_signal.proofs.Common.{append-nil, Parted, Lacks, IsNum, Lacks-append, address_lacks_both}
+use Rattle.str0m_signal.proofs.form.FmtpPrinted.{fmtp_behind_lacks}
 use Rattle.str0m_signal.proofs.session.AttributesPrinted.{num_is, decimal_lacks}
-use Rattle.str0m_signal.specs.form.Forms.{Behind, IsText, Two, IsBeforeTail}
+use Rattle.str0m_signal.specs.form.Forms.{Behind, IsText, Two, IsBeforeDroppedTail}
 
 -- what has the form F is printed as a text that has it again, and a character that is no digit stands there only where it stood before
 pub record Again {A : Type 0} (F : List ℕ → A → Type 0) (print : A → List ℕ) : Type 0 where
@@ -26,13 +26,13 @@ module _ {A B : Type 0} {F : List ℕ → A → Type 0} {G : List ℕ → B → 
         (p pair.0, q pair.1, refl, first.lacks c far h.0 pair.0 h.4 h.3, first.form h.0 pair.0 h.4, second.form h.1 pair.1 h.5);
     lacks = λ d other text pair h lacks.
         let whole : Lacks d (h.0 ++ (c ∷ h.1)) = subst (Lacks d) h.2 lacks in
-        let behind = behind_lacks d h.0 (c ∷ h.1) whole in
-        lacks_both d (p pair.0) (c ∷ q pair.1) (first.lacks d other h.0 pair.0 h.4 (Lacks-append d h.0 (c ∷ h.1) whole))
+        let behind = fmtp_behind_lacks d h.0 (c ∷ h.1) whole in
+        address_lacks_both d (p pair.0) (c ∷ q pair.1) (first.lacks d other h.0 pair.0 h.4 (Lacks-append d h.0 (c ∷ h.1) whole))
         (behind.0, second.lacks d other h.1 pair.1 h.5 behind.1);
   }
 
 module _ {A : Type 0} {F : List ℕ → A → Type 0} {p : A → List ℕ} (again : Again F p) where
-  pub tailed_again : (c : ℕ) → 16 ≤ digit_value c → Again (IsBeforeTail c F) p
+  pub tailed_again : (c : ℕ) → 16 ≤ digit_value c → Again (IsBeforeDroppedTail c F) p
   tailed_again c far = record {
     form = λ text x h. (p x, [], sym (append-nil (p x)), again.lacks c far h.0 x h.4 h.3, again.form h.0 x h.4, inl refl);
     lacks = λ d other text x h lacks. again.lacks d other h.0 x h.4 (Lacks-append d h.0 h.1 (subst (Lacks d) h.2 lacks));
@@ -43,7 +43,8 @@ module _ {A : Type 0} {F : List ℕ → A → Type 0} {p : A → List ℕ} (agai
     form = λ text x h. (p x, refl, again.form h.0 x h.2);
     lacks = λ d other text x h lacks.
         let whole : Lacks d (label ++ h.0) = subst (Lacks d) h.1 lacks in
-        lacks_both d label (p x) (Lacks-append d label h.0 whole) (again.lacks d other h.0 x h.2 (behind_lacks d label h.0 whole));
+        address_lacks_both d label (p x) (Lacks-append d label h.0 whole)
+        (again.lacks d other h.0 x h.2 (fmtp_behind_lacks d label h.0 whole));
   }
 
   parted_form : (c : ℕ) (text : List ℕ) (xs : List A) → Parted c F text xs → Parted c F (join_by p (c ∷ []) xs) xs
@@ -57,8 +58,8 @@ module _ {A : Type 0} {F : List ℕ → A → Type 0} {p : A → List ℕ} (agai
   parted_text_lacks c d other text (x ∷ []) h lacks = grind (arith, append-nil)
   parted_text_lacks c d other text (x ∷ (y ∷ ys)) h lacks =
       let whole : Lacks d (h.0 ++ (c ∷ h.1)) = subst (Lacks d) h.2 lacks in
-      let behind = behind_lacks d h.0 (c ∷ h.1) whole in
-      lacks_both d (p x) (c ∷ join_by p (c ∷ []) (y ∷ ys)) (again.lacks d other h.0 x h.3 (Lacks-append d h.0 (c ∷ h.1) whole))
+      let behind = fmtp_behind_lacks d h.0 (c ∷ h.1) whole in
+      address_lacks_both d (p x) (c ∷ join_by p (c ∷ []) (y ∷ ys)) (again.lacks d other h.0 x h.3 (Lacks-append d h.0 (c ∷ h.1) whole))
       (behind.0, parted_text_lacks c d other h.1 (y ∷ ys) h.4 behind.1)
 
   pub parted_again : (c : ℕ) → Again (Parted c F) (join_by p (c ∷ []))

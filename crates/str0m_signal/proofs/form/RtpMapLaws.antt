@@ -4,7 +4,7 @@ use Rattle.str0m_sdp.specs.declared.label.TheConstants as label
 use Rattle.str0m_signal.proofs.Common.{◌≡◌, ℕ, ◌<◌, List, ◌∷◌, ◌++◌, length, Option, Some, None, refl, ap, subst, ◌∙◌, arith, ltb-true}
 use Rattle.str0m_signal.proofs.Common.{lt-ltb, append-nil, some_pair_parts, Lacks, IsNum, ◌>>=◌, cut, strip, when, is_rest, num, cut_none}
 use Rattle.str0m_signal.proofs.Common.{cut_none_lacks, cut_at, cut_found, strip_found, when_some, num_found, num_reads, number_lacks}
-use Rattle.str0m_signal.proofs.Common.{rest_true, bind_some, some_is, Codec, codec_of, read_as, Reads, IsReadAs, IsWithout, read_only}
+use Rattle.str0m_signal.proofs.Common.{num_rest_true, bind_some, some_is, Codec, codec_of, read_as, Reads, IsReadAs, IsWithout, read_only}
 use Rattle.str0m_signal.specs.form.RtpMap.{IsChannels, IsRtpMap}
 use Rattle.str0m_signal.specs.form.RtpMapReading.{frequency_read, clock_read, mapping_read, rtpmap_fields_read}
 
@@ -91,7 +91,7 @@ rtpmap_given text fields h =
       channels_lack h.channels h.clock,
       cut_at 47 h.codec,
       cut_at 32 h.number,
-      rest_true h.codec h.codec_is.0.0,
+      num_rest_true h.codec h.codec_is.0.0,
       read_only h.codec,
       num_reads 127 h.number,
     )

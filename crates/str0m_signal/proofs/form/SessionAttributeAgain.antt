@@ -4,9 +4,10 @@ use Rattle.str0m_sdp.specs.declared.label.TheConstants as label
 use Rattle.str0m_signal.proofs.Common.{arith, ℕ, true, List, ◌++◌, refl, sym, subst, lit≤, inl, inr, session_attribute_text}
 use Rattle.str0m_signal.proofs.Common.{SessionAttribute, reads_first, Reads, session_words}
 use Rattle.str0m_signal.proofs.form.FormPiecesAgain.{behind_again}
-use Rattle.str0m_signal.proofs.form.FormTableAgain.{Kept, PrintsAgain, Whole, laws_of, quiet_again, made_again, entire, text_kept}
+use Rattle.str0m_signal.proofs.form.FormTableAgain.{KeptPiece, PrintsAgain, WholeForm, laws_of, quiet_again, made_again, form_entire}
+use Rattle.str0m_signal.proofs.form.FormTableAgain.{text_kept}
 use Rattle.str0m_signal.proofs.form.FormTableAgain.{labelled_whole, words_whole, all_labelled_whole, any_again}
-use Rattle.str0m_signal.proofs.form.FormTableLaws.{Lawful, AllOf, ◌also◌, any_lawful, labelled_lawful, made_lawful, unused_reads}
+use Rattle.str0m_signal.proofs.form.FormTableLaws.{Lawful, AllOfForms, ◌also◌, any_lawful, labelled_lawful, made_lawful, unused_reads}
 use Rattle.str0m_signal.proofs.form.MediaAttributeAgain.{role_kept, candidate_lawful, fingerprint_lawful, candidate_back}
 use Rattle.str0m_signal.proofs.form.MediaAttributeAgain.{printed_fingerprint}
 use Rattle.str0m_signal.proofs.line.LinesLaws.{attribute_both}
@@ -15,7 +16,7 @@ use Rattle.str0m_signal.proofs.line.WordsCharacterStarts.{StartsWithin, behind_s
 use Rattle.str0m_signal.proofs.line.WordsLaws.{group_both, msid_semantic_both}
 use Rattle.str0m_signal.proofs.session.AttributesPrinted.{HoldsNoEnd, line_printed}
 use Rattle.str0m_signal.specs.back.Writable.{IsPrintedAs}
-use Rattle.str0m_signal.specs.form.FormTable.{Form, led_by}
+use Rattle.str0m_signal.specs.form.FormTable.{Form, form_led_by}
 use Rattle.str0m_signal.specs.form.FormTransport.{candidate, fingerprint}
 use Rattle.str0m_signal.specs.form.Forms.{Behind}
 use Rattle.str0m_signal.specs.form.SessionAttribute.{session_texts, group, session_forms, session_read, SessionForm, IsSessionLine}
@@ -27,12 +28,12 @@ abbrev FormComesBack : Form SessionAttribute → Type 0
 FormComesBack = PrintsAgain (λ _. Unit {0}) session_attribute_text (λ _. true)
 
 abbrev KeptForm : Form SessionAttribute → Type 0
-KeptForm = Whole (λ _. Unit {0}) session_attribute_text (λ _. true)
+KeptForm = WholeForm (λ _. Unit {0}) session_attribute_text (λ _. true)
 
 -- no name of a group that was read is empty
 group_comes_back : FormComesBack group
 group_comes_back =
-    made_again (led_by label.GROUP.now (record { Is = IsGroup; read = group_fields_read })) (λ g. Group g.0 g.1)
+    made_again (form_led_by label.GROUP.now (record { Is = IsGroup; read = group_fields_read })) (λ g. Group g.0 g.1)
     (λ g. label.GROUP.now ++ names_text g.0 g.1) (λ text g quiet starts fits h.
     let whole = behind_again group_again label.GROUP.now in
     let filled : Behind label.GROUP.now IsFilledGroup text g =
@@ -40,19 +41,19 @@ group_comes_back =
     let is = whole.form text g filled in
     ((is.0, is.1, is.2.0), quiet_again whole text g quiet filled)) (λ _ _. refl) (λ _. refl)
 
-meaning_kept : Kept (record { Is = IsMsidSemantic; read = msid_semantic_fields_read }) meaning_text
+meaning_kept : KeptPiece (record { Is = IsMsidSemantic; read = msid_semantic_fields_read }) meaning_text
 meaning_kept = record { reads = msid_semantic_both; again = meaning_again }
 
-session_laws : AllOf KeptForm session_forms
+session_laws : AllOfForms KeptForm session_forms
 session_laws =
     words_whole session_words refl refl
     also labelled_whole _ Setup role_kept (λ _. refl) (λ _. refl)
-    also entire (labelled_lawful _ _ group_both) group_comes_back
+    also form_entire (labelled_lawful _ _ group_both) group_comes_back
     also labelled_whole _ _ meaning_kept (λ _. refl) (λ _. refl)
     also all_labelled_whole text_kept session_texts refl (λ _. refl)
-    also entire (made_lawful Fingerprint fingerprint_lawful)
+    also form_entire (made_lawful Fingerprint fingerprint_lawful)
     (made_again fingerprint Fingerprint _ printed_fingerprint (λ _ _. refl) (λ _. refl))
-    also entire (made_lawful Candidate candidate_lawful) (made_again candidate Candidate _ candidate_back (λ _ _. refl) (λ _. refl))
+    also form_entire (made_lawful Candidate candidate_lawful) (made_again candidate Candidate _ candidate_back (λ _ _. refl) (λ _. refl))
     also tt
 
 pub session_line_both : Reads IsSessionLine (read_attribute session_read)

@@ -3,15 +3,16 @@ use Rattle.str0m_sdp.specs.declared.attribute.simulcast.Simulcast.{Simulcast}
 use Rattle.str0m_signal.proofs.Common.{rules, ◌≡◌, ◌≢◌, ℕ, Bool, true, List, [], ◌∷◌, ◌++◌, Option, Some, None, refl, sym, ap, subst, ◌∙◌}
 use Rattle.str0m_signal.proofs.Common.{arith, inl, inr, codes, is_some, ltb-true, and_parts, and_from, RestrictionId, SimulcastLayer}
 use Rattle.str0m_signal.proofs.Common.{name_text, ◌>>=◌, cut, strip, when, lacks, Parted, Lacks, IsRest, Sound, bind_some, some_is}
-use Rattle.str0m_signal.proofs.Common.{sound_or, cut_none, cut_at, cut_found, strip_found, lacks_true, lacks_from, when_some, when_true}
-use Rattle.str0m_signal.proofs.Common.{rest_true, Reads, chars}
-use Rattle.str0m_signal.proofs.form.FormLaws.{behind_both}
+use Rattle.str0m_signal.proofs.Common.{sound_or, cut_none, cut_at, cut_found, strip_found, lacks_true, lacks_from, when_some, num_when_true}
+use Rattle.str0m_signal.proofs.Common.{num_rest_true, Reads, chars}
+use Rattle.str0m_signal.proofs.form.FormLaws.{form_behind_both}
 use Rattle.str0m_signal.proofs.line.PartLaws.{parted_both}
 use Rattle.str0m_signal.specs.form.FormReading.{behind, parted_read}
 use Rattle.str0m_signal.specs.form.Forms.{Behind, Two}
 use Rattle.str0m_signal.specs.form.RidStreamName.{is_name_character, IsStreamName, is_stream_name}
 use Rattle.str0m_signal.specs.form.Simulcast.{IsAlternative, IsLayer, IsSide, AreSides, IsSimulcast}
-use Rattle.str0m_signal.specs.form.SimulcastReading.{alternative_after, alternative_read, first_after, layer_read, side_read, sides_after}
+use Rattle.str0m_signal.specs.form.SimulcastReading.{alternative_after, alternative_read, first_layer_name_after, layer_read, side_read}
+use Rattle.str0m_signal.specs.form.SimulcastReading.{sides_after}
 use Rattle.str0m_signal.specs.form.SimulcastReading.{sides_read, layers_of, simulcast_fields_read}
 
 -- ---- names
@@ -20,7 +21,7 @@ pub name_from : (text : List ℕ) → is_stream_name text ≡ true → IsStreamN
 name_from text e = grind (arith, and_parts, is_name_character, chars, ltb-true, lacks_from)
 
 pub name_true : (text : List ℕ) → IsStreamName text → is_stream_name text ≡ true
-name_true text h = grind (arith, and_from, rest_true, is_name_character, chars, lacks_true)
+name_true text h = grind (arith, and_from, num_rest_true, is_name_character, chars, lacks_true)
 
 -- ---- alternatives
 
@@ -54,23 +55,24 @@ alternatives_both = parted_both 44 alternative_both alternative_comma
 
 -- ---- what parts lack, the whole lacks
 
-lacks_joined : (c d : ℕ) (a b : List ℕ) → d ≢ c → Lacks c a → Lacks c b → Lacks c (a ++ (d ∷ b))
-lacks_joined c d [] b other h k = (other, k)
-lacks_joined c d (x ∷ xs) b other h k = (h.0, lacks_joined c d xs b other h.1 k)
+simulcast_lacks_joined : (c d : ℕ) (a b : List ℕ) → d ≢ c → Lacks c a → Lacks c b → Lacks c (a ++ (d ∷ b))
+simulcast_lacks_joined c d [] b other h k = (other, k)
+simulcast_lacks_joined c d (x ∷ xs) b other h k = (h.0, simulcast_lacks_joined c d xs b other h.1 k)
 
 pub parted_lacks : {A : Type 0} {F : List ℕ → A → Type 0} (c d : ℕ) → d ≢ c → ((text : List ℕ) (x : A) → F text x → Lacks c text)
     → (xs : List A) (text : List ℕ) → Parted d F text xs → Lacks c text
 parted_lacks c d other lacks [] text h = absurd h
 parted_lacks c d other lacks (x ∷ []) text h = lacks text x h
 parted_lacks c d other lacks (x ∷ (y ∷ ys)) text h = rw h.2
-    (lacks_joined c d h.0 h.1 other (lacks h.0 x h.3) (parted_lacks c d other lacks (y ∷ ys) h.1 h.4))
+    (simulcast_lacks_joined c d h.0 h.1 other (lacks h.0 x h.3) (parted_lacks c d other lacks (y ∷ ys) h.1 h.4))
 
 -- ---- layers
 
-first_found : (text : List ℕ) (id : RestrictionId) (o : Option (List ℕ × List ℕ)) → cut 44 text ≡ o → first_after text o ≡ Some id
+simulcast_first_layer_found : (text : List ℕ) (id : RestrictionId) (o : Option (List ℕ × List ℕ)) → cut 44 text ≡ o
+    → first_layer_name_after text o ≡ Some id
     → (others : List RestrictionId) × Parted 44 IsAlternative text (id ∷ others)
-first_found text id None is e = ([], alternative_both.sound text id e)
-first_found text id (Some p) is e =
+simulcast_first_layer_found text id None is e = ([], alternative_both.sound text id e)
+simulcast_first_layer_found text id (Some p) is e =
     let a = bind_some (alternative_read p.0) (λ x. when (is_some (parted_read 44 alternative_read p.1)) x) id e in
     let w = when_some (is_some (parted_read 44 alternative_read p.1)) a.0 id a.2 in
     let first : IsAlternative p.0 id = alternative_both.sound p.0 id (a.1 ∙ ap (λ (x : RestrictionId). Some x) w.1) in
@@ -87,19 +89,29 @@ first_found text id (Some p) is e =
     others_of None e some front joined first = absurd cc
     others_of (Some others) e some front joined first = listed front joined first others (alternatives_both.sound p.1 others e)
 
-first_given : (text : List ℕ) (id : RestrictionId) (others : List RestrictionId) → Parted 44 IsAlternative text (id ∷ others)
-    → first_after text (cut 44 text) ≡ Some id
-first_given text id others h = grind (arith, cut_none, alternative_comma, alternative_both, cut_at, when_true, alternatives_both)
+simulcast_first_layer_given : (text : List ℕ) (id : RestrictionId) (others : List RestrictionId)
+    → Parted 44 IsAlternative text (id ∷ others)
+    → first_layer_name_after text (cut 44 text) ≡ Some id
+simulcast_first_layer_given text id others h = grind (
+  arith,
+  cut_none,
+  alternative_comma,
+  alternative_both,
+  cut_at,
+  num_when_true,
+  alternatives_both,
+)
 
 layer_both : Reads IsLayer layer_read
 layer_both = record {
   sound = λ text layer e.
-      let a = bind_some (first_after text (cut 44 text)) (λ id. Some (record { restriction_id = id; attributes = None })) layer e in
-      let found = first_found text a.0 (cut 44 text) refl a.1 in
+      let a = bind_some (first_layer_name_after text (cut 44 text)) (λ id. Some (record { restriction_id = id; attributes = None })) layer e
+      in
+      let found = simulcast_first_layer_found text a.0 (cut 44 text) refl a.1 in
       subst (IsLayer text) (some_is (record { restriction_id = a.0; attributes = None }) layer a.2) (found.0, found.1, refl);
   complete = λ text layer h.
       ap (λ (o : Option RestrictionId). o >>= λ id. Some (record { restriction_id = id; attributes = None }))
-      (first_given text layer.restriction_id h.0 h.1)
+      (simulcast_first_layer_given text layer.restriction_id h.0 h.1)
       ∙ ap (λ (attributes : Option (List (List ℕ × List ℕ))). let made : SimulcastLayer = record {
         restriction_id = layer.restriction_id;
         attributes = attributes;
@@ -127,41 +139,41 @@ side_space text layers h = parted_lacks {F = IsLayer} 32 59 (λ e. absurd (omega
 -- ---- sides
 
 -- one side after its word, or the other one after it
-abbrev AreOrdered : List ℕ → List ℕ → List SimulcastLayer → List SimulcastLayer → Type 0
-AreOrdered other text first [] = IsSide text first
-AreOrdered other text first (x ∷ second) = Two 32 IsSide (Behind other IsSide) text (first, x ∷ second)
+abbrev AreSidesOrdered : List ℕ → List ℕ → List SimulcastLayer → List SimulcastLayer → Type 0
+AreSidesOrdered other text first [] = IsSide text first
+AreSidesOrdered other text first (x ∷ second) = Two 32 IsSide (Behind other IsSide) text (first, x ∷ second)
 
 sides_found : (other text : List ℕ) (sides : List SimulcastLayer × List SimulcastLayer) (o : Option (List ℕ × List ℕ)) → cut 32 text ≡ o
-    → sides_after other text o ≡ Some sides → AreOrdered other text sides.0 sides.1
+    → sides_after other text o ≡ Some sides → AreSidesOrdered other text sides.0 sides.1
 sides_found other text sides None is e = grind (arith, bind_some, some_is, side_both)
 sides_found other text sides (Some p) is e =
     let a = bind_some (side_read p.0) (λ first. behind other side_read p.1 >>= λ second. Some (first, second)) sides e in
     let b = bind_some (behind other side_read p.1) (λ second. Some (a.0, second)) sides a.2 in
     let found = cut_found 32 text p.0 p.1 is in
-    let second = (behind_both other side_both).sound p.1 b.0 b.1 in
+    let second = (form_behind_both other side_both).sound p.1 b.0 b.1 in
     rw (← some_is (a.0, b.0) sides b.2) (both a.0 b.0 (p.0, p.1, found.0, found.1, side_both.sound p.0 a.0 a.1, second))
   where
     both : (first second : List SimulcastLayer) → Two 32 IsSide (Behind other IsSide) text (first, second)
-        → AreOrdered other text first second
+        → AreSidesOrdered other text first second
     both first [] h = absurd h.5.2
     both first (x ∷ xs) h = h
 
-sides_given : (other text : List ℕ) (first second : List SimulcastLayer) → AreOrdered other text first second
+sides_given : (other text : List ℕ) (first second : List SimulcastLayer) → AreSidesOrdered other text first second
     → sides_read other text ≡ Some (first, second)
 sides_given other text first [] h = rw (cut_none 32 text (side_space text first h), side_both.complete text first h) refl
 sides_given other text first (x ∷ second) h =
     ap (sides_read other) h.2 ∙ rw (
       cut_at 32 h.0 h.1 h.3,
       side_both.complete h.0 first h.4,
-      (behind_both other side_both).complete h.1 (x ∷ second) h.5,
+      (form_behind_both other side_both).complete h.1 (x ∷ second) h.5,
     ) refl
 
 sent_first : (text : List ℕ) (first second : List SimulcastLayer)
-    → Behind (codes "send ") (λ body layers. AreOrdered (codes "recv ") body first second) text first → AreSides text first second
+    → Behind (codes "send ") (λ body layers. AreSidesOrdered (codes "recv ") body first second) text first → AreSides text first second
 sent_first text first second h = grind arith
 
 received_first : (text : List ℕ) (first second : List SimulcastLayer)
-    → Behind (codes "recv ") (λ body layers. AreOrdered (codes "send ") body first second) text first → AreSides text second first
+    → Behind (codes "recv ") (λ body layers. AreSidesOrdered (codes "send ") body first second) text first → AreSides text second first
 received_first text first second h = grind arith
 
 -- what is read after a word, as layers
@@ -169,7 +181,7 @@ abbrev way_read : List ℕ → List ℕ → (List SimulcastLayer → List Simulc
 way_read own other make text = behind own (sides_read other) text >>= λ sides. Some (make sides.0 sides.1)
 
 way_sound : (own other : List ℕ) (make : List SimulcastLayer → List SimulcastLayer → Simulcast)
-    → ((text : List ℕ) (first second : List SimulcastLayer) → Behind own (λ body layers. AreOrdered other body first second) text first
+    → ((text : List ℕ) (first second : List SimulcastLayer) → Behind own (λ body layers. AreSidesOrdered other body first second) text first
     → IsSimulcast text (make first second))
     → Sound IsSimulcast (way_read own other make)
 way_sound own other make form = record {

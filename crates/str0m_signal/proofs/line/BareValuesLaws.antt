@@ -2,7 +2,7 @@
 use Rattle.str0m_signal.proofs.Common.{ℕ, List, [], ◌∷◌, Option, Some, refl, sym, ap, ◌∙◌, arith, codes, FormatParam, BareRange, BarePtList}
 use Rattle.str0m_signal.proofs.Common.{◌>>=◌, strip, num, FirstFit, Parted, Lacks, IsNum, bind_some, some_is, reads_first, cut_at}
 use Rattle.str0m_signal.proofs.Common.{strip_found, number_lacks, num_reads, num_both, Reads, IsEventRange, Unknown}
-use Rattle.str0m_signal.proofs.form.FormLaws.{digits_both, two_both, behind_both}
+use Rattle.str0m_signal.proofs.form.FormLaws.{digits_both, form_two_both, form_behind_both}
 use Rattle.str0m_signal.proofs.line.PartLaws.{parted_both}
 use Rattle.str0m_signal.specs.form.Fmtp.{IsListForm, IsRangeForm, IsAnything}
 use Rattle.str0m_signal.specs.form.FmtpReading.{first_number_read, range_read, list_form_read, range_form_read, bare_read}
@@ -21,11 +21,11 @@ slashed_both = parted_both 47 (num_both 255) num_lacks
 abbrev IsFirstNumber : List ℕ → ℕ → Type 0
 IsFirstNumber text first = (second : ℕ) × (others : List ℕ) × Parted 47 (IsNum 255) text (first ∷ second ∷ others)
 
-first_both : Reads IsFirstNumber first_number_read
-first_both = record {
+bare_first_both : Reads IsFirstNumber first_number_read
+bare_first_both = record {
   sound = λ text first e.
       let a = bind_some (two_read 47 (num 255) (parted_read 47 (num 255)) text) (λ numbers. Some numbers.0) first e in
-      rw (← some_is a.0.0 first a.2) (listed text a.0.0 a.0.1 ((two_both 47 (num_both 255) slashed_both).sound text a.0 a.1));
+      rw (← some_is a.0.0 first a.2) (listed text a.0.0 a.0.1 ((form_two_both 47 (num_both 255) slashed_both).sound text a.0 a.1));
   complete = λ text first h.
       ap first_number_read h.2.2 ∙ rw (
         cut_at 47 h.2.0 h.2.1 (num_lacks h.2.0 first h.2.3),
@@ -56,11 +56,11 @@ list_form_both : Reads IsListForm list_form_read
 list_form_both = record {
   sound = λ more values e.
       let a = bind_some (behind (codes " ") first_number_read more) (λ first. Some (BarePtList first ∷ [])) values e in
-      let is = (behind_both (codes " ") first_both).sound more a.0 a.1 in
+      let is = (form_behind_both (codes " ") bare_first_both).sound more a.0 a.1 in
       (a.0, is.2.0, is.2.1, (is.0, is.1, is.2.2), sym (some_is (BarePtList a.0 ∷ []) values a.2));
   complete = λ more values h.
       ap (λ (o : Option ℕ). o >>= λ first. Some (BarePtList first ∷ []))
-      ((behind_both (codes " ") first_both).complete more h.0 (h.3.0, h.3.1, (h.1, h.2, h.3.2)))
+      ((form_behind_both (codes " ") bare_first_both).complete more h.0 (h.3.0, h.3.1, (h.1, h.2, h.3.2)))
       ∙ ap (λ (t : List FormatParam). Some t) (sym h.4);
 }
 
@@ -68,9 +68,9 @@ range_form_both : Reads IsRangeForm range_form_read
 range_form_both = record {
   sound = λ more values e.
       let a = bind_some (behind (codes " ") range_read more) (λ last. Some (BareRange last ∷ [])) values e in
-      (a.0, (behind_both (codes " ") range_both).sound more a.0 a.1, sym (some_is (BareRange a.0 ∷ []) values a.2));
+      (a.0, (form_behind_both (codes " ") range_both).sound more a.0 a.1, sym (some_is (BareRange a.0 ∷ []) values a.2));
   complete = λ more values h.
-      ap (λ (o : Option ℕ). o >>= λ last. Some (BareRange last ∷ [])) ((behind_both (codes " ") range_both).complete more h.0 h.1)
+      ap (λ (o : Option ℕ). o >>= λ last. Some (BareRange last ∷ [])) ((form_behind_both (codes " ") range_both).complete more h.0 h.1)
       ∙ ap (λ (t : List FormatParam). Some t) (sym h.2);
 }
 

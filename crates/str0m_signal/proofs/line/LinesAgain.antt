@@ -4,7 +4,7 @@ use Rattle.str0m_signal.proofs.Common.{◌≡◌, ◌≢◌, ◌⊎◌, ℕ, Lis
 use Rattle.str0m_signal.proofs.Common.{inl, inr, codes, AllByRecursion, append_assoc, FirstFit, Parted, Lacks, IsWord, IsNum, Lacks-append}
 use Rattle.str0m_signal.proofs.Common.{bandwidth_text, pts_text, formats_text, media_type_text, Bandwidth, MediaLine, MediaType, Proto}
 use Rattle.str0m_signal.proofs.Common.{Sctp, none_reads}
-use Rattle.str0m_signal.proofs.form.FmtpPrinted.{behind_lacks}
+use Rattle.str0m_signal.proofs.form.FmtpPrinted.{fmtp_behind_lacks}
 use Rattle.str0m_signal.proofs.form.FormPiecesAgain.{num_again, parted_again}
 use Rattle.str0m_signal.proofs.line.WordsCharacterStarts.{StartsWithin, front_starts, behind_starts}
 use Rattle.str0m_signal.proofs.session.AttributesPrinted.{HoldsNoEnd, no_end}
@@ -12,14 +12,14 @@ use Rattle.str0m_signal.proofs.session.SectionLaws.{numbers_both}
 use Rattle.str0m_signal.proofs.session.SectionLines.{head_line_read}
 use Rattle.str0m_signal.specs.back.Writable.{IsPrintedAs, HasTypes}
 use Rattle.str0m_signal.specs.back.WritableAgain.{FitsKind}
-use Rattle.str0m_signal.specs.line.Lines.{Chain, Taken, Line, joined, AreLines, OneLine}
+use Rattle.str0m_signal.specs.line.Lines.{Chain, TakenLine, Line, lines_joined, AreLines, OneLine}
 use Rattle.str0m_signal.specs.session.Section.{Head, IsKind, IsHead, IsBandwidth, NoTypes}
 
 -- ---- lines
 
 -- lines of a text in which characters begin close to each other
 abbrev pub IsFine : List Line → Type 0
-IsFine lines = AreLines lines × StartsWithin 3 (joined lines)
+IsFine lines = AreLines lines × StartsWithin 3 (lines_joined lines)
 
 -- the value has the form on some line
 abbrev pub IsOnLine : {A : Type 0} → (List ℕ → A → Type 0) → A → Type 0
@@ -35,17 +35,18 @@ chain_lines F lines [] rest fine h = (tt, subst IsFine h fine)
 chain_lines F lines (a ∷ values) rest fine h = grind (arith, one_line F lines a h.0 fine h.1, chain_lines F h.0 values rest)
 
 pub taken_line : {A : Type 0} (F : List ℕ → A → Type 0) (lines : List Line) (o : Option A) (rest : List Line) → IsFine lines
-    → Taken (OneLine F) lines o rest → IfSome o (IsOnLine F) × IsFine rest
+    → TakenLine (OneLine F) lines o rest → IfSome o (IsOnLine F) × IsFine rest
 taken_line F lines None rest fine h = (tt, subst IsFine h.0 fine)
 taken_line F lines (Some a) rest fine h = one_line F lines a rest fine h
 
 -- the text after `a=`, as the line
-pub record IsBehind (text : List ℕ) : Type 0 where
+pub record IsBehindLine (text : List ℕ) : Type 0 where
   pub quiet : HoldsNoEnd text
   pub starts : StartsWithin 3 text
 
-pub behind_is : (content text : List ℕ) → content ≡ codes "a=" ++ text → HoldsNoEnd content → StartsWithin 3 content → IsBehind text
-behind_is content text e quiet starts = grind arith
+pub line_behind_is : (content text : List ℕ) → content ≡ codes "a=" ++ text → HoldsNoEnd content → StartsWithin 3 content
+    → IsBehindLine text
+line_behind_is content text e quiet starts = grind arith
 
 -- ---- m-lines and bandwidths
 
@@ -97,10 +98,10 @@ pub head_again : (m : MediaLine) → FitsKind m.typ m.proto m.pts → IsOnLine I
 head_again m fits (content, quiet, starts, h) =
     let front = codes "m=" in
     let behind : (c : ℕ) → Lacks c content → Lacks c h.kind × Lacks c h.types = λ c none.
-    let whole = behind_lacks c front _ (subst (Lacks c) h.joined none) in
-    let port = behind_lacks c (codes " ") _ (behind_lacks c h.kind _ whole) in
-    let protocol = behind_lacks c (codes " ") _ (behind_lacks c h.port _ port) in
-    (Lacks-append c h.kind _ whole, behind_lacks c (codes " ") h.types (behind_lacks c h.protocol _ protocol)) in
+    let whole = fmtp_behind_lacks c front _ (subst (Lacks c) h.joined none) in
+    let port = fmtp_behind_lacks c (codes " ") _ (fmtp_behind_lacks c h.kind _ whole) in
+    let protocol = fmtp_behind_lacks c (codes " ") _ (fmtp_behind_lacks c h.port _ port) in
+    (Lacks-append c h.kind _ whole, fmtp_behind_lacks c (codes " ") h.types (fmtp_behind_lacks c h.protocol _ protocol)) in
     let lf = behind 10 quiet.0 in
     let cr = behind 13 quiet.1 in
     let kind = kind_again h.kind m.typ h.kind_is.1 in

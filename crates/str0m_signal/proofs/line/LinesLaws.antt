@@ -5,8 +5,9 @@ use Rattle.str0m_signal.proofs.Common.{rules, ◌≡◌, ◌≢◌, ◌⊎◌, �
 use Rattle.str0m_signal.proofs.Common.{refl, sym, ap, ◌∙◌, arith, inl, inr, ne_eqb, cases_eq, cases_Bool, both_ways, and_right, take, ◌-◌}
 use Rattle.str0m_signal.proofs.Common.{Bor, some_pair_parts, lacks_true, lacks_from, bind_some, if_some, Reads, MatchOption, unwrap_or}
 use Rattle.str0m_signal.proofs.line.PartLaws.{cons_parts}
-use Rattle.str0m_signal.specs.line.Lines.{IsAttributeLine, OneLine, Line, joined, EndsIn, IsLine, AreLines, Lines}
-use Rattle.str0m_signal.specs.line.LinesReading.{read_attribute, line_read, is_crlf, longer, behind_first, line_from, lines_of}
+use Rattle.str0m_signal.specs.line.Lines.{IsAttributeLine, OneLine, Line, lines_joined, EndsIn, IsLine, AreLines, Lines}
+use Rattle.str0m_signal.specs.line.LinesReading.{read_attribute, line_read, is_crlf, longer_line_first, line_behind_first, line_from}
+use Rattle.str0m_signal.specs.line.LinesReading.{lines_of}
 
 nil_cons : (y : ℕ) (ys : List ℕ) → [] ≡ y ∷ ys → ⊥
 nil_cons y ys e = absurd cc
@@ -30,23 +31,24 @@ crlf_parts : (x : ℕ) (xs : List ℕ) → is_crlf x xs ≡ true → (x ≡ 13) 
 crlf_parts x xs e = grind arith
 
 at_crlf : (x : ℕ) (xs : List ℕ) (lines : List Line) → x ≢ 10 → is_crlf x xs ≡ true
-    → line_from x xs lines ≡ record { content = []; ending = 13 ∷ 10 ∷ [] } ∷ behind_first lines
+    → line_from x xs lines ≡ record { content = []; ending = 13 ∷ 10 ∷ [] } ∷ line_behind_first lines
 at_crlf x xs lines other e = rw (ne_eqb x 10 other, e) refl
 
-pub at_other : (x : ℕ) (xs : List ℕ) (lines : List Line) → x ≢ 10 → is_crlf x xs ≡ false → line_from x xs lines ≡ longer x lines
-at_other x xs lines other e = rw (ne_eqb x 10 other, e) refl
+pub line_at_other : (x : ℕ) (xs : List ℕ) (lines : List Line) → x ≢ 10 → is_crlf x xs ≡ false
+    → line_from x xs lines ≡ longer_line_first x lines
+line_at_other x xs lines other e = rw (ne_eqb x 10 other, e) refl
 
-joined_longer : (x : ℕ) (lines : List Line) → joined (longer x lines) ≡ x ∷ joined lines
-joined_longer x lines = grind arith
+line_joined_longer : (x : ℕ) (lines : List Line) → lines_joined (longer_line_first x lines) ≡ x ∷ lines_joined lines
+line_joined_longer x lines = grind arith
 
-pub joined_lines : (text : List ℕ) → joined (lines_of text) ≡ text
+pub joined_lines : (text : List ℕ) → lines_joined (lines_of text) ≡ text
 unfolding lines_of
 joined_lines [] = refl
-joined_lines (x ∷ xs) = search (rules, cases_eq, joined_lines xs, cases_Bool, crlf_parts, at_crlf, at_other, joined_longer)
+joined_lines (x ∷ xs) = search (rules, cases_eq, joined_lines xs, cases_Bool, crlf_parts, at_crlf, line_at_other, line_joined_longer)
 
 -- ---- they are lines
 
-AreLines-behind : (lines : List Line) → AreLines lines → AreLines (behind_first lines)
+AreLines-behind : (lines : List Line) → AreLines lines → AreLines (line_behind_first lines)
 AreLines-behind lines h = grind arith
 
 longer_line : (x : ℕ) (line : Line) (rest : List ℕ) → x ≢ 10 → is_crlf x (line.content ++ (line.ending ++ rest)) ≡ false → IsLine line rest
@@ -54,7 +56,8 @@ longer_line : (x : ℕ) (line : Line) (rest : List ℕ) → x ≢ 10 → is_crlf
 longer_line x line rest other plain h =
     grind (arith, cons_ends 13 x line.content, both_ways (is_crlf x (line.content ++ (line.ending ++ rest))) plain)
 
-AreLines-longer : (x : ℕ) (lines : List Line) → x ≢ 10 → is_crlf x (joined lines) ≡ false → AreLines lines → AreLines (longer x lines)
+AreLines-longer : (x : ℕ) (lines : List Line) → x ≢ 10 → is_crlf x (lines_joined lines) ≡ false → AreLines lines
+    → AreLines (longer_line_first x lines)
 AreLines-longer x lines other plain h = grind (arith, longer_line)
 
 pub lines_are : (text : List ℕ) → AreLines (lines_of text)
@@ -68,7 +71,7 @@ lines_are (x ∷ xs) =
           record { inside = tt; ends = inr (inl refl) },
           AreLines-behind (lines_of xs) (lines_are xs),
         )
-        | inr plain ↦ rw (at_other x xs (lines_of xs) other plain)
+        | inr plain ↦ rw (line_at_other x xs (lines_of xs) other plain)
             (AreLines-longer x (lines_of xs) other (rw joined_lines plain) (lines_are xs))
       ]
     ]
@@ -104,10 +107,10 @@ at_content [] ending rest h = grind arith
 at_content (x ∷ []) ending rest h = grind arith
 at_content (x ∷ (y ∷ ys)) ending rest h =
     let other = h.inside.0 in
-    at_other x (y ∷ ys ++ (ending ++ rest)) (lines_of (y ∷ ys ++ (ending ++ rest))) other (not_crlf x (y ∷ ys) ending rest other h)
-    ∙ ap (longer x) (at_content (y ∷ ys) ending rest (shorter_ends x y ys ending rest h))
+    line_at_other x (y ∷ ys ++ (ending ++ rest)) (lines_of (y ∷ ys ++ (ending ++ rest))) other (not_crlf x (y ∷ ys) ending rest other h)
+    ∙ ap (longer_line_first x) (at_content (y ∷ ys) ending rest (shorter_ends x y ys ending rest h))
 
-pub lines_of_joined : (lines : List Line) → AreLines lines → lines_of (joined lines) ≡ lines
+pub lines_of_joined : (lines : List Line) → AreLines lines → lines_of (lines_joined lines) ≡ lines
 unfolding lines_of
 lines_of_joined [] h = refl
 lines_of_joined (line ∷ lines) h = grind (arith, at_content, lines_of_joined lines h.1)

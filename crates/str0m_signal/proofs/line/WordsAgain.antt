@@ -2,7 +2,7 @@
 use Rattle.str0m_signal.proofs.Common.{◌≡◌, ◌≤◌, ◌<◌, ◌/◌, ◌%◌, ℕ, true, List, [], ◌∷◌, ◌++◌, refl, sym, subst, arith, lit≤, inl, inr}
 use Rattle.str0m_signal.proofs.Common.{codes, digit_value, AllByRecursion, flat_map, join_by, append-nil, Parted, Lacks, IsRest}
 use Rattle.str0m_signal.proofs.Common.{IsLongestBeginning, Lacks-append, digit_glyph, hex_pair, pairs_text, glyph_value}
-use Rattle.str0m_signal.proofs.form.FmtpPrinted.{behind_lacks}
+use Rattle.str0m_signal.proofs.form.FmtpPrinted.{fmtp_behind_lacks}
 use Rattle.str0m_signal.proofs.form.FormPiecesAgain.{Again, text_again, two_again, parted_again}
 use Rattle.str0m_signal.proofs.line.WordsCharacterStarts.{StartsWithin, front_starts, behind_starts, kept_some}
 use Rattle.str0m_signal.specs.form.Forms.{IsText, Two}
@@ -17,8 +17,8 @@ word_again = grind arith
 pub kept_again : (room : ℕ) (text kept : List ℕ) → IsLongestBeginning room text kept → IsLongestBeginning room kept kept
 kept_again room text kept h = grind (arith, append-nil)
 
-pub kept_lacks : (c room : ℕ) (text kept : List ℕ) → IsLongestBeginning room text kept → Lacks c text → Lacks c kept
-kept_lacks c room text kept h lacks = Lacks-append c kept h.begins.0 (subst (Lacks c) h.begins.1 lacks)
+pub word_kept_lacks : (c room : ℕ) (text kept : List ℕ) → IsLongestBeginning room text kept → Lacks c text → Lacks c kept
+word_kept_lacks c room text kept h lacks = Lacks-append c kept h.begins.0 (subst (Lacks c) h.begins.1 lacks)
 
 -- a name of which something is kept
 abbrev pub IsFilledName : List ℕ → List ℕ → Type 0
@@ -27,8 +27,8 @@ IsFilledName text name = IsName text name × IsRest name
 name_again : Again IsFilledName (λ x. x)
 name_again = record {
   form = λ text name h.
-      (((h.1, kept_lacks 32 16 text name h.0.1 h.0.0.1), kept_again 16 text name h.0.1), h.1);
-  lacks = λ c far text name h lacks. kept_lacks c 16 text name h.0.1 lacks;
+      (((h.1, word_kept_lacks 32 16 text name h.0.1 h.0.0.1), kept_again 16 text name h.0.1), h.1);
+  lacks = λ c far text name h lacks. word_kept_lacks c 16 text name h.0.1 lacks;
 }
 
 -- ---- bytes
@@ -54,10 +54,10 @@ pairs_are_joined bytes = grind arith
 -- ---- groups
 
 -- no name is empty
-abbrev pub AreFilled : List (List ℕ) → Type 0
-AreFilled names = AllByRecursion IsRest names
+abbrev pub AreWordsFilled : List (List ℕ) → Type 0
+AreWordsFilled names = AllByRecursion IsRest names
 
-names_filled : (text : List ℕ) (names : List (List ℕ)) → StartsWithin 3 text → Parted 32 IsName text names → AreFilled names
+names_filled : (text : List ℕ) (names : List (List ℕ)) → StartsWithin 3 text → Parted 32 IsName text names → AreWordsFilled names
 names_filled text [] starts h = tt
 names_filled text (x ∷ []) starts h = (kept_some text x h.0.0 starts h.1, tt)
 names_filled text (x ∷ (y ∷ ys)) starts h =
@@ -66,16 +66,17 @@ names_filled text (x ∷ (y ∷ ys)) starts h =
       names_filled h.1 (y ∷ ys) (behind_starts 3 (codes " ") h.1 (lit≤ tt) (behind_starts 3 h.0 (32 ∷ h.1) (lit≤ tt) whole)) h.4,
     )
 
-kind_and_names : (text typ : List ℕ) (names : List (List ℕ)) → StartsWithin 3 text → AreNames text typ names → AreFilled names
+kind_and_names : (text typ : List ℕ) (names : List (List ℕ)) → StartsWithin 3 text → AreNames text typ names → AreWordsFilled names
 kind_and_names text typ [] starts h = tt
 kind_and_names text typ (name ∷ names) starts h =
     grind (arith, names_filled h.1 (name ∷ names), behind_starts 3 h.0 (32 ∷ h.1), behind_starts 3 (codes " ") h.1)
 
 -- no name of a group that was read is empty
-pub group_filled : (text : List ℕ) (group : List ℕ × List (List ℕ)) → StartsWithin 3 text → IsGroup text group → AreFilled group.1
+pub group_filled : (text : List ℕ) (group : List ℕ × List (List ℕ)) → StartsWithin 3 text → IsGroup text group → AreWordsFilled group.1
 group_filled text group starts h = grind (arith, kind_and_names, front_starts)
 
-filled_names : (text : List ℕ) (names : List (List ℕ)) → Parted 32 IsName text names → AreFilled names → Parted 32 IsFilledName text names
+filled_names : (text : List ℕ) (names : List (List ℕ)) → Parted 32 IsName text names → AreWordsFilled names
+    → Parted 32 IsFilledName text names
 filled_names text [] h filled = h
 filled_names text (x ∷ []) h filled = (h, filled.0)
 filled_names text (x ∷ (y ∷ ys)) h filled = (h.0, h.1, h.2, (h.3, filled.0), filled_names h.1 (y ∷ ys) h.4 filled.1)
@@ -91,14 +92,14 @@ group_filled_again = two_again 32 (lit≤ tt) text_again (parted_again name_agai
 abbrev pub names_text : List ℕ → List (List ℕ) → List ℕ
 names_text typ names = typ ++ flat_map (λ name. codes " " ++ name) names
 
-names_form : (text typ : List ℕ) (names : List (List ℕ)) → AreNames text typ names → AreFilled names
+names_form : (text typ : List ℕ) (names : List (List ℕ)) → AreNames text typ names → AreWordsFilled names
     → AreNames (names_text typ names) typ names
 names_form text typ [] h filled = grind (arith, append-nil, word_again)
 names_form text typ (name ∷ names) h filled =
     let is = group_filled_again.form text (typ, name ∷ names) (h.0, h.1, h.2, h.3, h.4, filled_names h.1 (name ∷ names) h.5 filled) in
     (is.0, is.1, is.2, is.3, is.4, only_names is.1 (name ∷ names) is.5)
 
-names_lack : (c : ℕ) → 16 ≤ digit_value c → (text typ : List ℕ) (names : List (List ℕ)) → AreNames text typ names → AreFilled names
+names_lack : (c : ℕ) → 16 ≤ digit_value c → (text typ : List ℕ) (names : List (List ℕ)) → AreNames text typ names → AreWordsFilled names
     → Lacks c text → Lacks c (names_text typ names)
 names_lack c far text typ [] h filled lacks =
     subst (Lacks c) (sym (append-nil typ)) (word_again.lacks c far text typ h lacks)
@@ -107,7 +108,7 @@ names_lack c far text typ (name ∷ names) h filled lacks =
 
 -- a group none of whose names is empty
 abbrev pub IsFilledGroup : List ℕ → List ℕ × List (List ℕ) → Type 0
-IsFilledGroup text group = IsGroup text group × AreFilled group.1
+IsFilledGroup text group = IsGroup text group × AreWordsFilled group.1
 
 pub group_again : Again IsFilledGroup (λ group. names_text group.0 group.1)
 group_again = record {
@@ -131,8 +132,8 @@ meaning_again = record {
   form = λ text meant h.
       (codes " ", meant.0 ++ (32 ∷ join_by (λ x. x) (codes " ") meant.1), refl, inr refl, meant_again.form h.1 meant h.4);
   lacks = λ c far text meant h lacks.
-      let words : Lacks c h.1 = behind_lacks c h.0 h.1 (subst (Lacks c) h.2 lacks) in
+      let words : Lacks c h.1 = fmtp_behind_lacks c h.0 h.1 (subst (Lacks c) h.2 lacks) in
       let whole : Lacks c (h.4.0 ++ (32 ∷ h.4.1)) = subst (Lacks c) h.4.2 words in
-      let space = behind_lacks c h.4.0 (32 ∷ h.4.1) whole in
+      let space = fmtp_behind_lacks c h.4.0 (32 ∷ h.4.1) whole in
       (space.0, meant_again.lacks c far h.1 meant h.4 words);
 }

@@ -4,17 +4,17 @@ use Rattle.str0m_signal.proofs.Common.{◌⊎◌, ◌≤◌, ◌<◌, ◌+◌, �
 use Rattle.str0m_signal.proofs.Common.{IsCharBoundary, cases_lt, IsRest, IsLongestBeginning, IsUtf8, encode_utf8_all}
 
 -- a byte inside a character
-abbrev IsInside : ℕ → Type 0
-IsInside b = (128 ≤ b) × (b < 192)
+abbrev IsInsideCharacter : ℕ → Type 0
+IsInsideCharacter b = (128 ≤ b) × (b < 192)
 
 -- a character begins after at most k bytes, and from each on after at most three
 abbrev pub StartsWithin : ℕ → List ℕ → Type 0
 StartsWithin k [] = Unit {0}
-StartsWithin k (x ∷ xs) = (IsInside x × (0 < k) × StartsWithin (k - 1) xs) ⊎ (¬ (IsInside x) × StartsWithin 3 xs)
+StartsWithin k (x ∷ xs) = (IsInsideCharacter x × (0 < k) × StartsWithin (k - 1) xs) ⊎ (¬ (IsInsideCharacter x) × StartsWithin 3 xs)
 
 -- ---- of UTF-8
 
-inside : (n : ℕ) → IsInside (128 + n % 64)
+inside : (n : ℕ) → IsInsideCharacter (128 + n % 64)
 inside n = (omega arith, omega arith)
 
 one_character : (c k : ℕ) (rest : List ℕ) → ((j : ℕ) → StartsWithin j rest) → StartsWithin k (encode_utf8 c ++ rest)
@@ -47,7 +47,7 @@ behind_starts k (x ∷ xs) ys small (inr (no', more)) = behind_starts 3 xs ys (l
 
 -- ---- what is kept
 
-outside : (y : ℕ) → ¬ (IsInside y) → 128 ≤ y → 192 ≤ y
+outside : (y : ℕ) → ¬ (IsInsideCharacter y) → 128 ≤ y → 192 ≤ y
 outside y no' high = elim (cases_lt y 192) [ inl low ↦ absurd (no' (high, low)) | inr above ↦ above ]
 
 boundary : (k : ℕ) (xs : List ℕ) → k ≤ 3 → StartsWithin k xs → (n : ℕ) × (n ≤ k) × IsCharBoundary xs n

@@ -4,7 +4,7 @@ use Rattle.str0m_signal.proofs.Common.{arith, inl, inr, codes, digit_value, lt-l
 use Rattle.str0m_signal.proofs.Common.{Parted, Lacks, IsRest, IsNum, beginning_is, beginning_only, bind_some, if_some, some_is, cut_none}
 use Rattle.str0m_signal.proofs.Common.{cut_none_lacks, cut_at, cut_found, strip_found, lacks_true, lacks_from, number_lacks, num_both}
 use Rattle.str0m_signal.proofs.Common.{Reads, append-nil}
-use Rattle.str0m_signal.proofs.form.FormLaws.{text_both, two_both}
+use Rattle.str0m_signal.proofs.form.FormLaws.{text_both, form_two_both}
 use Rattle.str0m_signal.proofs.line.PartLaws.{parted_both}
 use Rattle.str0m_signal.specs.form.FormReading.{text_read, two_read, parted_read}
 use Rattle.str0m_signal.specs.form.Forms.{IsText, Two}
@@ -143,7 +143,7 @@ group_both = record {
 -- ---- semantics of streams
 
 semantic_fields : Reads (Two 32 IsText (Parted 32 IsWordText)) (two_read 32 text_read (parted_read 32 word_text_read))
-semantic_fields = two_both 32 text_both words_both
+semantic_fields = form_two_both 32 text_both words_both
 
 no_space_ahead : (a b : List ℕ) → IsRest a → Lacks 32 a → strip (codes " ") (a ++ b) ≡ None
 no_space_ahead [] b h lacks = absurd (omega (arith, h))

@@ -1,7 +1,7 @@
 -- Printed attribute lines and their parts.
 use Rattle.str0m_signal.proofs.Common.{◌≡◌, ◌⊎◌, ◌≤◌, ◌<◌, ◌^◌, ℕ, true, List, [], ◌∷◌, ◌++◌, refl, sym, subst, arith, lit≤, inl, inr}
 use Rattle.str0m_signal.proofs.Common.{codes, digit_value, decimal, decimal_is_IsNumeral, lacks, Lacks, IsNum, lacks_from, digits_lack}
-use Rattle.str0m_signal.proofs.Common.{attribute_line, MediaAttribute, lacks_both, decimal_reads}
+use Rattle.str0m_signal.proofs.Common.{attribute_line, MediaAttribute, address_lacks_both, decimal_reads}
 use Rattle.str0m_signal.specs.back.Writable.{IsPrintedAs}
 use Rattle.str0m_signal.specs.form.FormTable.{any}
 use Rattle.str0m_signal.specs.form.MediaAttribute.{media_forms, MediaForm, IsMediaLine}
@@ -32,7 +32,7 @@ abbrev pub HoldsNoEnd : List ℕ → Type 0
 HoldsNoEnd text = Lacks 10 text × Lacks 13 text
 
 pub no_ends : (xs ys : List ℕ) → HoldsNoEnd xs → HoldsNoEnd ys → HoldsNoEnd (xs ++ ys)
-no_ends xs ys h k = (lacks_both 10 xs ys h.0 k.0, lacks_both 13 xs ys h.1 k.1)
+no_ends xs ys h k = (address_lacks_both 10 xs ys h.0 k.0, address_lacks_both 13 xs ys h.1 k.1)
 
 pub no_end : (text : List ℕ) → lacks 10 text ≡ true → lacks 13 text ≡ true → HoldsNoEnd text
 no_end text e f = (lacks_from 10 text e, lacks_from 13 text f)

@@ -2,19 +2,20 @@
 use Rattle.std.proofs.Math.Seq.{drop-append_seam}
 use Rattle.str0m_signal.proofs.Common.{rules, ◌≡◌, ℕ, List, [], ◌∷◌, ◌++◌, length, Some, refl, sym, ap, subst, ◌∙◌, arith, inl, inr, codes}
 use Rattle.str0m_signal.proofs.Common.{ltb-true, bytes_eq-Decides, some_pair_parts, Lacks, ◌>>=◌, cut, strip, when, is_rest, cut_at}
-use Rattle.str0m_signal.proofs.Common.{cut_found, strip_found, when_some, when_true, bind_some, some_is, AllByRecursion, drop, digits_lack}
-use Rattle.str0m_signal.proofs.Common.{rest_true, reads_either, Reads}
+use Rattle.str0m_signal.proofs.Common.{cut_found, strip_found, when_some, num_when_true, bind_some, some_is, AllByRecursion, drop}
+use Rattle.str0m_signal.proofs.Common.{digits_lack}
+use Rattle.str0m_signal.proofs.Common.{num_rest_true, reads_either, Reads}
 use Rattle.str0m_signal.proofs.form.FormLaws.{digits_both}
 use Rattle.str0m_signal.proofs.line.LinesLaws.{line_found, line_given}
 use Rattle.str0m_signal.proofs.session.SectionLaws.{field_both}
 use Rattle.str0m_signal.specs.form.FormReading.{digits_read}
 use Rattle.str0m_signal.specs.line.Lines.{Line}
-use Rattle.str0m_signal.specs.session.Header.{IsExactly, IsDigits, IsOrigin, IsOneField, IsInfo, IsOpening}
+use Rattle.str0m_signal.specs.session.Header.{IsExactly, IsDigits, IsOrigin, IsOneField, IsInfo, IsHeaderOpening}
 use Rattle.str0m_signal.specs.session.HeaderReading.{exact_read, origin_read, one_field_read, info_read, opening_read}
 use Rattle.str0m_signal.specs.session.Section.{IsField}
 
-pub exact_both : (word : List ℕ) → Reads (IsExactly word) (exact_read word)
-exact_both word = grind (arith, when_some, bytes_eq-Decides, when_true)
+pub header_exact_line_both : (word : List ℕ) → Reads (IsExactly word) (exact_read word)
+header_exact_line_both word = grind (arith, when_some, bytes_eq-Decides, num_when_true)
 
 -- at most 64 bits
 origin_digits : Reads IsDigits (digits_read 18446744073709551615)
@@ -61,49 +62,52 @@ origin_both = record { sound = found; complete = given }
         let lacks : Lacks 32 h.number = digits_lack 32 h.number (omega arith) h.number_is.numeral.1 in
         ap origin_read h.joined ∙ rw (
           cut_at 32 h.name behind h.name_is.1,
-          rest_true h.name h.name_is.0,
+          num_rest_true h.name h.name_is.0,
           cut_at 32 h.number h.more lacks,
           origin_digits.complete h.number id h.number_is,
-          rest_true h.more h.more_is,
+          num_rest_true h.more h.more_is,
         ) refl
 
-one_behind : (letter : List ℕ) → length letter ≡ 2 → (content text : List ℕ) → IsField letter content text → text ≡ drop 2 content
-one_behind letter two content text h = sym (rw (h.0, ← two) (drop-append_seam letter text))
+header_one_field_behind : (letter : List ℕ) → length letter ≡ 2 → (content text : List ℕ) → IsField letter content text
+    → text ≡ drop 2 content
+header_one_field_behind letter two content text h = sym (rw (h.0, ← two) (drop-append_seam letter text))
 
 -- what a field of two characters says stands after them
 field_behind : (letters : List (List ℕ)) → AllByRecursion (λ letter. length letter ≡ 2) letters → (content text : List ℕ)
     → IsOneField letters content text → text ≡ drop 2 content
 field_behind [] two content text h = absurd h
 field_behind (letter ∷ letters) two content text h = elim h
-    [ inl k ↦ one_behind letter two.0 content text k | inr k ↦ field_behind letters two.1 content text k ]
+    [ inl k ↦ header_one_field_behind letter two.0 content text k | inr k ↦ field_behind letters two.1 content text k ]
 
 fields_both : (letters : List (List ℕ)) → AllByRecursion (λ letter. length letter ≡ 2) letters
     → Reads (IsOneField letters) (one_field_read letters)
 fields_both [] two = record { sound = λ content text e. absurd cc; complete = λ content text h. absurd h }
 fields_both (letter ∷ letters) two =
     reads_either (field_both letter) (fields_both letters two.1)
-    (λ content text other h k. one_behind letter two.0 content text h ∙ sym (field_behind letters two.1 content other k))
+    (λ content text other h k. header_one_field_behind letter two.0 content text h ∙ sym (field_behind letters two.1 content other k))
 
 pub info_both : Reads IsInfo info_read
 info_both = search (rules, fields_both)
 
-pub opening_found : (lines : List Line) (id : ℕ) (rest : List Line) → opening_read lines ≡ Some (id, rest) → IsOpening lines id rest
-opening_found lines id rest e =
+pub header_opening_found : (lines : List Line) (id : ℕ) (rest : List Line) → opening_read lines ≡ Some (id, rest)
+    → IsHeaderOpening lines id rest
+header_opening_found lines id rest e =
     search (
       rules,
       bind_some,
       some_pair_parts,
       line_found,
       line_found (field_both (codes "s=")),
-      exact_both,
+      header_exact_line_both,
       origin_both,
       field_both (codes "s="),
     )
 
-pub opening_given : (lines : List Line) (id : ℕ) (rest : List Line) → IsOpening lines id rest → opening_read lines ≡ Some (id, rest)
-opening_given lines id rest h =
+pub header_opening_given : (lines : List Line) (id : ℕ) (rest : List Line) → IsHeaderOpening lines id rest
+    → opening_read lines ≡ Some (id, rest)
+header_opening_given lines id rest h =
     rw (
-      line_given (exact_both (codes "v=0")) lines (codes "v=0") h.after_version h.version_is,
+      line_given (header_exact_line_both (codes "v=0")) lines (codes "v=0") h.after_version h.version_is,
       line_given origin_both h.after_version id h.after_origin h.origin_is,
       line_given (field_both (codes "s=")) h.after_origin h.name rest h.name_is,
     ) refl

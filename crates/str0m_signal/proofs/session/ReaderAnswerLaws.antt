@@ -2,7 +2,7 @@
 use Rattle.str0m_sdp.specs.declared.session.error.SdpError.TheVariants.{ParseError, Inconsistent, Memory}
 use Rattle.str0m_signal.proofs.Common.{arith, ◌≡◌, ℕ, List, Option, Result, Ok, Err, sym, ap, subst, ◌∙◌, Bor, none-some, SdpError, Reads}
 use Rattle.str0m_signal.proofs.Common.{IsErrAnd}
-use Rattle.str0m_signal.proofs.line.LinesChainLaws.{OnlyOne, one_line_only}
+use Rattle.str0m_signal.proofs.line.LinesChainLaws.{OnlyOneLine, one_line_only}
 use Rattle.str0m_signal.proofs.line.LinesLaws.{joined_lines, lines_both, lines_only, line_found, line_given, pair_is}
 use Rattle.str0m_signal.specs.line.Lines.{Line, OneLine, OfText, FirstLine}
 use Rattle.str0m_signal.specs.line.LinesReading.{lines_of, line_read, left}
@@ -17,7 +17,7 @@ text_answers S text (Err (ParseError message)) h = λ v k. h (v.0, k.1)
 text_answers S text (Err (Inconsistent message)) h = absurd h
 text_answers S text (Err Memory) h = tt
 
-pub text_one : {A : Type 0} (S : List Line → A → List Line → Type 0) → OnlyOne S → (text : List ℕ) → AtMostOne (OfText S text)
+pub text_one : {A : Type 0} (S : List Line → A → List Line → Type 0) → OnlyOneLine S → (text : List ℕ) → AtMostOne (OfText S text)
 text_one S one text v w h k = grind (arith, lines_only text k.0 k.2, lines_only text h.0 h.2, pair_is v w)
 
 -- what was read of the first line, by a function that reads its form
@@ -43,14 +43,14 @@ pub refused : {V : Type 0} (e : SdpError) (P : V → Type 0) → IsRefusal e →
 refused e P h none = grind arith
 
 -- what a part was refused for refuses the whole
-pub passed_on : {V W : Type 0} (e : SdpError) (P : V → Type 0) (Q : W → Type 0) → Refuses e P → ((w : W) → Q w → (v : V) × P v)
+pub reader_passed_on : {V W : Type 0} (e : SdpError) (P : V → Type 0) (Q : W → Type 0) → Refuses e P → ((w : W) → Q w → (v : V) × P v)
     → Refuses e Q
-passed_on e P Q h of = grind arith
+reader_passed_on e P Q h of = grind arith
 
 -- an error that `?` hands on
-pub handed_on : {X V : Type 0} (view : X → V) (r : Result X SdpError) (e : SdpError) (P : V → Type 0) → IsErrAnd r (λ x. x ≡ e)
+pub reader_handed_on : {X V : Type 0} (view : X → V) (r : Result X SdpError) (e : SdpError) (P : V → Type 0) → IsErrAnd r (λ x. x ≡ e)
     → Refuses e P → Answers view r P
-handed_on view r e P is h = grind arith
+reader_handed_on view r e P is h = grind arith
 
 -- the value alone, whatever is left
 pub one_described : {A : Type 0} (P : A × List ℕ → Type 0) → AtMostOne P → AtMostOne (λ a. (rest : List ℕ) × P (a, rest))

@@ -4,9 +4,10 @@ use Rattle.str0m_formats.specs.format.PairsTriple.{Texts, IsTripleParam}
 use Rattle.str0m_sdp.proofs.{rows_bounded}
 use Rattle.str0m_signal.proofs.Common.{rules, ◌≡◌, ◌⊎◌, arith, param_text, ℕ, Bool, List, [], ◌∷◌, get_or, Option, Result, Ok, Err, All}
 use Rattle.str0m_signal.proofs.Common.{IfOk, inl, inr, subst, sym, MatchBool, Bor, cons_option, All-nil, FormatParam, KeepsToLine}
-use Rattle.str0m_signal.proofs.Common.{HasBoundedRows, MediaAttribute, SdpError, MediaLine, Sdp, FirstFit, IsParsed, AreParsed, AreJoined}
-use Rattle.str0m_signal.proofs.Common.{merged, IsInBounds, KeepsToLines}
-use Rattle.str0m_signal.proofs.form.MediaAttributeAgain.{other_whole, other_again}
+use Rattle.str0m_signal.proofs.Common.{HasBoundedRows, MediaAttribute, SdpError, MediaLine, Sdp, FirstFit, IsParsed, AreParsed}
+use Rattle.str0m_signal.proofs.Common.{AreJoinedPairs}
+use Rattle.str0m_signal.proofs.Common.{merged, IsRowInBounds, KeepsToLines}
+use Rattle.str0m_signal.proofs.form.MediaAttributeAgain.{media_other_whole, other_again}
 use Rattle.str0m_signal.specs.form.Fmtp.{IsPairsForm, IsListForm, IsRangeForm, IsAnything}
 use Rattle.str0m_signal.specs.form.FormTable.{any}
 use Rattle.str0m_signal.specs.form.MediaAttribute.{media_forms, MediaForm, IsMediaLine}
@@ -17,28 +18,29 @@ use Rattle.str0m_signal.specs.session.ReaderAnswers.{Answers, unread}
 -- ---- parameters
 
 -- what has a key of its own keeps to its key's range, and any other parameter prints nothing
-keyed_within : (param : FormatParam) → IsKeyed param ⊎ (param_text param ≡ []) → IsInBounds param
+keyed_within : (param : FormatParam) → IsKeyed param ⊎ (param_text param ≡ []) → IsRowInBounds param
 keyed_within param h = grind arith
 
-parsed_within : (pair : List ℕ × List ℕ) (param : FormatParam) → IsParsed pair param → IsInBounds param
+parsed_within : (pair : List ℕ × List ℕ) (param : FormatParam) → IsParsed pair param → IsRowInBounds param
 parsed_within pair param is = keyed_within param (keyed_or_hidden pair param is)
 
-params_within : (pairs : List (List ℕ × List ℕ)) (params : List FormatParam) → AreParsed pairs params → All IsInBounds params
-params_within [] [] are = All-nil IsInBounds
+params_within : (pairs : List (List ℕ × List ℕ)) (params : List FormatParam) → AreParsed pairs params → All IsRowInBounds params
+params_within [] [] are = All-nil IsRowInBounds
 params_within [] (param ∷ params) are = absurd are
 params_within (pair ∷ pairs) [] are = absurd are
 params_within (pair ∷ pairs) (param ∷ params) are = grind (arith, parsed_within pair param are.0, params_within pairs params are.1)
 
-triple_within : (texts : Texts) (triple : Option FormatParam) (rest : List FormatParam) → IsTripleParam texts triple → All IsInBounds rest
-    → All IsInBounds (cons_option triple rest)
+triple_within : (texts : Texts) (triple : Option FormatParam) (rest : List FormatParam) → IsTripleParam texts triple
+    → All IsRowInBounds rest
+    → All IsRowInBounds (cons_option triple rest)
 triple_within texts triple rest o all = grind arith
 
 read_within : (marked : Bool) (pairs : List (List ℕ × List ℕ)) (params : List FormatParam)
-    → MatchBool marked (AreJoined (merged pairs) params) (AreParsed pairs params) → All IsInBounds params
+    → MatchBool marked (AreJoinedPairs (merged pairs) params) (AreParsed pairs params) → All IsRowInBounds params
 read_within marked pairs params are = grind (arith, triple_within, params_within)
 
 fmtp_within : (more : List ℕ) (values : List FormatParam)
-    → FirstFit IsPairsForm (FirstFit IsListForm (FirstFit IsRangeForm IsAnything)) more values → All IsInBounds values
+    → FirstFit IsPairsForm (FirstFit IsListForm (FirstFit IsRangeForm IsAnything)) more values → All IsRowInBounds values
 fmtp_within more values o = grind (arith, read_within)
 
 -- ---- lines
@@ -46,7 +48,7 @@ fmtp_within more values o = grind (arith, read_within)
 named_keeps : (text : List ℕ) (attr : MediaAttribute) → (any media_forms).Is text attr → KeepsToLine attr
 named_keeps text attr (inl (p, is, e)) = subst KeepsToLine (sym e) is.number_is.fits
 named_keeps text attr (inr (inl (p, is, e))) = subst KeepsToLine (sym e) (is.number_is.fits, fmtp_within is.more p.1 is.values_are)
-named_keeps text attr (inr (inr is)) = (other_whole attr (other_again.passes text attr is)).1
+named_keeps text attr (inr (inr is)) = (media_other_whole attr (other_again.passes text attr is)).1
 
 form_keeps : (text : List ℕ) (attr : MediaAttribute) → MediaForm text attr → KeepsToLine attr
 form_keeps text attr (inl named) = named_keeps text attr named

@@ -1,7 +1,7 @@
 -- The number of the line at which a rest begins: as many lines stand before it as line feeds.
 use Rattle.str0m_signal.proofs.Common.{◌≡◌, ◌≢◌, ◌==◌, ◌+◌, ℕ, List, [], ◌∷◌, ◌++◌, cond, count_by, length, refl, sym, ap, ◌∙◌, arith, inl}
 use Rattle.str0m_signal.proofs.Common.{inr, ne_eqb, Lacks, sum_by-append, sum_by-cons}
-use Rattle.str0m_signal.specs.line.Lines.{Line, joined, IsLine, AreLines}
+use Rattle.str0m_signal.specs.line.Lines.{Line, lines_joined, IsLine, AreLines}
 use Rattle.str0m_signal.specs.session.Reader.{IsFromLine}
 
 abbrev pub line_feeds : List ℕ → ℕ
@@ -21,18 +21,19 @@ one_feed line rest h some = elim h.ends [
   | inr more ↦ elim more [ inl crlf ↦ ap line_feeds crlf | inr last ↦ absurd (some last.1) ]
 ]
 
-nil_behind : (a b : List ℕ) → a ++ b ≡ [] → b ≡ []
-nil_behind [] b e = e
-nil_behind (x ∷ a) b e = absurd cc
+reader_nil_behind : (a b : List ℕ) → a ++ b ≡ [] → b ≡ []
+reader_nil_behind [] b e = e
+reader_nil_behind (x ∷ a) b e = absurd cc
 
-some_joined : (before after : List Line) → joined after ≢ [] → joined (before ++ after) ≢ []
+some_joined : (before after : List Line) → lines_joined after ≢ [] → lines_joined (before ++ after) ≢ []
 some_joined [] after some = some
 some_joined (line ∷ before) after some =
     λ e. some_joined before after some
-    (nil_behind line.ending (joined (before ++ after)) (nil_behind line.content (line.ending ++ joined (before ++ after)) e))
+    (reader_nil_behind line.ending (lines_joined (before ++ after))
+    (reader_nil_behind line.content (line.ending ++ lines_joined (before ++ after)) e))
 
-feeds_before : (before after : List Line) → AreLines (before ++ after) → joined after ≢ []
-    → line_feeds (joined (before ++ after)) ≡ length before + line_feeds (joined after)
+feeds_before : (before after : List Line) → AreLines (before ++ after) → lines_joined after ≢ []
+    → line_feeds (lines_joined (before ++ after)) ≡ length before + line_feeds (lines_joined after)
 feeds_before [] after are some = omega arith
 feeds_before (line ∷ before) after are some = grind (
   arith,

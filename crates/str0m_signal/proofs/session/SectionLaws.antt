@@ -6,15 +6,15 @@ use Rattle.str0m_signal.proofs.Common.{rules, ◌≡◌, ℕ, Bool, false, cond,
 use Rattle.str0m_signal.proofs.Common.{subst, ◌∙◌, arith, codes, is_some, bytes_eq, ltb-true, both_ways, append-nil, Parted}
 use Rattle.str0m_signal.proofs.Common.{bytes_eq-Decides, Bandwidth, AUDIO, VIDEO, MediaType, Proto, IsRest, IsNum, FirstFit, ◌>>=◌, cut}
 use Rattle.str0m_signal.proofs.Common.{strip, when, is_rest, cut_at, cut_found, strip_at, strip_found, when_some, Sound, bind_some, some_is}
-use Rattle.str0m_signal.proofs.Common.{sound_or, reads_first, number_lacks, rest_true, num_both, Reads, false_from_ne_true, APPLICATION}
+use Rattle.str0m_signal.proofs.Common.{sound_or, reads_first, number_lacks, num_rest_true, num_both, Reads, false_from_ne_true, APPLICATION}
 use Rattle.str0m_signal.proofs.line.PartLaws.{parted_both}
-use Rattle.str0m_signal.specs.session.Section.{IsField, IsBandwidth, Begins, IsKind, IsProto, NoTypes, Head, IsHead}
+use Rattle.str0m_signal.specs.session.Section.{IsField, IsBandwidth, TextBegins, IsKind, IsProto, NoTypes, Head, IsHead}
 use Rattle.str0m_signal.specs.session.SectionReading.{field_read, bandwidth_read, unknown_read, media_kind_read, proto_read, numbers_read}
 use Rattle.str0m_signal.specs.session.SectionReading.{no_types_read, types_read, head_read}
 use Rattle.str0m_values.proofs.WordLaws.{word_sound}
 
 pub field_both : (letter : List ℕ) → Reads (IsField letter) (field_read letter)
-field_both letter = grind (arith, bind_some, when_some, ltb-true, strip_found, strip_at, rest_true)
+field_both letter = grind (arith, bind_some, when_some, ltb-true, strip_found, strip_at, num_rest_true)
 
 pub bandwidth_both : Reads IsBandwidth bandwidth_read
 bandwidth_both = record { sound = found; complete = given }
@@ -42,21 +42,22 @@ bandwidth_both = record { sound = found; complete = given }
         )
 
     given : (content : List ℕ) (bw : Bandwidth) → IsBandwidth content bw → bandwidth_read content ≡ Some bw
-    given content bw h = ap bandwidth_read h.0 ∙ rw (cut_at 58 bw.typ bw.val h.1.1, rest_true bw.typ h.1.0, rest_true bw.val h.2) refl
+    given content bw h = ap bandwidth_read h.0 ∙ rw (cut_at 58 bw.typ bw.val h.1.1, num_rest_true bw.typ h.1.0, num_rest_true bw.val h.2)
+        refl
 
 -- ---- kinds and protocols
 
-not_begun : (front text : List ℕ) → is_some (strip front text) ≡ false → Begins front text → ⊥
-not_begun front text e h = grind (arith, strip_at, both_ways)
+section_not_begun : (front text : List ℕ) → is_some (strip front text) ≡ false → TextBegins front text → ⊥
+section_not_begun front text e h = grind (arith, strip_at, both_ways)
 
-begun_not : (front text : List ℕ) → (Begins front text → ⊥) → is_some (strip front text) ≡ false
-begun_not front text h = go (strip front text) refl
+section_begun_not : (front text : List ℕ) → (TextBegins front text → ⊥) → is_some (strip front text) ≡ false
+section_begun_not front text h = go (strip front text) refl
   where
     go : (o : Option (List ℕ)) → strip front text ≡ o → is_some o ≡ false
     go None e = refl
     go (Some rest) e = absurd (h (rest, strip_found front text rest e))
 
-word_not : (front text : List ℕ) → (Begins front text → ⊥) → bytes_eq text front ≡ false
+word_not : (front text : List ℕ) → (TextBegins front text → ⊥) → bytes_eq text front ≡ false
 word_not front text h = false_from_ne_true (bytes_eq text front) (λ e. h ([], (bytes_eq-Decides text front).0 e ∙ sym (append-nil front)))
 
 unknown_sound : Sound IsKind unknown_read
@@ -72,9 +73,9 @@ unknown_sound = record {
       subst (IsKind text) w.1 (
         refl,
         ltb-true 0 (length text) w.0,
-        not_begun AUDIO.now text a.0,
-        not_begun VIDEO.now text v.0,
-        not_begun APPLICATION.now text p.0,
+        section_not_begun AUDIO.now text a.0,
+        section_not_begun VIDEO.now text v.0,
+        section_not_begun APPLICATION.now text p.0,
       );
 }
 
@@ -85,7 +86,7 @@ media_kind_complete : (text : List ℕ) (kind : MediaType) → IsKind text kind 
 media_kind_complete text Audio h = rw h refl
 media_kind_complete text Video h = rw h refl
 media_kind_complete text Application h = rw h refl
-media_kind_complete text (Unknown name) h = search (rules, word_not, begun_not, rest_true)
+media_kind_complete text (Unknown name) h = search (rules, word_not, section_begun_not, num_rest_true)
 
 kind_filled : (text : List ℕ) (kind : MediaType) → IsKind text kind → IsRest text
 kind_filled text kind h = grind arith
@@ -107,8 +108,8 @@ numbers_both = parted_both 32 (num_both 255) (λ text n h. number_lacks 32 text 
 no_types_both : Reads NoTypes no_types_read
 no_types_both = record {
   sound = λ text ns e. let u = cond_none (is_some (strip (codes " ") text)) (Some []) ns e in
-      (sym (some_is [] ns u.1), not_begun (codes " ") text u.0);
-  complete = λ text ns h. rw (begun_not (codes " ") text h.1) (ap (λ (t : List ℕ). Some t) (sym h.0));
+      (sym (some_is [] ns u.1), section_not_begun (codes " ") text u.0);
+  complete = λ text ns h. rw (section_begun_not (codes " ") text h.1) (ap (λ (t : List ℕ). Some t) (sym h.0));
 }
 
 types_both : Reads (FirstFit (Parted 32 (IsNum 255)) NoTypes) types_read
@@ -177,7 +178,7 @@ head_given content head h =
       cut_at 32 h.port behind_port h.port_is.0.1,
       cut_at 32 h.protocol h.types h.protocol_is.0.1,
       media_kind_complete h.kind head.typ h.kind_is.1,
-      rest_true h.port h.port_is.0.0,
+      num_rest_true h.port h.port_is.0.0,
       proto_complete h.protocol head.proto h.protocol_is.1,
       types_both.complete h.types head.pts h.types_are,
     )

@@ -38,13 +38,13 @@ IsPair text pair (Some more) = (before : List ℕ) × (after : List ℕ) × (tex
     × IsKey pair.0 × IsValue pair.1 × AreBlanks before × AreBlanks after × StartsUnblank more
 
 -- one or more pairs, where F says how each stands before what follows it
-abbrev pub OneByOne : (List ℕ → List ℕ × List ℕ → Option (List ℕ) → Type 0) → List ℕ → List (List ℕ × List ℕ) → Type 0
-OneByOne F text [] = ⊥
-OneByOne F text (p ∷ []) = F text p None
-OneByOne F text (p ∷ q ∷ qs) = (more : List ℕ) × F text p (Some more) × OneByOne F more (q ∷ qs)
+abbrev pub ArePairsOneByOne : (List ℕ → List ℕ × List ℕ → Option (List ℕ) → Type 0) → List ℕ → List (List ℕ × List ℕ) → Type 0
+ArePairsOneByOne F text [] = ⊥
+ArePairsOneByOne F text (p ∷ []) = F text p None
+ArePairsOneByOne F text (p ∷ q ∷ qs) = (more : List ℕ) × F text p (Some more) × ArePairsOneByOne F more (q ∷ qs)
 
 abbrev pub ArePairs : List ℕ → List (List ℕ × List ℕ) → Type 0
-ArePairs = OneByOne IsPair
+ArePairs = ArePairsOneByOne IsPair
 
 -- SP and pairs, blanks before them
 abbrev pub IsPairsForm : List ℕ → List FormatParam → Type 0

@@ -61,11 +61,11 @@ unfoldable pub pairs_at : (List ℕ → Option ((List ℕ × List ℕ) × Option
 pairs_at f zero text = None
 pairs_at f (suc n) text = f text >>= λ p. pairs_after (pairs_at f n) p.0 p.1
 
-abbrev pub one_by_one : (List ℕ → Option ((List ℕ × List ℕ) × Option (List ℕ))) → List ℕ → Option (List (List ℕ × List ℕ))
-one_by_one f text = pairs_at f (suc (length text)) text
+abbrev pub fmtp_one_by_one : (List ℕ → Option ((List ℕ × List ℕ) × Option (List ℕ))) → List ℕ → Option (List (List ℕ × List ℕ))
+fmtp_one_by_one f text = pairs_at f (suc (length text)) text
 
 abbrev pub pairs_read : List ℕ → Option (List (List ℕ × List ℕ))
-pairs_read = one_by_one pair_read
+pairs_read = fmtp_one_by_one pair_read
 
 abbrev pub pairs_form_read : List ℕ → Option (List FormatParam)
 pairs_form_read more = do

@@ -27,14 +27,14 @@ two_read c f g text = do
   Some (first, second)
 
 -- what f reads before the first c; what stands after it is dropped
-abbrev pub tail_after : {A : Type 0} → (List ℕ → Option A) → List ℕ → Option (List ℕ × List ℕ) → Option A
-tail_after f text None = f text
-tail_after f text (Some parts) = do
+abbrev pub tailed_piece_after : {A : Type 0} → (List ℕ → Option A) → List ℕ → Option (List ℕ × List ℕ) → Option A
+tailed_piece_after f text None = f text
+tailed_piece_after f text (Some parts) = do
   x ← f parts.0
   when (is_rest parts.1) x
 
 abbrev pub tailed_read : {A : Type 0} → ℕ → (List ℕ → Option A) → List ℕ → Option A
-tailed_read c f text = tail_after f text (cut c text)
+tailed_read c f text = tailed_piece_after f text (cut c text)
 
 -- what f reads of each piece
 abbrev pub all_read : {A : Type 0} → (List ℕ → Option A) → List (List ℕ) → Option (List A)

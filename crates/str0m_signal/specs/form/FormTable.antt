@@ -2,7 +2,7 @@
 use Rattle.std.specs.Prelude.{◌≡◌, ◌⊎◌, ◌++◌, ◌∷◌, [], ℕ, Bool, true, false, List, Option, Some, None, ◌==◌, ◌||◌, if◌then◌else◌}
 use Rattle.str0m_signal.specs.Prelude.{IsNum, IsRest, Parted, is_rest, num, when, ◌<|>◌, ◌>>=◌}
 use Rattle.str0m_signal.specs.form.FormReading.{alone, behind, text_read, two_read, tailed_read, parted_read}
-use Rattle.str0m_signal.specs.form.Forms.{Behind, IsText, Two, IsBeforeTail}
+use Rattle.str0m_signal.specs.form.Forms.{Behind, IsText, Two, IsBeforeDroppedTail}
 
 -- ---- parts of a text
 
@@ -19,8 +19,8 @@ number limit = record { Is = IsNum limit; read = num limit }
 abbrev pub two : {A B : Type 0} → ℕ → Piece A → Piece B → Piece (A × B)
 two c first second = record { Is = Two c first.Is second.Is; read = two_read c first.read second.read }
 
-abbrev pub tailed : {A : Type 0} → ℕ → Piece A → Piece A
-tailed c piece = record { Is = IsBeforeTail c piece.Is; read = tailed_read c piece.read }
+abbrev pub tailed_piece : {A : Type 0} → ℕ → Piece A → Piece A
+tailed_piece c piece = record { Is = IsBeforeDroppedTail c piece.Is; read = tailed_read c piece.read }
 
 -- two texts, with a space between them
 abbrev pub two_texts : Piece (List ℕ × List ℕ)
@@ -42,8 +42,8 @@ abbrev pub own : {A : Type 0} → List ℕ → (List ℕ → A → Type 0) → (
 own label Is read = record { labels = label ∷ []; Is = Is; read = read }
 
 -- a label, and a piece after it
-abbrev pub led_by : {A : Type 0} → List ℕ → Piece A → Form A
-led_by label piece = own label (Behind label piece.Is) (behind label piece.read)
+abbrev pub form_led_by : {A : Type 0} → List ℕ → Piece A → Form A
+form_led_by label piece = own label (Behind label piece.Is) (behind label piece.read)
 
 -- the same texts, which stand for what is made of their values
 abbrev pub made_as : {A B : Type 0} → Form A → (A → B) → Form B
@@ -54,16 +54,16 @@ made_as {A} form make = record {
 }
 
 abbrev pub labelled : {A B : Type 0} → List ℕ → Piece A → (A → B) → Form B
-labelled label piece make = made_as (led_by label piece) make
+labelled label piece make = made_as (form_led_by label piece) make
 
 -- a word alone, after which the line ends
 abbrev pub word : {A : Type 0} → List ℕ → A → Form A
 word name x = record { labels = (name ++ (10 ∷ [])) ∷ []; Is = λ text y. (text ≡ name) × (y ≡ x); read = alone name x }
 
 -- P holds of one of these
-abbrev pub AnyOf {ℓ} : {X : Type ℓ} → (X → Type 0) → List X → Type 0
-AnyOf P [] = ⊥
-AnyOf P (x ∷ xs) = P x ⊎ AnyOf P xs
+abbrev pub AnyOfForms {ℓ} : {X : Type ℓ} → (X → Type 0) → List X → Type 0
+AnyOfForms P [] = ⊥
+AnyOfForms P (x ∷ xs) = P x ⊎ AnyOfForms P xs
 
 abbrev pub labels_of : {A : Type 0} → List (Form A) → List (List ℕ)
 labels_of [] = []
@@ -77,7 +77,7 @@ first_read (form ∷ other ∷ forms) text = form.read text <|> first_read (othe
 
 -- one of these forms
 abbrev pub any : {A : Type 0} → List (Form A) → Form A
-any forms = record { labels = labels_of forms; Is = λ text x. AnyOf (λ form. form.Is text x) forms; read = first_read forms }
+any forms = record { labels = labels_of forms; Is = λ text x. AnyOfForms (λ form. form.Is text x) forms; read = first_read forms }
 
 abbrev pub words_of : {A : Type 0} → List (List ℕ × A) → List (Form A)
 words_of [] = []
@@ -114,18 +114,18 @@ abbrev pub first_byte : List ℕ → ℕ
 first_byte [] = 10
 first_byte (x ∷ xs) = x
 
-abbrev pub begins_with : ℕ → List (List ℕ) → Bool
-begins_with letter [] = false
-begins_with letter (label ∷ labels) = (first_byte label == letter) || begins_with letter labels
+abbrev pub form_begins_with : ℕ → List (List ℕ) → Bool
+form_begins_with letter [] = false
+form_begins_with letter (label ∷ labels) = (first_byte label == letter) || form_begins_with letter labels
 
-abbrev only_if : {A : Type 0} → Bool → Form A → List (Form A) → List (Form A)
-only_if true form forms = form ∷ forms
-only_if false form forms = forms
+abbrev form_if : {A : Type 0} → Bool → Form A → List (Form A) → List (Form A)
+form_if true form forms = form ∷ forms
+form_if false form forms = forms
 
 -- the forms with a label that begins with this letter
 abbrev pub beginning : {A : Type 0} → ℕ → List (Form A) → List (Form A)
 beginning letter [] = []
-beginning letter (form ∷ forms) = only_if (begins_with letter form.labels) form (beginning letter forms)
+beginning letter (form ∷ forms) = form_if (form_begins_with letter form.labels) form (beginning letter forms)
 
 abbrev pub letter_read : {A : Type 0} → List (Form A) → ℕ → List ℕ → Option A
 letter_read forms letter text = first_read (beginning letter forms) text

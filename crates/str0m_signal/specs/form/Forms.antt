@@ -15,9 +15,9 @@ abbrev pub Two : {A B : Type 0} → ℕ → (List ℕ → A → Type 0) → (Lis
 Two c F G text pair = (front : List ℕ) × (rest : List ℕ) × (text ≡ front ++ (c ∷ rest)) × Lacks c front × F front pair.0 × G rest pair.1
 
 -- nothing, or c and one or more characters, which aren't kept
-abbrev pub IsTail : ℕ → List ℕ → Type 0
-IsTail c text = (text ≡ []) ⊎ ((rest : List ℕ) × (text ≡ c ∷ rest) × IsRest rest)
+abbrev pub IsDroppedTail : ℕ → List ℕ → Type 0
+IsDroppedTail c text = (text ≡ []) ⊎ ((rest : List ℕ) × (text ≡ c ∷ rest) × IsRest rest)
 
 -- what stands before the first c, with its value, and such a tail
-abbrev pub IsBeforeTail : {A : Type 0} → ℕ → (List ℕ → A → Type 0) → List ℕ → A → Type 0
-IsBeforeTail c F text x = (front : List ℕ) × (tail : List ℕ) × (text ≡ front ++ tail) × Lacks c front × F front x × IsTail c tail
+abbrev pub IsBeforeDroppedTail : {A : Type 0} → ℕ → (List ℕ → A → Type 0) → List ℕ → A → Type 0
+IsBeforeDroppedTail c F text x = (front : List ℕ) × (tail : List ℕ) × (text ≡ front ++ tail) × Lacks c front × F front x × IsDroppedTail c tail

@@ -2,10 +2,10 @@
 use Rattle.std.specs.Prelude.{ℕ, true, List, [], ◌∷◌, Option, codes}
 use Rattle.str0m_sdp.specs.declared.attribute.MediaAttribute.TheVariants.{Rtcp, IceUfrag, IcePwd, IceOptions, Fingerprint, Setup, Mid, SctpPort, MaxMessageSize, SctpInit, ExtMap, Msid, Candidate, RtpMap, RtcpFb, Fmtp, Rid, Simulcast, SsrcGroup, Ssrc, Unused}
 use Rattle.str0m_sdp.specs.declared.label.TheConstants as label
-use Rattle.str0m_signal.specs.Prelude.{FirstFit, IsLongestBeginning, IsRest, MediaAttribute, beginning_of, is_rest, media_words, when, ◌<|>◌}
+use Rattle.str0m_signal.specs.Prelude.{FirstFit, IsLongestBeginning, IsRest, MediaAttribute, text_beginning_of, is_rest, media_words, when, ◌<|>◌}
 use Rattle.str0m_signal.specs.form.Fmtp.{IsFmtp}
 use Rattle.str0m_signal.specs.form.FmtpReading.{fmtp_fields_read}
-use Rattle.str0m_signal.specs.form.FormTable.{Piece, Form, own, a_text, number, two, tailed, parted, labelled, made_as, any, any_word, texts, pairs, IsUnused, unused_read, first_byte, by_letter}
+use Rattle.str0m_signal.specs.form.FormTable.{Piece, Form, own, a_text, number, two, tailed_piece, parted, labelled, made_as, any, any_word, texts, pairs, IsUnused, unused_read, first_byte, by_letter}
 use Rattle.str0m_signal.specs.form.FormTransport.{ice_texts, candidate, fingerprint, setup}
 use Rattle.str0m_signal.specs.form.Rid.{IsRid}
 use Rattle.str0m_signal.specs.form.RidReading.{rid_fields_read}
@@ -26,7 +26,7 @@ rtcp = labelled label.RTCP.now a_text Rtcp
 
 -- a name, as far as it is kept
 abbrev pub name : Piece (List ℕ)
-name = record { Is = λ text mid. IsRest text × IsLongestBeginning 16 text mid; read = λ text. when (is_rest text) (beginning_of 16 text) }
+name = record { Is = λ text mid. IsRest text × IsLongestBeginning 16 text mid; read = λ text. when (is_rest text) (text_beginning_of 16 text) }
 
 abbrev pub mid : Form MediaAttribute
 mid = labelled label.MID.now name Mid
@@ -42,7 +42,7 @@ sctp_init = labelled label.SCTP_INIT.now a_text SctpInit
 
 abbrev pub ext_map : Form MediaAttribute
 ext_map =
-    labelled label.EXTMAP.now (two 32 (tailed 47 (number 255)) (tailed 32 a_text)) (λ p. ExtMap p.0 (record { uri = p.1; serialized = true }))
+    labelled label.EXTMAP.now (two 32 (tailed_piece 47 (number 255)) (tailed_piece 32 a_text)) (λ p. ExtMap p.0 (record { uri = p.1; serialized = true }))
 
 abbrev pub rtpmap : Form MediaAttribute
 rtpmap = made_as (own label.RTPMAP.now (λ text p. IsRtpMap text p.0 p.1) rtpmap_fields_read) (λ p. RtpMap p.0 p.1)

@@ -23,13 +23,13 @@ abbrev pub AreTyped : List ℕ → List ℕ × List (List ℕ × List ℕ) → T
 AreTyped text lists = (Parted 44 IsPt text lists.0 × (lists.1 ≡ [])) ⊎ Two 59 (Parted 44 IsPt) AreRestrictions text lists
 
 -- payload types where the text begins with their label, else restrictions alone
-abbrev pub AreLists : List ℕ → List ℕ × List (List ℕ × List ℕ) → Type 0
-AreLists text lists = Behind (codes "pt=") AreTyped text lists
+abbrev pub AreRidLists : List ℕ → List ℕ × List (List ℕ × List ℕ) → Type 0
+AreRidLists text lists = Behind (codes "pt=") AreTyped text lists
     ⊎ (((rest : List ℕ) → text ≢ codes "pt=" ++ rest) × (lists.0 ≡ []) × AreRestrictions text lists.1)
 
 -- nothing, or a space and the lists
-abbrev pub IsMore : List ℕ → List ℕ × List (List ℕ × List ℕ) → Type 0
-IsMore text lists = ((text ≡ []) × (lists ≡ ([], []))) ⊎ Behind (codes " ") AreLists text lists
+abbrev pub IsRidMore : List ℕ → List ℕ × List (List ℕ × List ℕ) → Type 0
+IsRidMore text lists = ((text ≡ []) × (lists ≡ ([], []))) ⊎ Behind (codes " ") AreRidLists text lists
 
 -- `send` or `recv`
 abbrev pub IsDirection : List ℕ → Type 0
@@ -37,7 +37,7 @@ IsDirection word = (word ≡ codes "send") ⊎ (word ≡ codes "recv")
 
 -- a direction, and more
 abbrev pub IsDirected : List ℕ → List ℕ × (List ℕ × List (List ℕ × List ℕ)) → Type 0
-IsDirected text fields = (more : List ℕ) × (text ≡ fields.0 ++ more) × IsDirection fields.0 × IsMore more fields.1
+IsDirected text fields = (more : List ℕ) × (text ≡ fields.0 ++ more) × IsDirection fields.0 × IsRidMore more fields.1
 
 -- the name, a space, the direction and more
 abbrev pub IsRid : List ℕ → RestrictionId × (List ℕ × (List ℕ × List (List ℕ × List ℕ))) → Type 0

@@ -18,15 +18,15 @@ abbrev pub IsSide : List ℕ → List SimulcastLayer → Type 0
 IsSide = Parted 59 IsLayer
 
 -- two sides, each after its word
-abbrev pub AreBoth : List ℕ → List ℕ → List ℕ → List SimulcastLayer × List SimulcastLayer → Type 0
-AreBoth first second = Behind first (Two 32 IsSide (Behind second IsSide))
+abbrev pub AreBothSides : List ℕ → List ℕ → List ℕ → List SimulcastLayer × List SimulcastLayer → Type 0
+AreBothSides first second = Behind first (Two 32 IsSide (Behind second IsSide))
 
 -- one side, or both in any order
 abbrev pub AreSides : List ℕ → List SimulcastLayer → List SimulcastLayer → Type 0
 AreSides text [] [] = ⊥
 AreSides text (s ∷ send) [] = Behind (codes "send ") IsSide text (s ∷ send)
 AreSides text [] (r ∷ recv) = Behind (codes "recv ") IsSide text (r ∷ recv)
-AreSides text (s ∷ send) (r ∷ recv) = AreBoth (codes "send ") (codes "recv ") text (s ∷ send, r ∷ recv) ⊎ AreBoth (codes "recv ") (codes "send ") text (r ∷ recv, s ∷ send)
+AreSides text (s ∷ send) (r ∷ recv) = AreBothSides (codes "send ") (codes "recv ") text (s ∷ send, r ∷ recv) ⊎ AreBothSides (codes "recv ") (codes "send ") text (r ∷ recv, s ∷ send)
 
 abbrev pub IsSimulcast : List ℕ → Simulcast → Type 0
 IsSimulcast text simulcast = AreSides text simulcast.send.0 simulcast.recv.0 × (simulcast.is_munged ≡ false)

@@ -14,14 +14,14 @@ abbrev pub alternative_read : List ℕ → Option RestrictionId
 alternative_read text = alternative_after text (strip (codes "~") text)
 
 -- the first alternative, where the others are alternatives too
-abbrev pub first_after : List ℕ → Option (List ℕ × List ℕ) → Option RestrictionId
-first_after text None = alternative_read text
-first_after text (Some parts) = do
+abbrev pub first_layer_name_after : List ℕ → Option (List ℕ × List ℕ) → Option RestrictionId
+first_layer_name_after text None = alternative_read text
+first_layer_name_after text (Some parts) = do
   id ← alternative_read parts.0
   when (is_some (parted_read 44 alternative_read parts.1)) id
 
 abbrev pub first_name_read : List ℕ → Option RestrictionId
-first_name_read text = first_after text (cut 44 text)
+first_name_read text = first_layer_name_after text (cut 44 text)
 
 abbrev pub layer_read : List ℕ → Option SimulcastLayer
 layer_read text = first_name_read text >>= λ id. Some (record { restriction_id = id; attributes = None })

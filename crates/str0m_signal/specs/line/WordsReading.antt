@@ -1,14 +1,14 @@
 -- Reading of lists of words as functions.
 use Rattle.std.specs.Char.{digit_value}
 use Rattle.std.specs.Prelude.{ℕ, ◌+◌, ◌*◌, ◌==◌, nat_lt, List, [], ◌∷◌, Option, Some, None, codes, if◌then◌else◌}
-use Rattle.str0m_signal.specs.Prelude.{beginning_of, cut, lacks, strip, when, ◌>>=◌}
+use Rattle.str0m_signal.specs.Prelude.{text_beginning_of, cut, lacks, strip, when, ◌>>=◌}
 use Rattle.str0m_signal.specs.form.FormReading.{text_read, two_read, parted_read}
 
 abbrev pub word_text_read : List ℕ → Option (List ℕ)
 word_text_read text = if lacks 32 text then text_read text else None
 
 abbrev pub name_read : List ℕ → Option (List ℕ)
-name_read text = word_text_read text >>= λ word. Some (beginning_of 16 word)
+name_read text = word_text_read text >>= λ word. Some (text_beginning_of 16 word)
 
 abbrev pub digit_read : ℕ → Option ℕ
 digit_read c = when (nat_lt (digit_value c) 16) (digit_value c)

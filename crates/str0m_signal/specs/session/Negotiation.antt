@@ -2,7 +2,7 @@
 use Rattle.std.specs.Prelude.{◌≡◌, ℕ, List, Option, Some, None, map, filter_map, if◌then◌else◌}
 use Rattle.str0m_formats.specs.declared.round.rounds.Round.{Round}
 use Rattle.str0m_formats.specs.round.RoundsPromises.{RunPromises}
-use Rattle.str0m_formats.specs.round.RoundsRuns.{Outcome, Reached}
+use Rattle.str0m_formats.specs.round.RoundsRuns.{Outcome, RunReached}
 use Rattle.str0m_sdp.specs.section.SectionDirection.{section_direction}
 use Rattle.str0m_signal.specs.Prelude.{Direction, MediaLine, PayloadParams, Sdp, is_media, rows}
 use Rattle.str0m_signal.specs.session.Reader.{Described}
@@ -22,7 +22,7 @@ AreRoundsOf sections rounds = map brought rounds ≡ filter_map brought_by secti
 pub record Negotiated (sections : List MediaLine) (before : List PayloadParams) (outcomes : List Outcome) (after : List PayloadParams) : Type 0 where
   pub rounds : List Round
   pub rounds_are : AreRoundsOf sections rounds
-  pub reached : Reached before rounds outcomes after
+  pub reached : RunReached before rounds outcomes after
   pub promises : RunPromises before rounds outcomes after
 
 -- the text describes a session, and its sections are negotiated so

@@ -59,7 +59,7 @@ pub(crate) fn bandwidth_comes_back(
 }
 
 /// Whether the m-line says of the section what it is, but for its payload types.
-fn says_same(head: &MediaHead, section: &MediaLine) -> bool
+fn head_says_same(head: &MediaHead, section: &MediaLine) -> bool
     ensures { IsTrue result ↔ (head.now.typ ≡ section.now.typ) × (head.now.disabled ≡ section.now.disabled) × (head.now.proto ≡ section.now.proto) }
 {
     head.typ == section.typ && head.disabled == section.disabled && head.proto == section.proto
@@ -72,7 +72,7 @@ fn pts_back(alloc: Global, section: &MediaLine) -> Result<Option<Items<Pt>>, All
 {
     let text = section.m_line()?;
     match head_back(alloc, text.as_str())? {
-        Some(head) if says_same(&head, section) => Ok(Some(head.pts)),
+        Some(head) if head_says_same(&head, section) => Ok(Some(head.pts)),
         _ => Ok(None),
     }
 }

@@ -15,7 +15,7 @@ use crate::form::rid::rid;
 use crate::form::rtp_map::rtp_map;
 use crate::form::simulcast::simulcast_line;
 use crate::form::sources::{rtcp_fb, ssrc, ssrc_group};
-use crate::line::fields::{both_kept, kept, num_u64, role, short};
+use crate::line::fields::{both_texts_kept, kept, num_u64, role, short};
 use crate::session::attributes::{Attribute, Place, attribute_run, taken, taken_result};
 use std::alloc::{AllocError, Global};
 use str0m_sdp::{MediaAttribute, Msid, label};
@@ -43,7 +43,7 @@ fn media_text(alloc: Global, text: &str) -> Result<Option<MediaAttribute>, Alloc
 fn labelled_pair(alloc: Global, text: &str) -> Result<Option<MediaAttribute>, AllocError>
     ensures { IfOk result (λ found. found ≡ (pairs media_pairs).read text.now) }
 {
-    match both_kept(alloc, text, label::MSID)? {
+    match both_texts_kept(alloc, text, label::MSID)? {
         Some((stream_id, track_id)) => Ok(Some(MediaAttribute::Msid(Msid {
             stream_id,
             track_id,
@@ -120,7 +120,7 @@ fn mid(text: &str) -> Option<MediaAttribute>
 }
 
 /// The forms whose names begin with `e`.
-fn with_e<P: Place<MediaAttribute>>(
+fn forms_of_e<P: Place<MediaAttribute>>(
     alloc: Global,
     text: &str,
     place: &mut P,
@@ -134,7 +134,7 @@ fn with_e<P: Place<MediaAttribute>>(
 }
 
 /// The forms whose names begin with `f`.
-fn with_f<P: Place<MediaAttribute>>(
+fn forms_of_f<P: Place<MediaAttribute>>(
     alloc: Global,
     text: &str,
     place: &mut P,
@@ -148,7 +148,7 @@ fn with_f<P: Place<MediaAttribute>>(
 }
 
 /// The forms whose names begin with `i`.
-fn with_i<P: Place<MediaAttribute>>(
+fn forms_of_i<P: Place<MediaAttribute>>(
     alloc: Global,
     text: &str,
     place: &mut P,
@@ -179,7 +179,7 @@ fn with_m<P: Place<MediaAttribute>>(
 }
 
 /// The forms whose names begin with `r`.
-fn with_r<P: Place<MediaAttribute>>(
+fn forms_of_r<P: Place<MediaAttribute>>(
     alloc: Global,
     text: &str,
     place: &mut P,
@@ -202,7 +202,7 @@ fn with_r<P: Place<MediaAttribute>>(
 }
 
 /// The forms whose names begin with `s`.
-fn with_s<P: Place<MediaAttribute>>(
+fn forms_of_s<P: Place<MediaAttribute>>(
     alloc: Global,
     text: &str,
     place: &mut P,
@@ -249,12 +249,12 @@ fn media_named<P: Place<MediaAttribute>>(
 {
     match first_byte(text) {
         b'c' => taken_result(media_candidate(alloc, text), place),
-        b'e' => with_e(alloc, text, place),
-        b'f' => with_f(alloc, text, place),
-        b'i' => with_i(alloc, text, place),
+        b'e' => forms_of_e(alloc, text, place),
+        b'f' => forms_of_f(alloc, text, place),
+        b'i' => forms_of_i(alloc, text, place),
         b'm' => with_m(alloc, text, place),
-        b'r' => with_r(alloc, text, place),
-        b's' => with_s(alloc, text, place),
+        b'r' => forms_of_r(alloc, text, place),
+        b's' => forms_of_s(alloc, text, place),
         _ => Ok(false),
     }
 }

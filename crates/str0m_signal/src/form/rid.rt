@@ -5,7 +5,7 @@ ghost use Rattle.str0m_sdp.specs.declared.label.TheConstants as label;
 ghost use Rattle.str0m_signal.specs.Prelude.{parts, when};
 ghost use Rattle.str0m_signal.specs.form.FormReading.{behind, two_read};
 ghost use Rattle.str0m_signal.specs.form.MediaAttribute.{rid};
-ghost use Rattle.str0m_signal.specs.form.RidReading.{lists_of, next_read, restriction_read, restrictions_read, restricted_read, typed_read, lists_read, more_read, direction_read};
+ghost use Rattle.str0m_signal.specs.form.RidReading.{rid_lists_of, next_read, restriction_read, restrictions_read, restricted_read, typed_read, lists_read, more_read, direction_read};
 ghost use Rattle.str0m_signal.specs.form.RidStreamName.{is_stream_name};
 
 use crate::form::simulcast::is_stream_name;
@@ -130,7 +130,7 @@ struct Lists {
 
 /// The lists after `pt=`. Memory is asked for only where both can be read.
 fn typed(alloc: Global, text: &str) -> Result<Option<Lists>, AllocError>
-    ensures { IfOk result (λ found. option_map lists_of found ≡ typed_read text.now) }
+    ensures { IfOk result (λ found. option_map rid_lists_of found ≡ typed_read text.now) }
 {
     let Some((front, behind)) = cut(text, Separator::Semicolon) else {
         return match parts::<Number<127>>(alloc, text, Separator::Comma)? {
@@ -161,7 +161,7 @@ fn typed(alloc: Global, text: &str) -> Result<Option<Lists>, AllocError>
 
 /// The lists after the direction and a space.
 fn listed(alloc: Global, text: &str) -> Result<Option<Lists>, AllocError>
-    ensures { IfOk result (λ found. option_map lists_of found ≡ lists_read text.now) }
+    ensures { IfOk result (λ found. option_map rid_lists_of found ≡ lists_read text.now) }
 {
     if let Some(body) = strip(text, "pt=") {
         return typed(alloc, body);
@@ -180,7 +180,7 @@ fn listed(alloc: Global, text: &str) -> Result<Option<Lists>, AllocError>
 
 /// The lists after the direction.
 fn more(alloc: Global, text: &str) -> Result<Option<Lists>, AllocError>
-    ensures { IfOk result (λ found. option_map lists_of found ≡ more_read text.now) }
+    ensures { IfOk result (λ found. option_map rid_lists_of found ≡ more_read text.now) }
 {
     if text.is_empty() {
         let types = Items::empty(alloc);

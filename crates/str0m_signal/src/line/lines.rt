@@ -3,7 +3,7 @@
 ghost use Rattle.memchr.specs.Find.{IsFirstByte, is_byte2};
 ghost use Rattle.std.specs.Prelude.{◌≡◌, ◌++◌, option_map};
 ghost use Rattle.str0m_signal.specs.Prelude.{Lacks};
-ghost use Rattle.str0m_signal.specs.line.LinesReading.{lines_of, clean_line, behind_end, IsAtEnd, both_left};
+ghost use Rattle.str0m_signal.specs.line.LinesReading.{lines_of, clean_line, behind_end, IsAtEnd, both_lines_left};
 
 use memchr::memchr2;
 use str0m_values::cuts::strip;
@@ -58,7 +58,7 @@ fn behind_end(text: &str) -> Option<&str>
 /// The first line, without its end, and what follows it. A line that holds a carriage return fits no form, so nobody
 /// needs to know where it ends.
 pub(crate) fn clean_line(text: &str) -> Option<(&str, &str)>
-    ensures { option_map both_left result ≡ clean_line (lines_of text.now) }
+    ensures { option_map both_lines_left result ≡ clean_line (lines_of text.now) }
 {
     if text.is_empty() {
         return None;

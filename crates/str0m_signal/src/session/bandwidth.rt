@@ -1,7 +1,7 @@
 //! Lines with a bandwidth.
 
 ghost use Rattle.std.specs.Prelude.{◌≡◌, IfOk, option_map};
-ghost use Rattle.str0m_signal.specs.line.Lines.{Taken, OneLine};
+ghost use Rattle.str0m_signal.specs.line.Lines.{TakenLine, OneLine};
 ghost use Rattle.str0m_signal.specs.line.LinesReading.{lines_of, line_read, left};
 ghost use Rattle.str0m_signal.specs.session.Section.{IsBandwidth};
 ghost use Rattle.str0m_signal.specs.session.SectionReading.{bandwidth_read};
@@ -46,7 +46,7 @@ pub(crate) fn take_bandwidth(
     alloc: Global,
     text: &str,
 ) -> Result<(Option<Bandwidth>, &str), AllocError>
-    ensures { IfOk result (λ found. Taken (OneLine IsBandwidth) (lines_of text.now) found.0 (lines_of found.1.now)) }
+    ensures { IfOk result (λ found. TakenLine (OneLine IsBandwidth) (lines_of text.now) found.0 (lines_of found.1.now)) }
 {
     match read_bandwidth(alloc, text)? {
         Some((bandwidth, rest)) => Ok((Some(bandwidth), rest)),

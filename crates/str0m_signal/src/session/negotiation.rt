@@ -1,7 +1,7 @@
 //! Rounds of negotiation over a whole text.
 
 ghost use Rattle.std.specs.Prelude.{◌≡◌, All, IfErr, IfOk, OnErr, filter_map, map, option_map, ℕ};
-ghost use Rattle.str0m_signal.specs.Prelude.{AllDistinct, HasBoundedRows, IsPlain, Sdp, types};
+ghost use Rattle.str0m_signal.specs.Prelude.{AllTypesDistinct, HasBoundedRows, IsPlain, Sdp, types};
 ghost use Rattle.str0m_signal.specs.back.ReadBack.{MayBePrinted, ReadsBack};
 ghost use Rattle.str0m_signal.specs.back.Writable.{Writable};
 ghost use Rattle.str0m_signal.specs.back.WritableAgain.{IsOverSrtp, IsRead, MayBeWrittenAgain};
@@ -48,7 +48,7 @@ fn negotiate(
     ensures ok { IfOk result (λ outcomes. Negotiated sections.now config.old.params.items outcomes.items config.new.params.items) }
     ensures else_same { config.new ≡ record config.old { params = config.new.params } }
     ensures err { OnErr result (config.new ≡ config.old) }
-    ensures distinct { AllDistinct (types config.old.params.items) → AllDistinct (types config.new.params.items) }
+    ensures distinct { AllTypesDistinct (types config.old.params.items) → AllTypesDistinct (types config.new.params.items) }
     ensures plain { All HasBoundedRows sections.now → All IsPlain config.old.params.items → All IsPlain config.new.params.items }
     ensures printable { All HasBoundedRows sections.now → MayBePrinted config.old.params.items → MayBePrinted config.new.params.items }
 {
@@ -82,7 +82,7 @@ pub fn negotiate_text(
     ensures else_same { config.new ≡ record config.old { params = config.new.params } }
 
     // Whatever is answered, payload types that were distinct are distinct, and rows that were plain are plain.
-    ensures distinct { AllDistinct (types config.old.params.items) → AllDistinct (types config.new.params.items) }
+    ensures distinct { AllTypesDistinct (types config.old.params.items) → AllTypesDistinct (types config.new.params.items) }
     ensures plain { All IsPlain config.old.params.items → All IsPlain config.new.params.items }
     ensures printable { MayBePrinted config.old.params.items → MayBePrinted config.new.params.items }
 

@@ -1,6 +1,7 @@
 use Rattle.lint.proofs.Common.{◌≡◌, ◌+◌, ◌≤◌, [], Bool, List, map, length, ap, ◌∙◌, sym, subst, arith, rules, on_ok_weaker, sdp_text}
 use Rattle.lint.proofs.Common.{lines_of}
-use Rattle.lint.proofs.FindingsLaws.{empty_rest, first_unread, same_as_printed, some_lines, tells_rest, tells_whole, unread_numbered}
+use Rattle.lint.proofs.FindingsLaws.{finding_rest_is_empty, first_unread, same_as_printed, some_lines, tells_rest, tells_whole}
+use Rattle.lint.proofs.FindingsLaws.{unread_numbered}
 use Rattle.lint.proofs.found.note_read.Goals as goal
 use Rattle.lint.specs.Findings.{KeepsUnread}
 use Rattle.lint.specs.Kept.{is_unread, kept_at, kept_flags}
@@ -19,7 +20,7 @@ returns-then-is_empty-clause-tells c = λ last.
     let keeps : KeepsUnread (kept_at (kept_flags sdp) (attribute_numbers 1 (lines_of text))) old mid =
     subst (λ (fs : List Bool). KeepsUnread (kept_at fs (attribute_numbers 1 (lines_of text))) old mid) flags
     (c.in_ok-note_attributes.ensures.keeps fits) in
-    let none : c.args.rest.now ≡ [] = empty_rest c.args.rest.now (sym c.is_empty.ensures ∙ c.if-is_empty.true) in
+    let none : c.args.rest.now ≡ [] = finding_rest_is_empty c.args.rest.now (sym c.is_empty.ensures ∙ c.if-is_empty.true) in
     let printed : c.as_str.result.now ≡ sdp_text sdp = search rules in
     let changed = same_as_printed text c.text_before.result.now c.as_str.result.now sdp mid new (c.text_before.ensures none) printed
     c.in_ok-note_changes.ensures.changed in

@@ -1,5 +1,5 @@
 -- `into_parts` moves two fields of a full handle, and what they own goes with them.
-use Rattle.c_parts.proofs.PartsFullness.{full_is}
+use Rattle.c_parts.proofs.PartsFullness.{part_full_is}
 use Rattle.c_parts.proofs.PartsSteps.{◌≡◌, refl, [], ◌∷◌, ◌++◌, Val, SProp, id⊢, ftrue, fsep, WpFn, fact, tables, ‵, raw, ◌⊛◌, ◌$◌, ◌∵◌, ! }
 use Rattle.c_parts.proofs.PartsSteps.{qed, by, move, keep, use1, rewrite, prop, agg, no_more, and_then, of_opd, returns, enter, alloc_all}
 use Rattle.c_parts.proofs.PartsSteps.{pass_all, free_all, look_at, get, sets, RattleType, yes, type_at, heard, Stays, stay_dropped, walk_of}
@@ -8,7 +8,7 @@ use Rattle.c_parts.proofs.PartsSteps.{field_of}
 use Rattle.c_parts.proofs.SessionHandleAsBox.{SessionBoxed as E, FromSessionHandle as From}
 use Rattle.c_parts.proofs.session_handle.SessionHandle.into_parts.Code as code
 use Rattle.c_parts.proofs.session_handle.SessionHandle.into_parts.Statement.{statement}
-use Rattle.c_parts.specs.Parts.{IsFull}
+use Rattle.c_parts.specs.Parts.{IsRoomFull}
 use Rattle.c_parts.specs.contracts.session_handle.SessionHandle as Handle
 use Rattle.c_parts.specs.contracts.session_handle.SessionHandle.into_parts.{ended, clauses}
 use Rattle.c_parts.specs.contracts.session_handle.SessionHandle.into_parts.Key.{name as #self}
@@ -23,10 +23,10 @@ into_parts_spec 𝓤 𝓛 𝓜 𝓡 wired =
     proved_at 𝓛 ended gone c 𝓜 𝓡 (Goes-dropped 𝓛 0 From yes (λ κs x f. refl), tt) #self fn (code.unfolded 𝓤 H 𝓜 𝓡 wired) (λ z are.
     let Post : Val → SProp 𝓤 = (walk_of 𝓛 ended gone c).post z in let To : RattleType = type_at (ended).signature.result tt in let h =
     z.0.3.0 in
-    qed 𝓛 ((‵ ftrue ⊛ ‵ (fsep ((Handle.the_row).own_val h z.0.4.0) ftrue)) ∷ raw (fact 𝓤 (IsFull h.inner)) ∷ []) ∵
+    qed 𝓛 ((‵ ftrue ⊛ ‵ (fsep ((Handle.the_row).own_val h z.0.4.0) ftrue)) ∷ raw (fact 𝓤 (IsRoomFull h.inner)) ∷ []) ∵
     -- a full handle owns what a box does
-    move ! (1 ∷ []) $ heard ! (IsFull h.inner) (λ full. let x = (full_is h.inner full).0 in
-    let holds : h.inner ≡ Some x = (full_is h.inner full).1 in
+    move ! (1 ∷ []) $ heard ! (IsRoomFull h.inner) (λ full. let x = (part_full_is h.inner full).0 in
+    let holds : h.inner ≡ Some x = (part_full_is h.inner full).1 in
     let held : D E = record { ptr = h.ptr; alloc = h.alloc; value = x } in let made : To.Denot =
     record { ptr = h.ptr; alloc = h.alloc; value = x } in
     takes ! $ rewrite ! 0 (λ (o : Option (X E)). ‵ ((Handle.the_row).own_val (record { ptr = h.ptr; alloc = h.alloc; inner = o }) z.0.4.0))

@@ -1,5 +1,5 @@
 use Rattle.exchange.proofs.Common.{ap, replicate, take_all}
-use Rattle.exchange.proofs.answer.OfferedFeedbackLaws.{none_gathered, other_more, typed_more}
+use Rattle.exchange.proofs.answer.OfferedFeedbackLaws.{none_gathered, feedback_other_more, typed_more}
 use Rattle.exchange.proofs.answer.offered_feedback.gathered.Goals as goal
 use Rattle.exchange.specs.declared.answer.offered_feedback.OfferedFeedback.{OfferedFeedback}
 
@@ -22,7 +22,7 @@ loop-attr-preserved c =
           c.loop-attr.invariant)
       | goal.in_default w ↦
           rw (w.of_types-is, w.of_all-is, w.with_line-of_all.ensures)
-          (other_more attrs of_types of_all i attr lt is w.in_default.not-RtcpFb c.loop-attr.invariant)
+          (feedback_other_more attrs of_types of_all i attr lt is w.in_default.not-RtcpFb c.loop-attr.invariant)
     ]
 
 pub returns : goal.returns

@@ -1,12 +1,12 @@
 use Rattle.exchange.proofs.Common.{arith, ◌≤◌, ◌∙◌, length, sym, take, true≢false, take_all, All-more}
-use Rattle.exchange.proofs.offer.FitsLaws.{first_broken, rules_kept}
+use Rattle.exchange.proofs.offer.FitsLaws.{first_rule_broken, rules_kept}
 use Rattle.exchange.proofs.offer.fits_section.broken_rule.Goals as goal
 use Rattle.exchange.specs.declared.offer.rule.Rule.TheVariants.{Sections}
 use Rattle.exchange.specs.offer.Fits.{Keeps, rules_asked}
 
 pub returns-then-not-branch : goal.returns-then-not-branch
 returns-then-not-branch c =
-    first_broken c.args.ours.now.params.items c.args.answer.now c.args.offered.now c.args.answered.now c.loop-rule.rule-index
+    first_rule_broken c.args.ours.now.params.items c.args.answer.now c.args.offered.now c.args.answered.now c.loop-rule.rule-index
     c.loop-rule-test.true c.loop-rule.invariant (λ kept. true≢false (sym (c.in_ok-keeps.ensures.1 kept) ∙ c.if-not-branch.true))
 
 pub loop-rule-preserved : goal.loop-rule-preserved

@@ -1,10 +1,10 @@
 use Rattle.exchange.proofs.Common.{◌≡◌, ℕ, List, rules, subst, versioned_text}
-use Rattle.exchange.proofs.state.ReadBackLaws.{found_alike, found_back}
+use Rattle.exchange.proofs.state.ReadBackLaws.{read_back_found_alike, found_back}
 use Rattle.exchange.proofs.state.exchange.printable_copy.Goals as goal
 use Rattle.exchange.specs.state.ReadBack.{IsReadBack}
 
 pub copy_over-requires : goal.copy_over-requires
-copy_over-requires c = found_alike c.args.sdp.now _ c.in-Some.copy c.in-Some.is c.in_ok-copy.ensures.alike
+copy_over-requires c = read_back_found_alike c.args.sdp.now _ c.in-Some.copy c.in-Some.is c.in_ok-copy.ensures.alike
 
 pub returns : goal.returns
 returns c =

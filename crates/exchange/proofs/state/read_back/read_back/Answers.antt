@@ -1,10 +1,10 @@
-use Rattle.exchange.proofs.state.ReadBackLaws.{alike_so, none_read_back, read_so, refused_so}
+use Rattle.exchange.proofs.state.ReadBackLaws.{read_back_alike_so, none_read_back, read_so, refused_so}
 use Rattle.exchange.proofs.state.read_back.read_back.Goals as goal
 
 pub returns-in-Ok : goal.returns-in-Ok
 returns-in-Ok c = record {
   exact = read_so _ _ _ _ _ c.in-Ok.ensures.read c.in-Ok.ensures.one c.whole.ensures;
-  alike = alike_so _ _ _ _ c.whole.ensures;
+  alike = read_back_alike_so _ _ _ _ c.whole.ensures;
 }
 
 pub returns-in-Err : goal.returns-in-Err

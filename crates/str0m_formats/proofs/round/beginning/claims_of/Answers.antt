@@ -1,7 +1,7 @@
 use Rattle.str0m_formats.proofs.Common.{Ok, Err, sym, ap, rules, ◌+◌, fun_ext}
 use Rattle.str0m_formats.proofs.round.ClaimSteps.{claims_locked, claims_open, unlocked_locked, unlocked_open, claims_refused}
 use Rattle.str0m_formats.proofs.round.ClaimedSets.{slice_get_item}
-use Rattle.str0m_formats.proofs.round.FirstPass.{IfErr_from, small_at}
+use Rattle.str0m_formats.proofs.round.FirstPass.{IfErr_from, row_types_small_at}
 use Rattle.str0m_formats.proofs.round.beginning.claims_of.Goals as goal
 use Rattle.str0m_formats.proofs.round.beginning.claims_of.Goals.{then-row+in_ok-claim_row, else-row}
 use Rattle.str0m_formats.specs.round.Claims.{claim_each}
@@ -11,7 +11,7 @@ unfolding claim_each
 loop-row-init g c = (ap (λ s. Ok s) (sym (fun_ext c.none_claimed-claimed.ensures)), fun_ext c.none_claimed-unlocked.ensures)
 
 pub claim_row-requires : goal.claim_row-requires
-claim_row-requires g c = small_at c.args.rows.now c.loop-row.row-index c.row-item.result c.requires
+claim_row-requires g c = row_types_small_at c.args.rows.now c.loop-row.row-index c.row-item.result c.requires
     (slice_get_item c.args.rows.now c.loop-row.row-index c.row-item.result c.loop-row-test.true c.row-item.is)
 
 pub returns-in_err-claim_row-clause-err : goal.returns-in_err-claim_row-clause-err
@@ -23,7 +23,7 @@ returns-in_err-claim_row-clause-err g c =
     c.in_err-claim_row.ensures.err))
 
 pub insert_row-requires : goal.insert_row-requires
-insert_row-requires g c = small_at c.args.rows.now c.loop-row.row-index c.row-item.result c.requires
+insert_row-requires g c = row_types_small_at c.args.rows.now c.loop-row.row-index c.row-item.result c.requires
     (slice_get_item c.args.rows.now c.loop-row.row-index c.row-item.result c.loop-row-test.true c.row-item.is)
 
 pub loop-row-preserved : goal.loop-row-preserved

@@ -8,9 +8,11 @@ unfolding free_order
 loop-first-init c = refl
 
 pub returns-then-is_some : goal.returns-then-is_some
-returns-then-is_some c = find-flat_map_here _ range_types _ c.loop-first.first-index (0, 0) c.first_in-found.result c.loop-first-test.true
-    c.first_in-found.ensures (search rules) ∙ c.loop-first.invariant
+returns-then-is_some c = find-flat_map_here _ range_types _ c.loop-first.first-index (0, 0) c.first_unclaimed_in-found.result
+    c.loop-first-test.true
+    c.first_unclaimed_in-found.ensures (search rules) ∙ c.loop-first.invariant
 
 pub loop-first-preserved : goal.loop-first-preserved
-loop-first-preserved c = find-flat_map_more _ range_types _ c.loop-first.first-index (0, 0) c.first_in-found.result c.loop-first-test.true
-    c.first_in-found.ensures (search rules) ∙ c.loop-first.invariant
+loop-first-preserved c = find-flat_map_more _ range_types _ c.loop-first.first-index (0, 0) c.first_unclaimed_in-found.result
+    c.loop-first-test.true
+    c.first_unclaimed_in-found.ensures (search rules) ∙ c.loop-first.invariant

@@ -1,5 +1,5 @@
 use Rattle.str0m_sdp.proofs.Common.{sym, ap, refl, subst, ◌∙◌, ◌<◌, ◌≤◌, ℕ, true≢false, drop_all}
-use Rattle.str0m_sdp.proofs.section.AlikeLaws.{ids_from, firsts_differ, firsts_agree, other_length}
+use Rattle.str0m_sdp.proofs.section.AlikeLaws.{ids_from, first_shown_differ, firsts_agree, other_length}
 use Rattle.str0m_sdp.proofs.section.alike.have_same_names.Goals as goal
 use Rattle.str0m_sdp.specs.section.Alike.{ids}
 
@@ -14,7 +14,7 @@ returns-then-not-has_same_name c =
     let at = ids_from c.args.layers.now c.loop-i.i c.index-layers-i.result c.loop-i-test.true c.index-layers-i.is in
     let inside = subst (λ (n : ℕ). c.loop-i.i < n) c.if-layers-others.false c.loop-i-test.true in
     let other = ids_from c.args.others.now c.loop-i.i c.index-others-i.result inside c.index-others-i.is in
-    firsts_differ _ _ _ _ _ _ c.loop-i.invariant at other
+    first_shown_differ _ _ _ _ _ _ c.loop-i.invariant at other
     (λ same. true≢false (sym (c.has_same_name.ensures.1 (sym same)) ∙ c.if-not-has_same_name.true))
 
 pub loop-i-preserved : goal.loop-i-preserved

@@ -1,5 +1,5 @@
 use Rattle.str0m_sdp.proofs.Common.{sym, ◌∙◌}
-use Rattle.str0m_sdp.proofs.section.FmtpLineLaws.{found_own, found_other}
+use Rattle.str0m_sdp.proofs.section.FmtpLineLaws.{own_line_found, other_line_not_found}
 use Rattle.str0m_sdp.proofs.section.fmtp_lines.find_lines.Goals as goal
 
 pub loop-number-preserved : goal.loop-number-preserved
@@ -10,10 +10,12 @@ loop-number-preserved c =
     let item = c.loop-number-item.result in
     let lt = c.loop-number-test.true in
     let is = c.loop-number-item.is in
-    elim c.if-is_of.branch [
-      | goal.then-is_of+in_ok-push w ↦
+    elim c.if-is_line_of_type.branch [
+      | goal.then-is_line_of_type+in_ok-push w ↦
           rw (w.found-is, w.in_ok-push.ensures.items)
-          (found_own lines found i c.args.pt item lt is (sym c.is_of.ensures ∙ w.if-is_of.true) c.loop-number.invariant)
-      | goal.else-is_of w ↦
-          rw w.found-is (found_other lines found i c.args.pt item lt is (sym c.is_of.ensures ∙ w.if-is_of.false) c.loop-number.invariant)
+          (own_line_found lines found i c.args.pt item lt is (sym c.is_line_of_type.ensures ∙ w.if-is_line_of_type.true)
+          c.loop-number.invariant)
+      | goal.else-is_line_of_type w ↦
+          rw w.found-is (other_line_not_found lines found i c.args.pt item lt is
+          (sym c.is_line_of_type.ensures ∙ w.if-is_line_of_type.false) c.loop-number.invariant)
     ]

@@ -1,6 +1,6 @@
 use Rattle.str0m_sdp.proofs.Common.{◌≡◌, ◌<◌, ℕ, List, Option, None, get_or, length, not, refl, sym, ap, ◌∙◌, get_or-replicate, length-set}
 use Rattle.str0m_sdp.proofs.Common.{is_some, get_or_read}
-use Rattle.str0m_sdp.proofs.section.TypeTableLaws.{first_other, first_kept, first_named}
+use Rattle.str0m_sdp.proofs.section.TypeTableLaws.{table_first_apt_other, table_first_apt_kept, first_named}
 use Rattle.str0m_sdp.proofs.section.type_tables.first_apts.Goals as goal
 
 -- the place that is read, by any default
@@ -36,13 +36,14 @@ loop-attr-preserved c =
           ∙ ap not w.if-is_none.false in
           rw w.firsts-is (
             c.loop-attr.invariant.0,
-            λ pt lt. first_kept attrs firsts i n w.in-Fmtp.values c.attr-item.result c.loop-attr-test.true c.attr-item.is variant full pt
+            λ pt lt. table_first_apt_kept attrs firsts i n w.in-Fmtp.values c.attr-item.result c.loop-attr-test.true c.attr-item.is variant
+                full pt
                 (c.loop-attr.invariant.1 pt lt),
           )
       | goal.in_default w ↦
           rw w.firsts-is (
             c.loop-attr.invariant.0,
-            λ pt lt. first_other attrs firsts i c.attr-item.result c.loop-attr-test.true c.attr-item.is w.in_default.not-Fmtp pt
+            λ pt lt. table_first_apt_other attrs firsts i c.attr-item.result c.loop-attr-test.true c.attr-item.is w.in_default.not-Fmtp pt
                 (c.loop-attr.invariant.1 pt lt),
           )
     ]

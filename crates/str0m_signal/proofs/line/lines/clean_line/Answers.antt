@@ -1,11 +1,11 @@
 use Rattle.str0m_signal.proofs.Common.{ℕ, List, Option, Some, ap, sym, ◌∙◌, ◌>>=◌}
-use Rattle.str0m_signal.proofs.line.LinesEndLaws.{none_of_none, rest_from, clean_cut}
+use Rattle.str0m_signal.proofs.line.LinesEndLaws.{line_none_of_none, rest_from, clean_cut}
 use Rattle.str0m_signal.proofs.line.lines.clean_line.Goals as goal
 use Rattle.str0m_signal.specs.line.Lines.{Line}
 use Rattle.str0m_signal.specs.line.LinesReading.{lines_of}
 
 pub returns-then-is_empty : goal.returns-then-is_empty
-returns-then-is_empty c = none_of_none c.args.text.now (sym c.is_empty.ensures ∙ c.if-is_empty.true)
+returns-then-is_empty c = line_none_of_none c.args.text.now (sym c.is_empty.ensures ∙ c.if-is_empty.true)
 
 abbrev with_rest : List ℕ → Option (List ℕ) → Option (List ℕ × List Line)
 with_rest line found = found >>= λ rest. Some (line, lines_of rest)

@@ -1,5 +1,5 @@
 use Rattle.str0m_signal.proofs.Common.{rules, sym, ◌++◌, ◌∷◌, [], refl, codes}
-use Rattle.str0m_signal.proofs.line.LinesChainLaws.{chain_more, one_fewer, taken_none}
+use Rattle.str0m_signal.proofs.line.LinesChainLaws.{chain_more, chain_one_fewer, chain_taken_none}
 use Rattle.str0m_signal.proofs.line.LinesLaws.{line_found}
 use Rattle.str0m_signal.proofs.session.SectionLaws.{field_both}
 use Rattle.str0m_signal.proofs.session.header.skip_repeats.Goals as goal
@@ -26,10 +26,10 @@ pub loop-after-smaller : goal.loop-after-smaller
 loop-after-smaller c =
     let next = line_found (field_both (codes "r=")) (lines_of c.loop-after.rest.now) c.in-Some.field-0-0.now (lines_of c.in-Some.after.now)
     (sym c.in-Some.ensures) in
-    one_fewer (IsField (codes "r=")) (lines_of c.loop-after.rest.now) c.in-Some.field-0-0.now (lines_of c.in-Some.after.now) next
+    chain_one_fewer (IsField (codes "r=")) (lines_of c.loop-after.rest.now) c.in-Some.field-0-0.now (lines_of c.in-Some.after.now) next
 
 pub returns : goal.returns
 returns c = (
   c.loop-after.invariant.1.0,
-  (c.loop-after.invariant.1.1, (taken_none (field_both (codes "r=")) c.loop-after.rest.now c.in_default.ensures).1),
+  (c.loop-after.invariant.1.1, (chain_taken_none (field_both (codes "r=")) c.loop-after.rest.now c.in_default.ensures).1),
 )

@@ -1,4 +1,4 @@
-use Rattle.str0m_signal.proofs.session.ReaderAnswerLaws.{passed_on, one_described}
+use Rattle.str0m_signal.proofs.session.ReaderAnswerLaws.{reader_passed_on, one_described}
 use Rattle.str0m_signal.proofs.session.offer.described.Goals as goal
 use Rattle.str0m_signal.specs.session.Reader.{Reading, Described}
 
@@ -9,5 +9,5 @@ pub returns-in-Err-clause-one : goal.returns-in-Err-clause-one
 returns-in-Err-clause-one c = one_described (Reading c.args.text.now) c.in-Err.ensures.one
 
 pub returns-in-Err-clause-read : goal.returns-in-Err-clause-read
-returns-in-Err-clause-read c = passed_on c.in-Err.error (Reading c.args.text.now) (Described c.args.text.now) c.in-Err.ensures.read
+returns-in-Err-clause-read c = reader_passed_on c.in-Err.error (Reading c.args.text.now) (Described c.args.text.now) c.in-Err.ensures.read
     (λ w q. ((w, q.0), q.1))

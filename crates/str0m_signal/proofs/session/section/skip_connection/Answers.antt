@@ -1,5 +1,5 @@
 use Rattle.str0m_signal.proofs.Common.{sym, Some, None, codes}
-use Rattle.str0m_signal.proofs.line.LinesChainLaws.{taken_none}
+use Rattle.str0m_signal.proofs.line.LinesChainLaws.{chain_taken_none}
 use Rattle.str0m_signal.proofs.line.LinesLaws.{line_found}
 use Rattle.str0m_signal.proofs.session.SectionLaws.{field_both}
 use Rattle.str0m_signal.proofs.session.section.skip_connection.Goals as goal
@@ -13,4 +13,4 @@ returns-in-Some c = (
 )
 
 pub returns-in-None : goal.returns-in-None
-returns-in-None c = (None, taken_none (field_both (codes "c=")) c.args.text.now c.in-None.ensures)
+returns-in-None c = (None, chain_taken_none (field_both (codes "c=")) c.args.text.now c.in-None.ensures)

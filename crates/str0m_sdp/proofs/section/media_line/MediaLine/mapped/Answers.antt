@@ -1,7 +1,7 @@
 use Rattle.str0m_sdp.proofs.Common.{◌≡◌, ◌==◌, ◌++◌, ℕ, List, take, filter_map, nat_eq, ap, sym, ◌∙◌, append_assoc, list_any, append-nil}
 use Rattle.str0m_sdp.proofs.Common.{length-set, take_all, CodecSpec, option_to_list}
-use Rattle.str0m_sdp.proofs.section.MappingLaws.{any_mapped, statics_new, statics_seen, mark_new, mark_seen}
-use Rattle.str0m_sdp.proofs.section.SectionRowsParts.{or_false}
+use Rattle.str0m_sdp.proofs.section.MappingLaws.{any_mapped, statics_new, statics_seen, mapping_mark_new, mapping_mark_seen}
+use Rattle.str0m_sdp.proofs.section.SectionRowsParts.{rows_or_false}
 use Rattle.str0m_sdp.proofs.section.media_line.MediaLine.mapped.Goals as goal
 use Rattle.str0m_sdp.specs.Common.{distinct}
 use Rattle.str0m_sdp.specs.declared.attribute.MediaAttribute.{MediaAttribute}
@@ -18,7 +18,7 @@ loop-pt-init c =
       whole = c.mapped_types-seen.ensures.whole;
       seen = λ pt lt. c.mapped_types-seen.ensures.rows pt lt
           ∙ ap (λ (rows : List (ℕ × CodecSpec)). list_any (λ row. row.0 == pt) rows) (c.as_slice.ensures.value ∙ rows)
-          ∙ any_mapped pt attrs ∙ sym (or_false (list_any (maps pt) attrs));
+          ∙ any_mapped pt attrs ∙ sym (rows_or_false (list_any (maps pt) attrs));
     }
 
 pub loop-pt-preserved : goal.loop-pt-preserved
@@ -43,7 +43,7 @@ loop-pt-preserved c =
                 ∙ append_assoc lines before (option_to_list (static_type pt))
                 ∙ sym (ap (λ (rows : List (ℕ × CodecSpec)). lines ++ rows) (statics_new attrs pts i pt lt is (sym so_far ∙ new)));
             whole = length-set seen pt _ ∙ c.loop-pt.invariant.whole;
-            seen = λ n small. mark_new seen pts i pt n (list_any (maps n) attrs) lt is row (c.loop-pt.invariant.seen n small);
+            seen = λ n small. mapping_mark_new seen pts i pt n (list_any (maps n) attrs) lt is row (c.loop-pt.invariant.seen n small);
           })
       | goal.else-not-seen-place w ↦
           let old = rw c.place-place.ensures.is at w.if-not-seen-place.false in
@@ -51,7 +51,7 @@ loop-pt-preserved c =
             rows = c.loop-pt.invariant.rows
                 ∙ sym (ap (λ (rows : List (ℕ × CodecSpec)). lines ++ rows) (statics_seen attrs pts i pt lt is (sym so_far ∙ old)));
             whole = c.loop-pt.invariant.whole;
-            seen = λ n small. mark_seen seen pts i pt n (list_any (maps n) attrs) lt is old (c.loop-pt.invariant.seen n small);
+            seen = λ n small. mapping_mark_seen seen pts i pt n (list_any (maps n) attrs) lt is old (c.loop-pt.invariant.seen n small);
           })
     ]
 

@@ -1,8 +1,8 @@
 use Rattle.str0m_sdp.proofs.Common.{◌++◌, ◌==◌, ℕ, List, replicate, filter, filter_map, option_to_list, refl, rules, tests, sym, ap, ◌∙◌}
 use Rattle.str0m_sdp.proofs.Common.{Bor, list_any, take_all, All-same, line_values, FormatParam, CodecSpec, PayloadParams, IsBounded}
-use Rattle.str0m_sdp.proofs.section.MappingsFilterMap.{kept_item, left_out}
+use Rattle.str0m_sdp.proofs.section.MappingsFilterMap.{kept_item, filter_map_left_out}
 use Rattle.str0m_sdp.proofs.section.SectionRowsBoundLaws.{rows_bounded}
-use Rattle.str0m_sdp.proofs.section.SectionRowsGatherLaws.{Marks, nothing_gathered, all_gathered}
+use Rattle.str0m_sdp.proofs.section.SectionRowsGatherLaws.{TypeMarks, nothing_gathered, all_gathered}
 use Rattle.str0m_sdp.proofs.section.media_line.MediaLine.rows_of.Goals as goal
 use Rattle.str0m_sdp.specs.declared.attribute.feedback.Feedback.{Feedback}
 use Rattle.str0m_sdp.specs.section.FmtpLines.{lines_with}
@@ -28,7 +28,7 @@ loop-pt-preserved c =
     let i = c.loop-pt.pt-index in
     let item = c.loop-pt-item.result in
     let known = c.loop-pt.invariant.0 in
-    let in_m_line : Marks c.gather.new.self.in_m_line (λ pt. list_any (λ n. n == pt) m.pts) =
+    let in_m_line : TypeMarks c.gather.new.self.in_m_line (λ pt. list_any (λ n. n == pt) m.pts) =
     rw (c.in_ok-lines.ensures.in_m_line, ← c.as_slice.ensures) c.types_in.ensures in
     let all = rw (c.as_slice-2.ensures, c.requires) at c.in_ok-lines.ensures.words in
     let say = all_gathered m c.gather.new.self c.in_ok-lines.lines.items in_m_line all in
@@ -50,7 +50,7 @@ loop-pt-preserved c =
         rw w.groups-is known,
         rw w.rows-is (
             c.loop-pt.invariant.1
-            ∙ sym (left_out (is_kept m) (row m) types i item c.loop-pt-test.true c.loop-pt-item.is
+            ∙ sym (filter_map_left_out (is_kept m) (row m) types i item c.loop-pt-test.true c.loop-pt-item.is
             (sym (c.is_kept.ensures m say) ∙ w.if-is_kept.false))
             ),
       )
