@@ -91,7 +91,7 @@ module _ (values : PayloadParams → List (List FormatParam)) (frame : MediaLine
       own_plain = (rows_taken_apart IsPlain before row after plain).1
 
       row_said_here : IsMappingSaid row (values row)
-      said_here = (rows_taken_apart (λ r. IsMappingSaid r (values r)) before row after said).1
+      row_said_here = (rows_taken_apart (λ r. IsMappingSaid r (values r)) before row after said).1
 
       pub rtx_type_is : rtx_companion (section values frame (before ++ row ∷ after)) row.pt ≡ row.resend
       rtx_type_is =
