@@ -1,8 +1,9 @@
 -- Each token that may come next leads to the levels behind it.
 use Rattle.c_json.specs.Description.{IsJsonText}
-use Rattle.c_json.specs.JsonWriter.{Level, object, named, list, closed, valued, after_token, open_levels, InObject, InList, WantsValue}
+use Rattle.c_json.specs.JsonWriter.{Level, object, named, list, closed, json_valued, after_token, open_levels, InObject, InList}
+use Rattle.c_json.specs.JsonWriter.{WantsJsonValue}
 use Rattle.c_json.specs.JsonWriter.{MayBeJson}
-use Rattle.c_json.specs.JsonWriter.{IsJsonValue, AreMembers, AreItems, IsJsonFront, Leads, IsJsonBegun}
+use Rattle.c_json.specs.JsonWriter.{IsJsonValue, AreMembers, AreJsonItems, IsJsonFront, Leads, IsJsonBegun}
 use Rattle.json.specs.Json as json
 use Rattle.json.specs.Lex.{tokens}
 use Rattle.json.specs.Print.{print, IsPrintable}
@@ -18,11 +19,11 @@ use Rattle.std.proofs.lemmas.List.Sums.{fold_push}
 
 -- ---- values, members and items
 
-text_value : (s : List ℕ) → IsJsonValue (string s ∷ [])
-text_value s = record { value = serde.string s; written = json.string s; tokens = refl; same = refl }
+json_text_value : (s : List ℕ) → IsJsonValue (string s ∷ [])
+json_text_value s = record { value = serde.string s; written = json.string s; tokens = refl; same = refl }
 
-null_value : IsJsonValue (null ∷ [])
-null_value = record { value = serde.null; written = json.null; tokens = refl; same = refl }
+json_null_value : IsJsonValue (null ∷ [])
+json_null_value = record { value = serde.null; written = json.null; tokens = refl; same = refl }
 
 boolean_value : (b : _) → IsJsonValue (boolean b ∷ [])
 boolean_value b = record { value = serde.boolean b; written = json.boolean b; tokens = refl; same = refl }
@@ -49,10 +50,10 @@ member ts vs k before value rest more same =
       same = whole.same;
     }
 
-no_items : AreItems []
-no_items rest more same = record { items = more; written = rest; tokens = refl; same = same }
+json_no_items : AreJsonItems []
+json_no_items rest more same = record { items = more; written = rest; tokens = refl; same = same }
 
-item : (ts vs : List Token) → AreItems ts → IsJsonValue vs → AreItems (ts ++ vs)
+item : (ts vs : List Token) → AreJsonItems ts → IsJsonValue vs → AreJsonItems (ts ++ vs)
 item ts vs before value rest more same =
     let whole = before (json.item value.written rest) (serde.item value.value more) (ap₂ json.item value.same same) in
     record {
@@ -72,7 +73,7 @@ object_value ts are =
       same = ap json.object whole.same;
     }
 
-list_value : (ts : List Token) → AreItems ts → IsJsonValue (begin_array ∷ (ts ++ end_array ∷ []))
+list_value : (ts : List Token) → AreJsonItems ts → IsJsonValue (begin_array ∷ (ts ++ end_array ∷ []))
 list_value ts are =
     let whole = are json.no_items serde.no_items refl in
     record {
@@ -108,24 +109,26 @@ json_put_within (list ∷ ls) ts vs (outer, items, front, are, is) value = (
   ap (λ t. t ++ vs) is ∙ append_assoc outer (begin_array ∷ items) vs,
 )
 
-put_scalar : (ls : List Level) (ts : List Token) (t : Token) → Leads ls ts → WantsValue ls → IsJsonValue (t ∷ [])
-    → Leads (valued ls) (ts ++ t ∷ [])
+put_scalar : (ls : List Level) (ts : List Token) (t : Token) → Leads ls ts → WantsJsonValue ls → IsJsonValue (t ∷ [])
+    → Leads (json_valued ls) (ts ++ t ∷ [])
 put_scalar [] ts t leads wants value = absurd wants
 put_scalar (object ∷ ls) ts t leads wants value = absurd wants
 put_scalar (named ∷ ls) ts t leads wants value = json_put_within (object ∷ ls) ts (t ∷ []) leads value
 put_scalar (list ∷ ls) ts t leads wants value = json_put_within (list ∷ ls) ts (t ∷ []) leads value
 
-begin_members : (ls : List Level) (ts : List Token) → Leads ls ts → WantsValue ls → Leads (object ∷ valued ls) (ts ++ begin_object ∷ [])
+begin_members : (ls : List Level) (ts : List Token) → Leads ls ts → WantsJsonValue ls
+    → Leads (object ∷ json_valued ls) (ts ++ begin_object ∷ [])
 begin_members [] ts leads wants = absurd wants
 begin_members (object ∷ ls) ts leads wants = absurd wants
 begin_members (named ∷ ls) ts leads wants = (ts, [], leads, no_members, refl)
 begin_members (list ∷ ls) ts leads wants = (ts, [], leads, no_members, refl)
 
-begin_items : (ls : List Level) (ts : List Token) → Leads ls ts → WantsValue ls → Leads (list ∷ valued ls) (ts ++ begin_array ∷ [])
-begin_items [] ts leads wants = absurd wants
-begin_items (object ∷ ls) ts leads wants = absurd wants
-begin_items (named ∷ ls) ts leads wants = (ts, [], leads, no_items, refl)
-begin_items (list ∷ ls) ts leads wants = (ts, [], leads, no_items, refl)
+json_begin_items : (ls : List Level) (ts : List Token) → Leads ls ts → WantsJsonValue ls
+    → Leads (list ∷ json_valued ls) (ts ++ begin_array ∷ [])
+json_begin_items [] ts leads wants = absurd wants
+json_begin_items (object ∷ ls) ts leads wants = absurd wants
+json_begin_items (named ∷ ls) ts leads wants = (ts, [], leads, json_no_items, refl)
+json_begin_items (list ∷ ls) ts leads wants = (ts, [], leads, json_no_items, refl)
 
 end_members : (ls : List Level) (ts : List Token) → Leads ls ts → InObject ls → Leads (closed ls) (ts ++ end_object ∷ [])
 end_members [] ts leads inside = absurd inside
@@ -135,11 +138,11 @@ end_members (object ∷ ls) ts (outer, members, front, are, is) inside =
 end_members (named ∷ ls) ts leads inside = absurd inside
 end_members (list ∷ ls) ts leads inside = absurd inside
 
-end_items : (ls : List Level) (ts : List Token) → Leads ls ts → InList ls → Leads (closed ls) (ts ++ end_array ∷ [])
-end_items [] ts leads inside = absurd inside
-end_items (object ∷ ls) ts leads inside = absurd inside
-end_items (named ∷ ls) ts leads inside = absurd inside
-end_items (list ∷ ls) ts (outer, items, front, are, is) inside =
+json_end_items : (ls : List Level) (ts : List Token) → Leads ls ts → InList ls → Leads (closed ls) (ts ++ end_array ∷ [])
+json_end_items [] ts leads inside = absurd inside
+json_end_items (object ∷ ls) ts leads inside = absurd inside
+json_end_items (named ∷ ls) ts leads inside = absurd inside
+json_end_items (list ∷ ls) ts (outer, items, front, are, is) inside =
     subst (Leads ls) (sym (ap (λ t. t ++ end_array ∷ []) is ∙ append_assoc outer (begin_array ∷ items) (end_array ∷ [])))
     (json_put_within ls outer (begin_array ∷ (items ++ end_array ∷ [])) front (list_value items are))
 
@@ -159,13 +162,13 @@ put_key (list ∷ ls) ts k leads inside = absurd inside
 put_token : (ls : List Level) (ts : List Token) (t : Token) → Leads ls ts → MayBeJson ls t → Leads (after_token ls t) (ts ++ t ∷ [])
 put_token ls ts begin_object leads may = begin_members ls ts leads may
 put_token ls ts end_object leads may = end_members ls ts leads may
-put_token ls ts begin_array leads may = begin_items ls ts leads may
-put_token ls ts end_array leads may = end_items ls ts leads may
+put_token ls ts begin_array leads may = json_begin_items ls ts leads may
+put_token ls ts end_array leads may = json_end_items ls ts leads may
 put_token ls ts (key k) leads may = put_key ls ts k leads may
-put_token ls ts (string s) leads may = put_scalar ls ts (string s) leads may (text_value s)
+put_token ls ts (string s) leads may = put_scalar ls ts (string s) leads may (json_text_value s)
 put_token ls ts (number s) leads may = absurd may
 put_token ls ts (boolean b) leads may = put_scalar ls ts (boolean b) leads may (boolean_value b)
-put_token ls ts null leads may = put_scalar ls ts null leads may null_value
+put_token ls ts null leads may = put_scalar ls ts null leads may json_null_value
 put_token ls ts bad leads may = absurd may
 
 -- ---- for the writer
@@ -211,7 +214,7 @@ begun_token r old new t writes is may = json_begun_behind r old new t writes is
 
 pub begun_number : {E : Type 0} (r : Result (Unit {0}) E) (old new : Written) (n : ℕ) → n < 2 ^ 64 → Writes r old new (number (decimal n))
     → IsJsonBegun old.before old.tokens
-    → WantsValue (open_levels old.tokens) → IsJsonBegun new.before new.tokens
+    → WantsJsonValue (open_levels old.tokens) → IsJsonBegun new.before new.tokens
 begun_number r old new n fits writes is wants = json_begun_behind r old new _ writes is
     (put_scalar (open_levels old.tokens) old.tokens _ is.leads wants (number_value n fits))
 
@@ -229,17 +232,17 @@ behind_member (object ∷ ls) inside = refl
 behind_member (named ∷ ls) inside = absurd inside
 behind_member (list ∷ ls) inside = absurd inside
 
-pub behind_item : (ls : List Level) → InList ls → valued ls ≡ ls
-behind_item [] inside = absurd inside
-behind_item (object ∷ ls) inside = absurd inside
-behind_item (named ∷ ls) inside = absurd inside
-behind_item (list ∷ ls) inside = refl
+pub json_behind_item : (ls : List Level) → InList ls → json_valued ls ≡ ls
+json_behind_item [] inside = absurd inside
+json_behind_item (object ∷ ls) inside = absurd inside
+json_behind_item (named ∷ ls) inside = absurd inside
+json_behind_item (list ∷ ls) inside = refl
 
-pub item_wanted : (ls : List Level) → InList ls → WantsValue ls
-item_wanted [] inside = absurd inside
-item_wanted (object ∷ ls) inside = absurd inside
-item_wanted (named ∷ ls) inside = absurd inside
-item_wanted (list ∷ ls) inside = tt
+pub json_item_wanted : (ls : List Level) → InList ls → WantsJsonValue ls
+json_item_wanted [] inside = absurd inside
+json_item_wanted (object ∷ ls) inside = absurd inside
+json_item_wanted (named ∷ ls) inside = absurd inside
+json_item_wanted (list ∷ ls) inside = tt
 
 -- ---- for the text
 

@@ -18,23 +18,23 @@ closed [] = []
 closed (l ∷ ls) = ls
 
 -- behind a value
-abbrev pub valued : List Level → List Level
-valued [] = []
-valued (object ∷ ls) = object ∷ ls
-valued (named ∷ ls) = object ∷ ls
-valued (list ∷ ls) = list ∷ ls
+abbrev pub json_valued : List Level → List Level
+json_valued [] = []
+json_valued (object ∷ ls) = object ∷ ls
+json_valued (named ∷ ls) = object ∷ ls
+json_valued (list ∷ ls) = list ∷ ls
 
 -- behind a token
 abbrev pub after_token : List Level → Token → List Level
-after_token ls begin_object = object ∷ valued ls
+after_token ls begin_object = object ∷ json_valued ls
 after_token ls end_object = closed ls
-after_token ls begin_array = list ∷ valued ls
+after_token ls begin_array = list ∷ json_valued ls
 after_token ls end_array = closed ls
 after_token ls (key k) = named ∷ closed ls
-after_token ls (string s) = valued ls
-after_token ls (number s) = valued ls
-after_token ls (boolean b) = valued ls
-after_token ls null = valued ls
+after_token ls (string s) = json_valued ls
+after_token ls (number s) = json_valued ls
+after_token ls (boolean b) = json_valued ls
+after_token ls null = json_valued ls
 after_token ls bad = ls
 
 abbrev pub open_levels : List Token → List Level
@@ -55,23 +55,23 @@ InList (named ∷ ls) = ⊥
 InList (list ∷ ls) = Unit {0}
 
 -- a value may come next
-abbrev pub WantsValue : List Level → Type 0
-WantsValue [] = ⊥
-WantsValue (object ∷ ls) = ⊥
-WantsValue (named ∷ ls) = Unit {0}
-WantsValue (list ∷ ls) = Unit {0}
+abbrev pub WantsJsonValue : List Level → Type 0
+WantsJsonValue [] = ⊥
+WantsJsonValue (object ∷ ls) = ⊥
+WantsJsonValue (named ∷ ls) = Unit {0}
+WantsJsonValue (list ∷ ls) = Unit {0}
 
 -- the token may come next; a number has a call of its own
 abbrev pub MayBeJson : List Level → Token → Type 0
-MayBeJson ls begin_object = WantsValue ls
+MayBeJson ls begin_object = WantsJsonValue ls
 MayBeJson ls end_object = InObject ls
-MayBeJson ls begin_array = WantsValue ls
+MayBeJson ls begin_array = WantsJsonValue ls
 MayBeJson ls end_array = InList ls
 MayBeJson ls (key k) = InObject ls
-MayBeJson ls (string s) = WantsValue ls
+MayBeJson ls (string s) = WantsJsonValue ls
 MayBeJson ls (number s) = ⊥
-MayBeJson ls (boolean b) = WantsValue ls
-MayBeJson ls null = WantsValue ls
+MayBeJson ls (boolean b) = WantsJsonValue ls
+MayBeJson ls null = WantsJsonValue ls
 MayBeJson ls bad = ⊥
 
 -- ---- which tokens lead to such levels
@@ -95,15 +95,15 @@ abbrev pub AreMembers : List Token → Type 0
 AreMembers ts = (rest : json.Members) (more : Members) → blank_members rest ≡ members_outline more → BeginsMembers ts rest
 
 -- items that some others end
-pub record BeginsItems (ts : List Token) (rest : json.Items) : Type 0 where
+pub record BeginsJsonItems (ts : List Token) (rest : json.Items) : Type 0 where
   pub items : Items
   pub written : json.Items
   pub tokens : items_tokens written ≡ ts ++ items_tokens rest
   pub same : blank_items written ≡ items_outline items
 
 -- the same of items
-abbrev pub AreItems : List Token → Type 0
-AreItems ts = (rest : json.Items) (more : Items) → blank_items rest ≡ items_outline more → BeginsItems ts rest
+abbrev pub AreJsonItems : List Token → Type 0
+AreJsonItems ts = (rest : json.Items) (more : Items) → blank_items rest ≡ items_outline more → BeginsJsonItems ts rest
 
 -- the tokens in front of a value that stands within these levels
 abbrev pub IsJsonFront : List Level → List Token → Type 0
@@ -111,7 +111,7 @@ IsJsonFront [] ts = ts ≡ []
 IsJsonFront (object ∷ ls) ts =
     (outer : List Token) × (members : List Token) × (k : List ℕ) × IsJsonFront ls outer × AreMembers members × (ts ≡ outer ++ begin_object ∷ (members ++ key k ∷ []))
 IsJsonFront (named ∷ ls) ts = ⊥
-IsJsonFront (list ∷ ls) ts = (outer : List Token) × (items : List Token) × IsJsonFront ls outer × AreItems items × (ts ≡ outer ++ begin_array ∷ items)
+IsJsonFront (list ∷ ls) ts = (outer : List Token) × (items : List Token) × IsJsonFront ls outer × AreJsonItems items × (ts ≡ outer ++ begin_array ∷ items)
 
 -- the tokens that lead there; where none is open any more, a value
 abbrev pub Leads : List Level → List Token → Type 0

@@ -1,7 +1,7 @@
 //! JSON as it is written: objects and lists, one in another, each member and each item straight into the text.
 
 ghost use Rattle.c_json.specs.Description.{IsJsonText};
-ghost use Rattle.c_json.specs.JsonWriter.{object, list, closed, valued, after_token, InObject, InList, WantsValue, MayBeJson};
+ghost use Rattle.c_json.specs.JsonWriter.{object, list, closed, json_valued, after_token, InObject, InList, WantsJsonValue, MayBeJson};
 ghost use Rattle.json.specs.Reads.{token_of};
 ghost use Rattle.std.specs.Prelude.{◌≡◌, ◌∷◌, [], IfOk, OnOk};
 ghost use Rattle.std.specs.String.{string_bytes};
@@ -66,8 +66,8 @@ impl JsonWriter {
     }
 
     fn put_number(&mut self, number: u64) -> Result<(), AllocError>
-        requires { WantsValue self.old }
-        ensures { OnOk result (self.new ≡ valued self.old) }
+        requires { WantsJsonValue self.old }
+        ensures { OnOk result (self.new ≡ json_valued self.old) }
     {
         self.out.u64(number)?;
         Ok(())
@@ -186,7 +186,7 @@ impl JsonWriter {
     }
 
     /// An item that is an object; it has the members that follow.
-    #[tactic(auto, using(crate::proofs::JsonWriterLaws::behind_item, crate::proofs::JsonWriterLaws::item_wanted))]
+    #[tactic(auto, using(crate::proofs::JsonWriterLaws::json_behind_item, crate::proofs::JsonWriterLaws::json_item_wanted))]
     pub(crate) fn begin_item(&mut self) -> Result<(), AllocError>
         requires { InList self.old }
         ensures { OnOk result (self.new ≡ object ∷ self.old) }
@@ -195,7 +195,7 @@ impl JsonWriter {
     }
 
     /// An item that is a text.
-    #[tactic(auto, using(crate::proofs::JsonWriterLaws::behind_item, crate::proofs::JsonWriterLaws::item_wanted))]
+    #[tactic(auto, using(crate::proofs::JsonWriterLaws::json_behind_item, crate::proofs::JsonWriterLaws::json_item_wanted))]
     pub(crate) fn item(&mut self, text: &str) -> Result<(), AllocError>
         requires { InList self.old }
         ensures { OnOk result (self.new ≡ self.old) }

@@ -37,7 +37,7 @@ pub use Rattle.std.specs.BTreeSet.{Updates, contains}
 pub use Rattle.std.specs.Cmp.Lexicographic.{pointwise, slice_cmp}
 pub use Rattle.std.specs.List.{AllZip, cons_option, list_any}
 pub use Rattle.str0m_formats.proofs.{bytes_itself, slice_get_item, one_time_if, type_times-append, type_times-cons, type_times-none}
-pub use Rattle.str0m_formats.proofs.{stays-same, stays-then}
+pub use Rattle.str0m_formats.proofs.{locked-stays-same, locked-stays-then}
 pub use Rattle.str0m_formats.proofs.{at_place, row_before}
 pub use Rattle.str0m_formats.specs.declared.format.format_param.FormatParam.{FormatParam}
 pub use Rattle.str0m_formats.specs.declared.round.rounds.Round.{Round}

@@ -20,12 +20,12 @@ pub(crate) fn answers(answer: &mut Answer, asked: &str, text: &str) -> bool {
 /// The profile and level of a profile-level-id, in hexadecimal.
 fn named(answer: &mut Answer, text: &str) {
     match hex_u32(text) {
-        Some(id) => of_id(answer, id),
+        Some(id) => profile_of_id(answer, id),
         None => answer.push("no number"),
     }
 }
 
-fn of_id(answer: &mut Answer, id: u32) {
+fn profile_of_id(answer: &mut Answer, id: u32) {
     match H264ProfileLevel::try_from(id) {
         Ok(found) => h264_shown(answer, found),
         Err(NoProfileLevel) => answer.show(&NoProfileLevel),

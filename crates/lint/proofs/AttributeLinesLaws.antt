@@ -2,7 +2,7 @@
 use Rattle.lint.proofs.Common.{◌≡◌, ◌+◌, ◌≤◌, ℕ, Bool, true, false, List, [], ◌∷◌, ◌++◌, length, map, refl, sym, ap, ◌∙◌, arith, cond}
 use Rattle.lint.proofs.Common.{append_assoc, append-nil, Line, lines_of}
 use Rattle.lint.proofs.LineLaws.{BeginsWithLine}
-use Rattle.lint.specs.Findings.{KeepsUnread, NotesLine, ends, lines_kept, is_changed, is_refused}
+use Rattle.lint.specs.Findings.{KeepsUnread, NotesLine, end_lines, lines_kept, is_changed, is_refused}
 use Rattle.lint.specs.Kept.{is_unread, kept_at}
 use Rattle.lint.specs.Lines.{IsNumbered, attribute_numbers, begins_attribute}
 use Rattle.lint.specs.declared.mark.Mark.{Mark}
@@ -17,7 +17,7 @@ pub record SoFar (old : Notes) (before : ℕ) (text : List ℕ) (said : List Mar
     (left : List Mark) : Type 0 where
   pub lines : passed + length (lines_of rest) ≡ before + length (lines_of text)
   pub kept_are : lines_kept now.findings ++ unread_numbers passed rest left ≡ lines_kept old.findings ++ unread_numbers before text said
-  pub ends_stay : ends now.findings ≡ ends old.findings
+  pub ends_stay : end_lines now.findings ≡ end_lines old.findings
   pub refused_stays : is_refused now.findings ≡ is_refused old.findings
   pub changed_stays : is_changed now.findings ≡ is_changed old.findings
   pub last_stays : now.last ≡ old.last

@@ -4,7 +4,8 @@ use Rattle.lint.proofs.Common.{map, take, get_or, refl, sym, ap, subst, ◌∙�
 use Rattle.lint.proofs.Common.{filter_map-append, on_err_weaker, cons_option, take_more, rounds_ran_from, CodecConfig, PayloadParams}
 use Rattle.lint.proofs.Common.{Negotiates}
 use Rattle.lint.proofs.Common.{Outcome, is_media, MediaLine, Sdp, section_direction, rows, Reading, AtMostOne, receives}
-use Rattle.lint.specs.Fates.{AddsFates, ArePartners, IsPartner, RoundSays, RoundsSay, SaysRounds, Where, codes, fate, refusal_fate, some_of}
+use Rattle.lint.specs.Fates.{AddsFates, ArePartners, IsPartner, RoundSays, RoundsSay, SaysRounds, WhereTrue, codes, fate, refusal_fate}
+use Rattle.lint.specs.Fates.{some_of}
 use Rattle.lint.specs.Findings.{AddsOneFinding}
 use Rattle.lint.specs.declared.code.Code.{Code}
 use Rattle.lint.specs.declared.code.Code.TheVariants.{Round}
@@ -61,9 +62,9 @@ pub rounds_skip : (sections : List MediaLine) (m : MediaLine) (before : List Pay
     → is_media m.typ ≡ false → RoundsSay sections before fates after → RoundsSay (sections ++ m ∷ []) before fates after
 rounds_skip [] m before fates after not_one say = rw not_one say
 rounds_skip (s ∷ sections) m before fates after not_one say =
-    elim (is_media s.typ) as (λ b. Where b ((own rest : List Fate) × (mid : List PayloadParams) × (fates ≡ own ++ rest)
+    elim (is_media s.typ) as (λ b. WhereTrue b ((own rest : List Fate) × (mid : List PayloadParams) × (fates ≡ own ++ rest)
     × RoundSays s before own mid × RoundsSay sections mid rest after) (RoundsSay sections before fates after)
-    → Where b ((own rest : List Fate) × (mid : List PayloadParams) × (fates ≡ own ++ rest) × RoundSays s before own mid
+    → WhereTrue b ((own rest : List Fate) × (mid : List PayloadParams) × (fates ≡ own ++ rest) × RoundSays s before own mid
     × RoundsSay (sections ++ m ∷ []) mid rest after) (RoundsSay (sections ++ m ∷ []) before fates after)) [
       | true ↦ λ (own, rest, mid, is, one, more). (own, rest, mid, is, one, rounds_skip sections m mid rest after not_one more)
       | false ↦ λ more. rounds_skip sections m before fates after not_one more
@@ -78,9 +79,9 @@ rounds_push [] m before fates last now after is_one say own =
     let here : RoundSays m before last after = subst (λ (rows : List PayloadParams). RoundSays m rows last after) say.1 own in
     rw is_one (last, [], after, ap (λ (fs : List Fate). fs ++ last) say.0 ∙ sym (append-nil last), here, (refl, refl))
 rounds_push (s ∷ sections) m before fates last now after is_one say own =
-    elim (is_media s.typ) as (λ b. Where b ((first rest : List Fate) × (mid : List PayloadParams) × (fates ≡ first ++ rest)
+    elim (is_media s.typ) as (λ b. WhereTrue b ((first rest : List Fate) × (mid : List PayloadParams) × (fates ≡ first ++ rest)
     × RoundSays s before first mid × RoundsSay sections mid rest now) (RoundsSay sections before fates now)
-    → Where b ((first rest : List Fate) × (mid : List PayloadParams) × (fates ++ last ≡ first ++ rest) × RoundSays s before first mid
+    → WhereTrue b ((first rest : List Fate) × (mid : List PayloadParams) × (fates ++ last ≡ first ++ rest) × RoundSays s before first mid
     × RoundsSay (sections ++ m ∷ []) mid rest after) (RoundsSay (sections ++ m ∷ []) before (fates ++ last) after)) [
       | true ↦ λ (first, rest, mid, is, one, more). (
         first,

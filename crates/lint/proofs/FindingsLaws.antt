@@ -1,8 +1,9 @@
 -- What the findings of a text come to.
 use Rattle.lint.proofs.Common.{◌≡◌, ◌↔◌, ◌+◌, ◌-◌, ◌≤◌, ℕ, true, false, true≢false, cond, eqb, List, [], ◌∷◌, ◌++◌, length, refl, sym, ap}
 use Rattle.lint.proofs.Common.{subst, ◌∙◌, arith, eqb-true, append-nil, Sdp, sdp_text, Line, Reading, AtMostOne}
-use Rattle.lint.specs.Findings.{AreFindingsOf, AreSilent, EndsReading, IsNotOutOfMemory, KeepsUnread, OnlyChanges, SaysElse, TellsUnread}
-use Rattle.lint.specs.Findings.{ends, is_changed}
+use Rattle.lint.specs.Findings.{AreFindingsOf, AreFindingsSilent, EndsReading, IsNotOutOfMemory, KeepsUnread, OnlyChanges, SaysElse}
+use Rattle.lint.specs.Findings.{TellsUnread}
+use Rattle.lint.specs.Findings.{end_lines, is_changed}
 use Rattle.lint.specs.Findings.{is_refused, lines_kept, kept_numbers}
 use Rattle.lint.specs.Lines.{IsNumbered, last_line, unread_lines}
 use Rattle.lint.specs.Told.{NothingLost, told_of}
@@ -66,8 +67,8 @@ pub tells_whole : (text : List ℕ) (sdp : Sdp) (rest : List ℕ) (old mid new :
     → TellsUnread text sdp rest old new
 tells_whole text sdp rest old mid new none k c changed last = record {
   kept_are = c.kept_stay ∙ k.kept_are;
-  ends_are = c.ends_stay ∙ k.ends_stay ∙ sym (append-nil (ends old.findings))
-      ∙ ap (λ (r : List ℕ). ends old.findings ++ unread_lines text r) (sym none);
+  ends_are = c.ends_stay ∙ k.ends_stay ∙ sym (append-nil (end_lines old.findings))
+      ∙ ap (λ (r : List ℕ). end_lines old.findings ++ unread_lines text r) (sym none);
   refused_stays = c.refused_stays ∙ k.refused_stays;
   changed = λ _ unchanged. changed (k.changed_stays ∙ unchanged);
   last_stays = last ∙ k.last_stays;
@@ -84,7 +85,7 @@ tells_rest text sdp [] number old mid late new some is k c last e = absurd (true
 tells_rest text sdp (x ∷ rest) number old mid late new some is k c last e = record {
   kept_are = e.kept_stay ∙ c.kept_stay ∙ k.kept_are;
   ends_are = e.ends_are ∙ ap (λ (ns : List ℕ). ns ++ number ∷ []) (c.ends_stay ∙ k.ends_stay)
-      ∙ ap (λ (n : ℕ). ends old.findings ++ n ∷ []) is;
+      ∙ ap (λ (n : ℕ). end_lines old.findings ++ n ∷ []) is;
   refused_stays = e.refused_stays ∙ c.refused_stays ∙ k.refused_stays;
   changed = λ none unchanged. absurd (some_rest x rest none);
   last_stays = e.last_stays ∙ last ∙ k.last_stays;
@@ -118,24 +119,24 @@ finding_no_rest_left text (x ∷ rest) e = absurd cc
 -- where nothing is said to be lost, nothing is
 nothing_lost : (text : List ℕ) (sdp : Sdp) (rest : List ℕ) (old new : Notes) → Reading text (sdp, rest) → old.findings ≡ []
     → TellsUnread text sdp rest old new
-    → AreSilent new.findings → NothingLost text
+    → AreFindingsSilent new.findings → NothingLost text
 nothing_lost text sdp rest old new reading none t s =
-    let ended : unread_lines text rest ≡ [] = ap (λ (fs : List Finding). ends fs ++ unread_lines text rest) (sym none) ∙ sym t.ends_are
+    let ended : unread_lines text rest ≡ [] = ap (λ (fs : List Finding). end_lines fs ++ unread_lines text rest) (sym none) ∙ sym t.ends_are
     ∙ s.no_end in
     let whole : rest ≡ [] = finding_no_rest_left text rest ended in
     (sdp, subst (λ (r : List ℕ). Reading text (sdp, r)) whole reading, (t.changed whole (ap is_changed none)).0 s.not_changed)
 
 -- where nothing is lost, nothing is said to be
-are_silent : (text : List ℕ) (sdp : Sdp) (rest : List ℕ) (old new : Notes) → Reading text (sdp, rest) → AtMostOne (Reading text)
+finding_are_silent : (text : List ℕ) (sdp : Sdp) (rest : List ℕ) (old new : Notes) → Reading text (sdp, rest) → AtMostOne (Reading text)
     → old.findings ≡ []
-    → TellsUnread text sdp rest old new → NothingLost text → AreSilent new.findings
-are_silent text sdp rest old new reading one none t (s, r, same) =
+    → TellsUnread text sdp rest old new → NothingLost text → AreFindingsSilent new.findings
+finding_are_silent text sdp rest old new reading one none t (s, r, same) =
     let is : (sdp, rest) ≡ (s, []) = one (sdp, rest) (s, []) reading r in
     let whole : rest ≡ [] = ap (λ (v : Sdp × List ℕ). v.1) is in
     let own : told_of text ≡ told_of (sdp_text sdp) = same ∙ ap (λ (v : Sdp × List ℕ). told_of (sdp_text v.0)) (sym is) in
     record {
       not_refused = t.refused_stays ∙ ap is_refused none;
-      no_end = t.ends_are ∙ ap (λ (fs : List Finding). ends fs ++ unread_lines text rest) none ∙ ap (unread_lines text) whole;
+      no_end = t.ends_are ∙ ap (λ (fs : List Finding). end_lines fs ++ unread_lines text rest) none ∙ ap (unread_lines text) whole;
       not_changed = (t.changed whole (ap is_changed none)).1 own;
     }
 
@@ -145,11 +146,11 @@ said_read text sdp rest old new reading one none t =
     let refused : is_refused new.findings ≡ false = t.refused_stays ∙ ap is_refused none in
     record {
       refused = (λ is. absurd (false≢true (sym refused ∙ is)), λ unread. absurd (unread (sdp, rest) reading));
-      unread = λ s r h. t.ends_are ∙ ap (λ (fs : List Finding). ends fs ++ unread_lines text rest) none
+      unread = λ s r h. t.ends_are ∙ ap (λ (fs : List Finding). end_lines fs ++ unread_lines text rest) none
           ∙ ap (λ (v : Sdp × List ℕ). unread_lines text v.1) (one (sdp, rest) (s, r) reading h);
       kept_are = λ s r h. t.kept_are ∙ ap (λ (fs : List Finding). lines_kept fs ++ kept_numbers text sdp) none
           ∙ ap (λ (v : Sdp × List ℕ). kept_numbers text v.0) (one (sdp, rest) (s, r) reading h);
-      silent = (nothing_lost text sdp rest old new reading none t, are_silent text sdp rest old new reading one none t);
+      silent = (nothing_lost text sdp rest old new reading none t, finding_are_silent text sdp rest old new reading one none t);
     }
 
 pub said_refused : (text : List ℕ) (findings : List Finding) → is_refused findings ≡ true → ((v : Sdp × List ℕ) → Reading text v → ⊥)

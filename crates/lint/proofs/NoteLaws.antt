@@ -2,7 +2,8 @@
 use Rattle.lint.proofs.Common.{◌≡◌, ◌||◌, ℕ, Bool, true, false, cond, List, [], ◌∷◌, ◌++◌, Some, None, min, max, refl, ap, ◌∙◌, arith}
 use Rattle.lint.proofs.Common.{append-nil, filter_map-append, cons_option, list_any, rows_or_false}
 use Rattle.lint.specs.Code.{is_refusal, is_end, is_unread_code, is_change}
-use Rattle.lint.specs.Findings.{AddsOneFinding, EndsReading, KeepsUnread, OnlyChanges, SaysElse, ends, is_changed, is_refused, lines_kept}
+use Rattle.lint.specs.Findings.{AddsOneFinding, EndsReading, KeepsUnread, OnlyChanges, SaysElse, end_lines, is_changed, is_refused}
+use Rattle.lint.specs.Findings.{lines_kept}
 use Rattle.lint.specs.Findings.{line_if}
 use Rattle.lint.specs.Findings.{lines_of_kind}
 use Rattle.lint.specs.Lines.{IsNumbered}
@@ -63,7 +64,7 @@ pub keeps_none : (line : ℕ) (what : What) (old new : Notes) → AddsOneFinding
     → KeepsUnread [] old new
 keeps_none line what old new a last = record {
   kept_are = added_lines is_unread_code line (Unseen what) old new a;
-  ends_stay = added_lines is_end line (Unseen what) old new a ∙ append-nil (ends old.findings);
+  ends_stay = added_lines is_end line (Unseen what) old new a ∙ append-nil (end_lines old.findings);
   refused_stays = added_refusal line (Unseen what) old new a ∙ rows_or_false (is_refused old.findings);
   changed_stays = added_change line (Unseen what) old new a ∙ rows_or_false (is_changed old.findings);
   last_stays = last;
@@ -79,7 +80,7 @@ pub unread_line_is_kept : (line : ℕ) (code : Code) (old new : Notes) → is_un
 unread_line_is_kept line (Malformed misfit) old new is here a last = record {
   kept_are = added_lines is_unread_code line (Malformed misfit) old new a
       ∙ ap (λ (n : ℕ). lines_kept old.findings ++ n ∷ []) (clamped old.last line here);
-  ends_stay = added_lines is_end line (Malformed misfit) old new a ∙ append-nil (ends old.findings);
+  ends_stay = added_lines is_end line (Malformed misfit) old new a ∙ append-nil (end_lines old.findings);
   refused_stays = added_refusal line (Malformed misfit) old new a ∙ rows_or_false (is_refused old.findings);
   changed_stays = added_change line (Malformed misfit) old new a ∙ rows_or_false (is_changed old.findings);
   last_stays = last;
@@ -87,7 +88,7 @@ unread_line_is_kept line (Malformed misfit) old new is here a last = record {
 unread_line_is_kept line (Unknown unknown) old new is here a last = record {
   kept_are = added_lines is_unread_code line (Unknown unknown) old new a
       ∙ ap (λ (n : ℕ). lines_kept old.findings ++ n ∷ []) (clamped old.last line here);
-  ends_stay = added_lines is_end line (Unknown unknown) old new a ∙ append-nil (ends old.findings);
+  ends_stay = added_lines is_end line (Unknown unknown) old new a ∙ append-nil (end_lines old.findings);
   refused_stays = added_refusal line (Unknown unknown) old new a ∙ rows_or_false (is_refused old.findings);
   changed_stays = added_change line (Unknown unknown) old new a ∙ rows_or_false (is_changed old.findings);
   last_stays = last;
@@ -104,7 +105,8 @@ pub one_end_noted : (line : ℕ) (unfit : Unfit) (old new : Notes) → IsNumbere
     → new.last ≡ old.last
     → EndsReading line old new
 one_end_noted line unfit old new here a last = record {
-  ends_are = added_lines is_end line (Unread unfit) old new a ∙ ap (λ (n : ℕ). ends old.findings ++ n ∷ []) (clamped old.last line here);
+  ends_are = added_lines is_end line (Unread unfit) old new a
+      ∙ ap (λ (n : ℕ). end_lines old.findings ++ n ∷ []) (clamped old.last line here);
   kept_stay = added_lines is_unread_code line (Unread unfit) old new a ∙ append-nil (lines_kept old.findings);
   refused_stays = added_refusal line (Unread unfit) old new a ∙ rows_or_false (is_refused old.findings);
   last_stays = last;
@@ -119,7 +121,7 @@ note_refuses line refusal old new a = added_refusal line (Refused refusal) old n
 pub changes_one : (line : ℕ) (change : Change) (old new : Notes) → AddsOneFinding line (Changed change) old new → OnlyChanges old new
 changes_one line change old new a = record {
   kept_stay = added_lines is_unread_code line (Changed change) old new a ∙ append-nil (lines_kept old.findings);
-  ends_stay = added_lines is_end line (Changed change) old new a ∙ append-nil (ends old.findings);
+  ends_stay = added_lines is_end line (Changed change) old new a ∙ append-nil (end_lines old.findings);
   refused_stays = added_refusal line (Changed change) old new a ∙ rows_or_false (is_refused old.findings);
 }
 
@@ -143,7 +145,7 @@ pub one_conflict_noted : (line : ℕ) (conflict : Conflict) (old new : Notes) �
 one_conflict_noted line conflict old new a = record {
   only = record {
     kept_stay = added_lines is_unread_code line (Contradiction conflict) old new a ∙ append-nil (lines_kept old.findings);
-    ends_stay = added_lines is_end line (Contradiction conflict) old new a ∙ append-nil (ends old.findings);
+    ends_stay = added_lines is_end line (Contradiction conflict) old new a ∙ append-nil (end_lines old.findings);
     refused_stays = added_refusal line (Contradiction conflict) old new a ∙ rows_or_false (is_refused old.findings);
   };
   changed_stays = added_change line (Contradiction conflict) old new a ∙ rows_or_false (is_changed old.findings);

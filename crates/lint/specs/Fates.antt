@@ -94,14 +94,14 @@ pub record RoundSays (m : MediaLine) (before : List PayloadParams) (fates : List
   pub said : AreFatesOf before (rows m) (receives (section_direction m.attrs)) outcome after fates
 
 -- one of two, by a truth
-abbrev pub Where : Bool → Type 0 → Type 0 → Type 0
-Where true A B = A
-Where false A B = B
+abbrev pub WhereTrue : Bool → Type 0 → Type 0 → Type 0
+WhereTrue true A B = A
+WhereTrue false A B = B
 
 -- what is said of the rounds of the audio and video sections, in order, which lead from the rows before them to the rows after them
 abbrev pub RoundsSay : List MediaLine → List PayloadParams → List Fate → List PayloadParams → Type 0
 RoundsSay [] before fates after = (fates ≡ []) × (after ≡ before)
-RoundsSay (m ∷ sections) before fates after = Where (is_media m.typ)
+RoundsSay (m ∷ sections) before fates after = WhereTrue (is_media m.typ)
     ((own rest : List Fate) × (mid : List PayloadParams) × (fates ≡ own ++ rest) × RoundSays m before own mid × RoundsSay sections mid rest after)
     (RoundsSay sections before fates after)
 

@@ -23,8 +23,8 @@ abbrev pub lines_of_kind : (Code → Bool) → List Finding → List ℕ
 lines_of_kind is findings = filter_map (line_if is) findings
 
 -- the lines at which reading is said to end
-abbrev pub ends : List Finding → List ℕ
-ends findings = lines_of_kind is_end findings
+abbrev pub end_lines : List Finding → List ℕ
+end_lines findings = lines_of_kind is_end findings
 
 -- those that are said to be kept unread
 abbrev pub lines_kept : List Finding → List ℕ
@@ -39,9 +39,9 @@ abbrev pub is_changed : List Finding → Bool
 is_changed findings = list_any (λ finding. is_change finding.code) findings
 
 -- nothing is said to be lost: no refusal, no end of reading, no line that is printed otherwise
-pub record AreSilent (findings : List Finding) : Type 0 where
+pub record AreFindingsSilent (findings : List Finding) : Type 0 where
   pub not_refused : is_refused findings ≡ false
-  pub no_end : ends findings ≡ []
+  pub no_end : end_lines findings ≡ []
   pub not_changed : is_changed findings ≡ false
 
 -- one finding is added, at this line where the text has it
@@ -53,7 +53,7 @@ AddsOneFinding line code old new =
 -- that a line is printed otherwise
 pub record KeepsUnread (lines : List ℕ) (old new : Notes) : Type 0 where
   pub kept_are : lines_kept new.findings ≡ lines_kept old.findings ++ lines
-  pub ends_stay : ends new.findings ≡ ends old.findings
+  pub ends_stay : end_lines new.findings ≡ end_lines old.findings
   pub refused_stays : is_refused new.findings ≡ is_refused old.findings
   pub changed_stays : is_changed new.findings ≡ is_changed old.findings
   pub last_stays : new.last ≡ old.last
@@ -61,7 +61,7 @@ pub record KeepsUnread (lines : List ℕ) (old new : Notes) : Type 0 where
 -- findings are added of lines that are printed otherwise, and no others
 pub record OnlyChanges (old new : Notes) : Type 0 where
   pub kept_stay : lines_kept new.findings ≡ lines_kept old.findings
-  pub ends_stay : ends new.findings ≡ ends old.findings
+  pub ends_stay : end_lines new.findings ≡ end_lines old.findings
   pub refused_stays : is_refused new.findings ≡ is_refused old.findings
 
 -- findings are added, none of which any of these is about
@@ -71,7 +71,7 @@ pub record SaysElse (old new : Notes) : Type 0 where
 
 -- one finding is added: reading ends at this line
 pub record EndsReading (line : ℕ) (old new : Notes) : Type 0 where
-  pub ends_are : ends new.findings ≡ ends old.findings ++ line ∷ []
+  pub ends_are : end_lines new.findings ≡ end_lines old.findings ++ line ∷ []
   pub kept_stay : lines_kept new.findings ≡ lines_kept old.findings
   pub refused_stays : is_refused new.findings ≡ is_refused old.findings
   pub last_stays : new.last ≡ old.last
@@ -84,7 +84,7 @@ kept_numbers text sdp = kept_at (kept_flags sdp) (attribute_numbers 1 (lines_of 
 -- there is none, some line is said to be printed otherwise exactly where the lines don't say what is printed
 pub record TellsUnread (text : List ℕ) (sdp : Sdp) (rest : List ℕ) (old new : Notes) : Type 0 where
   pub kept_are : lines_kept new.findings ≡ lines_kept old.findings ++ kept_numbers text sdp
-  pub ends_are : ends new.findings ≡ ends old.findings ++ unread_lines text rest
+  pub ends_are : end_lines new.findings ≡ end_lines old.findings ++ unread_lines text rest
   pub refused_stays : is_refused new.findings ≡ is_refused old.findings
   pub changed : rest ≡ [] → is_changed old.findings ≡ false → (is_changed new.findings ≡ false) ↔ (told_of text ≡ told_of (sdp_text sdp))
   pub last_stays : new.last ≡ old.last
@@ -112,6 +112,6 @@ IsNotOutOfMemory Memory = ⊥
 -- whether anything is lost
 pub record AreFindingsOf (text : List ℕ) (findings : List Finding) : Type 0 where
   pub refused : (is_refused findings ≡ true) ↔ ((v : Sdp × List ℕ) → Reading text v → ⊥)
-  pub unread : (sdp : Sdp) (rest : List ℕ) → Reading text (sdp, rest) → ends findings ≡ unread_lines text rest
+  pub unread : (sdp : Sdp) (rest : List ℕ) → Reading text (sdp, rest) → end_lines findings ≡ unread_lines text rest
   pub kept_are : (sdp : Sdp) (rest : List ℕ) → Reading text (sdp, rest) → lines_kept findings ≡ kept_numbers text sdp
-  pub silent : AreSilent findings ↔ NothingLost text
+  pub silent : AreFindingsSilent findings ↔ NothingLost text

@@ -218,7 +218,7 @@ fn note_sections(
 }
 
 /// The mids of sections.
-fn names_of(alloc: Global, sections: &[MediaLine]) -> Result<BTreeSet<&str>, AllocError> {
+fn mids_of_sections(alloc: Global, sections: &[MediaLine]) -> Result<BTreeSet<&str>, AllocError> {
     let mut names = BTreeSet::new(alloc);
     for section in sections {
         if let Some((_, mid)) = mid_of(section) {
@@ -243,7 +243,7 @@ pub(crate) fn note_conflicts(
     let lines = lines_of(alloc, text)?;
     let lines = lines.as_slice();
     let sections = sdp.media_lines.as_slice();
-    let names = names_of(alloc, sections)?;
+    let names = mids_of_sections(alloc, sections)?;
     let attributes = sdp.session.attrs.as_slice();
     note_groups(notes, lines, attributes, &names)?;
     if is_whole || !sections.is_empty() {

@@ -31,13 +31,13 @@ fn parameters(alloc: Global, format: FormatParams) -> Result<Vec<Parameter>, All
 }
 
 /// The parameter of a key.
-fn of_key<'a>(all: &'a [Parameter], key: &str) -> Option<&'a Parameter> {
+fn parameter_of_key<'a>(all: &'a [Parameter], key: &str) -> Option<&'a Parameter> {
     all.iter().find(|it| it.key() == key)
 }
 
 /// What a format says of a key, in quotes.
-fn said(alloc: Global, all: &[Parameter], key: &str) -> Result<String, AllocError> {
-    match of_key(all, key) {
+fn said_of_key(alloc: Global, all: &[Parameter], key: &str) -> Result<String, AllocError> {
+    match parameter_of_key(all, key) {
         Some(it) => {
             let text = it.text.as_str();
             format!(in alloc; "`{text}`")
@@ -103,7 +103,7 @@ impl<'a> Pair<'a> {
                 format.set_param(&it.param);
             }
         }
-        if let Some(it) = of_key(self.other.as_slice(), key) {
+        if let Some(it) = parameter_of_key(self.other.as_slice(), key) {
             format.set_param(&it.param);
         }
         format
@@ -179,8 +179,8 @@ impl<'a> Pair<'a> {
         }
         let key = self.key().unwrap_or("");
         Ok((
-            said(alloc, self.own.as_slice(), key)?,
-            said(alloc, self.other.as_slice(), key)?,
+            said_of_key(alloc, self.own.as_slice(), key)?,
+            said_of_key(alloc, self.other.as_slice(), key)?,
         ))
     }
 

@@ -186,7 +186,7 @@ const FORMS: [Form; 32] = [
 ];
 
 /// Whether the text is one or more ASCII letters and digits, and letters of other scripts.
-fn is_name(text: &str) -> bool {
+fn is_form_name(text: &str) -> bool {
     !text.is_empty()
         && text
             .bytes()
@@ -227,7 +227,7 @@ impl Kind {
             },
             Kind::Address => misfit_unless(IpAddr::from_text(text).is_some(), Misfit::HostName),
             Kind::Role => misfit_unless(case_of(&SETUPS, text).is_some(), Misfit::Role),
-            Kind::Name => misfit_unless(is_name(text), Misfit::StreamName),
+            Kind::Name => misfit_unless(is_form_name(text), Misfit::StreamName),
             Kind::Direction => misfit_unless(
                 text == "send" || text == "recv",
                 Misfit::StreamDirection,

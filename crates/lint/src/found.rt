@@ -1,5 +1,5 @@
 //! What a text loses, and why it is refused, line by line.
-ghost use Rattle.lint.specs.Findings.{AreFindingsOf, AreSilent, IsNotOutOfMemory, ReadsAs, TellsUnread, ends, lines_kept, is_refused};
+ghost use Rattle.lint.specs.Findings.{AreFindingsOf, AreFindingsSilent, IsNotOutOfMemory, ReadsAs, TellsUnread, end_lines, lines_kept, is_refused};
 ghost use Rattle.lint.specs.Kept.{kept_at, kept_flags};
 ghost use Rattle.lint.specs.Lines.{IsWithinLines, attribute_numbers, last_line, unread_lines};
 ghost use Rattle.lint.specs.Prelude.{AtMostOne, Reading, Sdp, lines_of};
@@ -102,10 +102,10 @@ fn note_found(notes: &mut Notes, text: &str, found: Option<(Sdp, &str)>) -> Resu
 pub fn findings(alloc: Global, text: &str) -> Result<Report, AllocError>
     ensures numbered { IfOk result (λ report. All (IsWithinLines (last_line text.now)) report.findings) }
     ensures refused { IfOk result (λ report. (is_refused report.findings ≡ true) ↔ ((v : Sdp × List ℕ) → Reading text.now v → ⊥)) }
-    ensures unread { IfOk result (λ report. (sdp : Sdp) (rest : List ℕ) → Reading text.now (sdp, rest) → ends report.findings ≡ unread_lines text.now rest) }
+    ensures unread { IfOk result (λ report. (sdp : Sdp) (rest : List ℕ) → Reading text.now (sdp, rest) → end_lines report.findings ≡ unread_lines text.now rest) }
     ensures kept { IfOk result (λ report. (sdp : Sdp) (rest : List ℕ) → Reading text.now (sdp, rest)
         → lines_kept report.findings ≡ kept_at (kept_flags sdp) (attribute_numbers 1 (lines_of text.now))) }
-    ensures silent { IfOk result (λ report. AreSilent report.findings ↔ NothingLost text.now) }
+    ensures silent { IfOk result (λ report. AreFindingsSilent report.findings ↔ NothingLost text.now) }
 {
     let mut notes = Notes::new(alloc, line_count(text));
     let found = read(alloc, text)?;

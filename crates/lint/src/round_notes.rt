@@ -54,7 +54,11 @@ fn passed_over_detail(
 }
 
 /// Which type of a row is taken, and by what, where that was locked before.
-fn taken(alloc: Global, ran: &Ran<'_>, theirs: &PayloadParams) -> Result<String, AllocError> {
+fn taken_detail(
+    alloc: Global,
+    ran: &Ran<'_>,
+    theirs: &PayloadParams,
+) -> Result<String, AllocError> {
     let pt = match ran.outcome {
         Err(NegotiationError::ClaimedTwice(pt)) => pt,
         _ => theirs.pt(),
@@ -83,7 +87,7 @@ fn detail<'a>(
     match fate {
         Fate::Locked => locked(alloc, ran, partners, theirs),
         Fate::OtherRow => passed_over_detail(alloc, ran, partners, theirs),
-        Fate::TakenType => taken(alloc, ran, theirs),
+        Fate::TakenType => taken_detail(alloc, ran, theirs),
         Fate::OtherFormat => match nearest(alloc, ran.before, theirs)? {
             Some(pair) => pair.detail(alloc),
             None => Ok(String::new(alloc)),

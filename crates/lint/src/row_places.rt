@@ -36,7 +36,7 @@ impl<'a> Cursor<'a> {
 }
 
 /// After the next line that begins so; where none does, after the last line.
-fn next<'a>(from: Cursor<'a>, letter: &str) -> Cursor<'a> {
+fn next_place<'a>(from: Cursor<'a>, letter: &str) -> Cursor<'a> {
     let mut rest = from.rest;
     let mut passed = from.passed;
     while let Some((line, after)) = next_line(rest) {
@@ -54,11 +54,11 @@ fn next<'a>(from: Cursor<'a>, letter: &str) -> Cursor<'a> {
 
 /// The lines of the section that stands next, and the place after it.
 pub(crate) fn next_places<'a>(from: Cursor<'a>, section: &MediaLine) -> (RowPlaces, Cursor<'a>) {
-    let mut at = next(from, "m=");
+    let mut at = next_place(from, "m=");
     let head = at.passed;
     let mut mapped = [head; 256];
     for attribute in section.attrs.as_slice() {
-        at = next(at, "a=");
+        at = next_place(at, "a=");
         if let MediaAttribute::RtpMap { pt, .. } = attribute {
             mapped[usize::from(pt.value())] = at.passed;
         }

@@ -45,7 +45,7 @@ fn names_primary(values: &[FormatParam]) -> bool {
 }
 
 /// Whether a codec carries another kind of media than sections of this type.
-fn is_of_other_kind(typ: &MediaType, codec: Codec) -> bool {
+fn is_type_of_other_kind(typ: &MediaType, codec: Codec) -> bool {
     match typ {
         MediaType::Audio => codec.is_video(),
         MediaType::Video => codec.is_audio() || codec.is_tele(),
@@ -118,7 +118,7 @@ impl<'a> Types<'a> {
             .iter()
             .copied()
             .find(|pt| match self.static_codec(*pt) {
-                Some(codec) => is_of_other_kind(typ, codec),
+                Some(codec) => is_type_of_other_kind(typ, codec),
                 None => false,
             })
     }
@@ -129,7 +129,7 @@ impl<'a> Types<'a> {
         if !self.listed[place] {
             return None;
         }
-        if is_of_other_kind(&self.section.typ, codec) {
+        if is_type_of_other_kind(&self.section.typ, codec) {
             return Some(Conflict::OtherKind);
         }
         match codec {

@@ -123,13 +123,13 @@ fn lost(text: &str) -> (usize, usize) {
 }
 
 /// A count with its noun, which takes an `s` where it isn't one.
-fn counted(alloc: Global, count: usize, noun: &str) -> Result<String, AllocError> {
+fn counted_noun(alloc: Global, count: usize, noun: &str) -> Result<String, AllocError> {
     let ending = if count == 1 { "" } else { "s" };
     format!(in alloc; "{count} {noun}{ending}")
 }
 
 /// What the first line of the rest is, by the part of it that is at fault, and what stands after it.
-fn hidden(alloc: Global, part: Part<'_>, rest: &str) -> Result<String, AllocError> {
+fn unfit_line(alloc: Global, part: Part<'_>, rest: &str) -> Result<String, AllocError> {
     let shown = part.quoted(alloc)?;
     let (lines, sections) = lost(rest);
     if lines == 0 {
@@ -140,11 +140,11 @@ fn hidden(alloc: Global, part: Part<'_>, rest: &str) -> Result<String, AllocErro
     } else {
         shown.as_str()
     };
-    let lines = counted(alloc, lines, "line")?;
+    let lines = counted_noun(alloc, lines, "line")?;
     if sections == 0 {
         return format!(in alloc; "{subject} hides {lines} after it");
     }
-    let sections = counted(alloc, sections, "m-line")?;
+    let sections = counted_noun(alloc, sections, "m-line")?;
     format!(in alloc; "{subject} hides {lines} after it, {sections} among them")
 }
 
@@ -158,7 +158,7 @@ pub(crate) fn note_end(notes: &mut Notes, number: usize, rest: &str) -> Result<(
         None => "",
     };
     let (unfit, part) = fault(line);
-    let detail = hidden(notes.alloc(), part, rest)?;
+    let detail = unfit_line(notes.alloc(), part, rest)?;
     let place = Place {
         line: number,
         column: column_of(line, part.behind),

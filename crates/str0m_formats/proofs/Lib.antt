@@ -18,7 +18,7 @@ pub use Rattle.str0m_formats.proofs.format.PairsLaws.{pairs_read_is, pairs_read_
 pub use Rattle.str0m_formats.proofs.format.PairsSolid.{IsSolid, solid_lacks}
 pub use Rattle.str0m_formats.proofs.round.ClaimedSets.{slice_get_item}
 pub use Rattle.str0m_formats.proofs.round.ClaimedTimes.{one_time_if, type_times-append, type_times-cons, type_times-none, type_times-some}
-pub use Rattle.str0m_formats.proofs.round.RoundsLocked.{stays-same, stays-then}
+pub use Rattle.str0m_formats.proofs.round.RoundsLocked.{locked-stays-same, locked-stays-then}
 pub use Rattle.str0m_formats.proofs.round.RoundsPasses.{at_place}
 pub use Rattle.str0m_formats.proofs.round.RoundsRunSteps.{rounds_ran_from}
 pub use Rattle.str0m_formats.proofs.round.RoundsWhole.{row_before}

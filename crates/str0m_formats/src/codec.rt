@@ -1,7 +1,7 @@
 //! Codecs.
 ghost use Rattle.std.specs.Prelude.{◌≡◌, ◌↔◌, IsTrue, Some};
 ghost use Rattle.str0m_formats.specs.codec.Codec.{codec_text, content, static_entry, audio, video, events, media_kind, codec_of, IsReadAs, printed_and_read};
-ghost use Rattle.str0m_formats.specs.codec.CodecSpec.{is_at, static_codec};
+ghost use Rattle.str0m_formats.specs.codec.CodecSpec.{is_spec_at, static_codec};
 
 use std::fmt;
 use str0m_values::{Frequency, MediaKind, Pt, Worded, case_alike, case_of};
@@ -123,7 +123,7 @@ impl Codec {
     }
 
     fn has_static_type(self, pt: u8) -> bool
-        ensures { result ≡ is_at pt (static_entry self) }
+        ensures { result ≡ is_spec_at pt (static_entry self) }
     {
         match self.static_type() {
             Some((own, _)) => own == pt,
@@ -171,7 +171,7 @@ impl Worded for Codec {
 }
 
 #[tactic(auto, unfolding(crate::specs::codec::Codec::codec_of, str0m_values::specs::Words::case_alike))]
-fn same(name: &str) -> Codec
+fn codec_alike(name: &str) -> Codec
     ensures { result ≡ codec_of name.now }
 {
     case_alike(&NAMED, name).unwrap_or(Codec::Unknown)
@@ -183,7 +183,7 @@ fn named(name: &str) -> Codec
 {
     match case_of(&NAMED, name) {
         Some(codec) => codec,
-        None => same(name),
+        None => codec_alike(name),
     }
 }
 

@@ -41,7 +41,7 @@ pub use Rattle.str0m_formats.proofs.{eq_word, type_times-append}
 pub use Rattle.str0m_formats.proofs.{type_times-cons, one_time_if, type_times-some}
 pub use Rattle.str0m_formats.specs.codec.Codec.{events, other, Content, audio, video}
 pub use Rattle.str0m_formats.specs.declared.format.format_param.FormatParam.TheVariants.{Apt, BarePtList, BareRange}
-pub use Rattle.str0m_formats.specs.format.FormatLine.{line_asks_absent, events_end, is_event, kept, values_of}
+pub use Rattle.str0m_formats.specs.format.FormatLine.{line_asks_absent, events_end, is_event, line_without_event_ranges, values_of_lines}
 pub use Rattle.str0m_formats.specs.format.FormatParams.{set_all}
 pub use Rattle.str0m_formats.specs.round.Claimed.{AllTypesDistinct, type_times}
 pub use Rattle.str0m_formats.specs.round.MatchScore.{same_codec}

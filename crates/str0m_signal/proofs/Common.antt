@@ -42,10 +42,10 @@ pub use Rattle.str0m_formats.specs.row.PlainRowBounds.{HoldsRowNumbers, IsBounde
 pub use Rattle.str0m_sdp.proofs.{values_printed, describes_read_back, pairs_line_read, values_read, format_line_printed, reads, fmtp_lines}
 pub use Rattle.str0m_sdp.proofs.{red_reads}
 pub use Rattle.str0m_sdp.specs.attribute.Bandwidth.{bandwidth_line}
-pub use Rattle.str0m_sdp.specs.attribute.Fmtp.{is_fmtp_shown, shown_line}
+pub use Rattle.str0m_sdp.specs.attribute.Fmtp.{is_fmtp_shown, shown_fmtp_line}
 pub use Rattle.str0m_sdp.specs.attribute.MediaType.{media_type_text}
 pub use Rattle.str0m_sdp.specs.attribute.RtpMap.{map_of_spec, channels_text, rtp_map_text}
-pub use Rattle.str0m_sdp.specs.attribute.Simulcast.{name_text, id_text, layer_text, layers_text, sides_text, unless_munged}
+pub use Rattle.str0m_sdp.specs.attribute.Simulcast.{layer_name_text, id_text, layer_text, layers_text, sides_text, unless_munged}
 pub use Rattle.str0m_sdp.specs.declared.attribute.MediaAttribute.TheVariants.{Fmtp, RtcpFb, RtpMap, Simulcast, Fingerprint, Setup, Mid}
 pub use Rattle.str0m_sdp.specs.declared.attribute.MediaAttribute.TheVariants.{Candidate, SsrcGroup, Unused}
 pub use Rattle.str0m_sdp.specs.declared.attribute.proto.Proto.TheVariants.{Sctp, Srtp}
@@ -55,7 +55,7 @@ pub use Rattle.str0m_sdp.specs.declared.label.TheConstants.{AUDIO, SCTP, SRTP, V
 pub use Rattle.str0m_sdp.specs.declared.session.Session.{Session}
 pub use Rattle.str0m_sdp.specs.declared.session.error.SdpError.{SdpError}
 pub use Rattle.str0m_sdp.specs.form.Printed.{attribute_line}
-pub use Rattle.str0m_sdp.specs.section.Consistency.{AgreesOnApt, NoneIff, IsMapped, NamesNoOther, apt_of, apt_among, apt_in, first_apt}
+pub use Rattle.str0m_sdp.specs.section.Consistency.{AgreesOnApt, NoFaultIff, IsMapped, NamesNoOther, apt_of, apt_among, apt_in, first_apt}
 pub use Rattle.str0m_sdp.specs.section.Consistency.{maps}
 pub use Rattle.str0m_sdp.specs.section.MediaLine.{formats_text, m_line, media_line_text, pts_text, port_text}
 pub use Rattle.str0m_sdp.specs.section.RowAttributes.{row_attrs, feedback_line, feedback_attrs, fmtp_line, format_values, format_attrs}
@@ -76,7 +76,7 @@ pub use Rattle.str0m_values.proofs.CandidateParts.{num_both}
 pub use Rattle.str0m_values.proofs.CutLaws.{before_front, cut_at, cut_found, cut_none, cut_none_lacks, Lacks-append, lacks_from, lacks_true}
 pub use Rattle.str0m_values.proofs.CutLaws.{strip_at, strip_found, before_lacks, strip_none}
 pub use Rattle.str0m_values.proofs.CutsBothWays.{bind_some, if_some, or_some, reads_first, some_is, Sound, sound_or, reads_either, Reads}
-pub use Rattle.str0m_values.proofs.CutsBothWays.{one_value, none_reads, reads_none}
+pub use Rattle.str0m_values.proofs.CutsBothWays.{cuts_one_value, none_reads, reads_none}
 pub use Rattle.str0m_values.proofs.CutsNumLaws.{digits_lack, num_found, num_reads, number_lacks, parsed_whole, num_rest_true, when_some}
 pub use Rattle.str0m_values.proofs.CutsNumLaws.{num_when_true}
 pub use Rattle.str0m_values.proofs.FingerprintPairs.{glyph_value}

@@ -23,7 +23,7 @@ pub use Rattle.str0m_sdp.specs.declared.session.Sdp.{Sdp}
 pub use Rattle.str0m_sdp.specs.form.Printed.{line_end}
 pub use Rattle.str0m_sdp.specs.section.Consistency.{Consistent, is_direction, is_mid, is_setup}
 pub use Rattle.str0m_sdp.specs.section.MadeSection.{is_of_type, made}
-pub use Rattle.str0m_sdp.specs.section.SectionRows.{HasBoundedRows, NamesOne, rows}
+pub use Rattle.str0m_sdp.specs.section.SectionRows.{HasBoundedRows, NamesOnePrimary, rows}
 pub use Rattle.str0m_sdp.specs.session.Session.{IsSessionNumber, sdp_text}
 pub use Rattle.str0m_values.specs.Address.{Parted}
 pub use Rattle.str0m_values.specs.Candidate.{IsCandidateText}

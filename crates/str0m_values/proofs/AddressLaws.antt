@@ -11,11 +11,11 @@ use Rattle.str0m_values.specs.Address.{AreAnyGroups, IsShortened, IsV6Text}
 pub v4_from : (text octets : List ℕ) → net.IsDotted text octets → IsV4Text text octets
 v4_from text octets h = grind (arith, append_assoc)
 
-four : (text : List ℕ) (a b c d : ℕ) → Parted 46 IsOctet text (a ∷ b ∷ c ∷ d ∷ []) → net.IsDotted text (a ∷ b ∷ c ∷ d ∷ [])
-four text a b c d h = grind (arith, append_assoc)
+address_four_octets : (text : List ℕ) (a b c d : ℕ) → Parted 46 IsOctet text (a ∷ b ∷ c ∷ d ∷ []) → net.IsDotted text (a ∷ b ∷ c ∷ d ∷ [])
+address_four_octets text a b c d h = grind (arith, append_assoc)
 
 pub v4_to : (text octets : List ℕ) → IsV4Text text octets → net.IsDotted text octets
-v4_to text (a ∷ b ∷ c ∷ d ∷ []) h = four text a b c d h.0
+v4_to text (a ∷ b ∷ c ∷ d ∷ []) h = address_four_octets text a b c d h.0
 v4_to text (a ∷ b ∷ c ∷ d ∷ e ∷ more) h = absurd (omega (arith, h.1))
 v4_to text [] h = absurd (omega (arith, h.1))
 v4_to text (a ∷ []) h = absurd (omega (arith, h.1))
@@ -30,10 +30,10 @@ group_from text n h = record { numeral = h.0.0; value = h.0.1; short = h.1 }
 group_to : (text : List ℕ) (n : ℕ) → IsHexGroup text n → net.IsGroup text n
 group_to text n h = ((h.numeral, h.value), h.short)
 
-pairs_from : (octets : List ℕ) → segments_of octets ≡ octet_pairs octets
-pairs_from [] = refl
-pairs_from (a ∷ []) = refl
-pairs_from (a ∷ b ∷ octets) = ap (λ (groups : List ℕ). (a * 256 + b) ∷ groups) (pairs_from octets)
+address_octet_pairs_from : (octets : List ℕ) → segments_of octets ≡ octet_pairs octets
+address_octet_pairs_from [] = refl
+address_octet_pairs_from (a ∷ []) = refl
+address_octet_pairs_from (a ∷ b ∷ octets) = ap (λ (groups : List ℕ). (a * 256 + b) ∷ groups) (address_octet_pairs_from octets)
 
 -- what may end groups, with and without a V4 address
 record GroupEnds (v4 : Bool) (Last : List ℕ → List ℕ → Type 0) : Type 0 where
@@ -50,7 +50,8 @@ address_all_group_ends = grind arith
 module _ {v4 : Bool} {Last : List ℕ → List ℕ → Type 0} (ends : GroupEnds v4 Last) where
   groups_from : (lead text : List ℕ) (n : ℕ) (groups : List ℕ) → net.IsGroupsAfter v4 lead text (n ∷ groups)
       → (body : List ℕ) × (text ≡ lead ++ body) × AreGroups Last body (n ∷ groups)
-  groups_from lead text n groups (inr h) = (h.0, h.3, inl (ends.tail h.2 h.0 (n ∷ groups) (h.1, v4_from h.0 h.1 h.4, h.5 ∙ pairs_from h.1)))
+  groups_from lead text n groups
+      (inr h) = (h.0, h.3, inl (ends.tail h.2 h.0 (n ∷ groups) (h.1, v4_from h.0 h.1 h.4, h.5 ∙ address_octet_pairs_from h.1)))
   groups_from lead text n [] (inl h) = grind (arith, append-nil, group_from)
   groups_from lead text n (m ∷ groups) (inl h) = grind (arith, groups_from (codes ":") h.1 m groups h.4, append_assoc, group_from)
 
@@ -59,7 +60,15 @@ module _ {v4 : Bool} {Last : List ℕ → List ℕ → Type 0} (ends : GroupEnds
 
   address_v4_tail_to : (lead text : List ℕ) (n : ℕ) (groups : List ℕ) → IsTrue v4 → IsV4Tail text (n ∷ groups)
       → net.IsGroupsAfter v4 lead (lead ++ text) (n ∷ groups)
-  address_v4_tail_to lead text n groups allowed h = inr (text, h.0, allowed, refl, v4_to text h.0 h.1, h.2 ∙ sym (pairs_from h.0))
+  address_v4_tail_to lead text n groups allowed h = inr (
+    text,
+    h.0,
+    allowed,
+    refl,
+    v4_to text h.0 h.1,
+    h.2
+        ∙ sym (address_octet_pairs_from h.0),
+  )
 
   groups_to : (lead text : List ℕ) (groups : List ℕ) → AreGroups Last text groups → net.IsGroupsAfter v4 lead (lead ++ text) groups
   groups_to lead text [] h = absurd h

@@ -28,21 +28,21 @@ pub sound_or : {A B : Type 0} {F : A → B → Type 0} {f g : A → Option B} �
 sound_or {f} {g} p q = record { law = λ a b e. elim (or_some (f a) (g a) b e) [ inl h ↦ p.law a b h | inr h ↦ q.law a b h.1 ] }
 
 -- a value that is there, or none
-option_cases : {B : Type 0} (o : Option B) → ((b : B) × (o ≡ Some b)) ⊎ (o ≡ None)
-option_cases None = inr refl
-option_cases (Some b) = inl (b, refl)
+cuts_option_cases : {B : Type 0} (o : Option B) → ((b : B) × (o ≡ Some b)) ⊎ (o ≡ None)
+cuts_option_cases None = inr refl
+cuts_option_cases (Some b) = inl (b, refl)
 
 module _ {A B : Type 0} {F : A → B → Type 0} {f : A → Option B} (reads : Reads F f) where
   -- what F doesn't hold of is not read
   pub reads_none : (a : A) → ((b : B) → F a b → ⊥) → f a ≡ None
-  reads_none a none = elim (option_cases (f a)) [ inl h ↦ absurd (none h.0 (reads.sound a h.0 h.1)) | inr h ↦ h ]
+  reads_none a none = elim (cuts_option_cases (f a)) [ inl h ↦ absurd (none h.0 (reads.sound a h.0 h.1)) | inr h ↦ h ]
 
   pub none_reads : (a : A) → f a ≡ None → (b : B) → F a b → ⊥
   none_reads a e b h = let k = reads.complete a b h in absurd cc
 
   -- at most one value
-  pub one_value : (a : A) (b c : B) → F a b → F a c → b ≡ c
-  one_value a b c h k = let p = reads.complete a b h in let q = reads.complete a c k in some_is b c (sym p ∙ q)
+  pub cuts_one_value : (a : A) (b c : B) → F a b → F a c → b ≡ c
+  cuts_one_value a b c h k = let p = reads.complete a b h in let q = reads.complete a c k in some_is b c (sym p ∙ q)
 
 pub reads_first : {A B : Type 0} {F G : A → B → Type 0} {f g : A → Option B} → Reads F f → Reads G g
     → Reads (FirstFit F G) (λ a. f a <|> g a)
@@ -58,7 +58,7 @@ reads_either {B} {f} {g} p q agree = record {
   sound = λ a b e. elim (or_some (f a) (g a) b e) [ inl h ↦ inl (p.sound a b h) | inr h ↦ inr (q.sound a b h.1) ];
   complete = λ a b h. elim h [
     | inl k ↦ rw (p.complete a b k) refl
-    | inr k ↦ elim (option_cases (f a)) [
+    | inr k ↦ elim (cuts_option_cases (f a)) [
       | inl found ↦ rw found.1 (ap (λ (x : B). Some x) (agree a found.0 b (p.sound a found.0 found.1) k))
       | inr none ↦ rw none (q.complete a b k)
     ]

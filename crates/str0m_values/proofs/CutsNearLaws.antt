@@ -37,5 +37,5 @@ eighteen_digits digits i h le =
 written_signless : (digits : List ℕ) (n : ℕ) → IsWrittenAs digits n → without_leading_plus digits ≡ digits
 written_signless digits n h = grind arith
 
-pub written_fits : (limit : ℕ) (text : List ℕ) (n : ℕ) → IsWrittenAs text n → n ≤ limit → Some n ≡ num limit text
-written_fits limit text n h le = grind (arith, written_signless, num_reads)
+pub cuts_written_fits : (limit : ℕ) (text : List ℕ) (n : ℕ) → IsWrittenAs text n → n ≤ limit → Some n ≡ num limit text
+cuts_written_fits limit text n h le = grind (arith, written_signless, num_reads)

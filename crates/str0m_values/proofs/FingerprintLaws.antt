@@ -6,7 +6,7 @@ use Rattle.str0m_values.proofs.FingerprintPairs.{printed_read}
 use Rattle.str0m_values.proofs.FingerprintZipLaws.{AllZip-at}
 use Rattle.str0m_values.specs.Cuts.{cut}
 use Rattle.str0m_values.specs.CutsParts.{Lacks}
-use Rattle.str0m_values.specs.Fingerprint.{IsNamed, IsHexByte, pieces_of, IsFingerprint, HasBadByte, IsBytesReading, IsFingerprintReading}
+use Rattle.str0m_values.specs.Fingerprint.{IsNamed, IsHexByte, hash_pieces, IsFingerprint, HasBadByte, IsBytesReading, IsFingerprintReading}
 use Rattle.str0m_values.specs.Fingerprint.{Gives, CanBeReadBack, fingerprint_text, pairs_text}
 use Rattle.str0m_values.specs.declared.fingerprint.Fingerprint.{Fingerprint}
 use Rattle.str0m_values.specs.declared.fingerprint.FingerprintError.{FingerprintError}
@@ -44,13 +44,13 @@ fingerprint_no_bad_hash_piece pieces bytes h any =
 
 same_fingerprint : (text : List ℕ) (f g : Fingerprint) → IsFingerprint text f → IsFingerprint text g → f ≡ g
 same_fingerprint text f g h k =
-    grind (arith, named_one text f.hash_func g.hash_func h.0 k.0 h.1 k.1, bytes_one (pieces_of h.0) f.bytes g.bytes h.2)
+    grind (arith, named_one text f.hash_func g.hash_func h.0 k.0 h.1 k.1, bytes_one (hash_pieces h.0) f.bytes g.bytes h.2)
 
 fingerprint_good : (text : List ℕ) (f : Fingerprint) → IsFingerprint text f → ¬ (HasBadByte text)
 fingerprint_good text f h bad = grind (
   arith,
   named_one text f.hash_func bad.0 h.0 bad.1 h.1 bad.2,
-  fingerprint_no_bad_hash_piece (pieces_of h.0) f.bytes h.2,
+  fingerprint_no_bad_hash_piece (hash_pieces h.0) f.bytes h.2,
 )
 
 pub one_fingerprint : (text : List ℕ) (r : Result Fingerprint FingerprintError) → IsFingerprintReading text r → (f : Fingerprint)
@@ -73,12 +73,14 @@ print_reads_back : (f : Fingerprint) (bytes : List ℕ) → f.bytes ≡ bytes �
 print_reads_back f [] e can = let some = can.some in absurd (omega (arith, ap length e))
 print_reads_back f (first ∷ more) e can =
     let small : All (λ byte. byte < 256) (first ∷ more) = subst (λ (bytes : List ℕ). All (λ byte. byte < 256) bytes) e can.bytes in
-    let read = subst (λ (bytes : List ℕ). AllZip IsHexByte (pieces_of (pairs_text bytes)) bytes) (sym e) (printed_read first more small) in
+    let read = subst (λ (bytes : List ℕ). AllZip IsHexByte (hash_pieces (pairs_text bytes)) bytes) (sym e) (printed_read first more small)
+    in
     (pairs_text f.bytes, record { whole = refl; word = can.word }, read)
 
-pub itself : (text : List ℕ) (r : Result Fingerprint FingerprintError) → IsFingerprintReading text r → (f : Fingerprint) → CanBeReadBack f
+pub fingerprint_itself : (text : List ℕ) (r : Result Fingerprint FingerprintError) → IsFingerprintReading text r → (f : Fingerprint)
+    → CanBeReadBack f
     → text ≡ fingerprint_text f → Gives f r
-itself text r h f can e = one_fingerprint text r h f
+fingerprint_itself text r h f can e = one_fingerprint text r h f
     (subst (λ (t : List ℕ). IsFingerprint t f) (sym e) (print_reads_back f f.bytes refl can))
 
 -- ---- what a refusal inside says of the whole

@@ -5,7 +5,7 @@ use Rattle.std.proofs.lemmas.List.Splits.{slice_split_at, slice_split_none}
 use Rattle.str0m_values.proofs.Common.{◌≡◌, ◌≢◌, ◌==◌, ◌<◌, ℕ, suc, false, List, [], ◌∷◌, ◌++◌, All, length, get_or, drop, arith, refl}
 use Rattle.str0m_values.proofs.Common.{sym, ap, ◌∙◌, subst, append_assoc, ne_eqb, digit_value, AllZip}
 use Rattle.str0m_values.proofs.FingerprintPairs.{two_digits_read}
-use Rattle.str0m_values.specs.Fingerprint.{IsHexByte, IsFingerprintWrittenBy, pieces_of}
+use Rattle.str0m_values.specs.Fingerprint.{IsHexByte, IsFingerprintWrittenBy, hash_pieces}
 
 -- a hex digit is no character that isn't a digit
 digit_apart : (c digit : ℕ) → digit_value c ≡ 36 → digit_value digit < 16 → digit ≢ c
@@ -19,14 +19,14 @@ pair_whole high low byte h = grind (arith, ne_eqb, digit_apart 58 high refl h.0,
 written_pair_reads : (high low byte : ℕ) → IsFingerprintWrittenBy high low byte → IsHexByte (high ∷ low ∷ []) byte
 written_pair_reads high low byte h = two_digits_read high low _ _ byte (digit_apart 43 high refl h.0) refl refl h.0 h.1 (sym h.2)
 
-pair_then : (high low byte : ℕ) (rest more : List ℕ) → IsFingerprintWrittenBy high low byte → AllZip IsHexByte (pieces_of rest) more
-    → AllZip IsHexByte (pieces_of (high ∷ low ∷ 58 ∷ rest)) (byte ∷ more)
+pair_then : (high low byte : ℕ) (rest more : List ℕ) → IsFingerprintWrittenBy high low byte → AllZip IsHexByte (hash_pieces rest) more
+    → AllZip IsHexByte (hash_pieces (high ∷ low ∷ 58 ∷ rest)) (byte ∷ more)
 pair_then high low byte rest more h are =
     subst (λ (pieces : List (List ℕ)). AllZip IsHexByte pieces (byte ∷ more))
     (sym (slice_split_at (λ b. b == 58) (high ∷ low ∷ []) 58 rest (pair_whole high low byte h) refl))
     (written_pair_reads high low byte h, are)
 
-pair_alone : (high low byte : ℕ) → IsFingerprintWrittenBy high low byte → AllZip IsHexByte (pieces_of (high ∷ low ∷ [])) (byte ∷ [])
+pair_alone : (high low byte : ℕ) → IsFingerprintWrittenBy high low byte → AllZip IsHexByte (hash_pieces (high ∷ low ∷ [])) (byte ∷ [])
 pair_alone high low byte h =
     subst (λ (pieces : List (List ℕ)). AllZip IsHexByte pieces (byte ∷ []))
     (sym (slice_split_none (λ b. b == 58) (high ∷ low ∷ []) (pair_whole high low byte h))) (written_pair_reads high low byte h, tt)
@@ -51,19 +51,19 @@ two_at text a b eb el =
 -- what the text from the place on reads as, after these bytes, is what the whole reads as
 abbrev pub IsReadTo : List ℕ → ℕ → List ℕ → Type 0
 IsReadTo text place bytes =
-    (more : List ℕ) → AllZip IsHexByte (pieces_of (drop place text)) more → AllZip IsHexByte (pieces_of text) (bytes ++ more)
+    (more : List ℕ) → AllZip IsHexByte (hash_pieces (drop place text)) more → AllZip IsHexByte (hash_pieces text) (bytes ++ more)
 
 pub read_on : (text bytes : List ℕ) (byte a b c d : ℕ) → b ≡ suc a → c ≡ suc b → d ≡ suc c → c < length text → get_or text c 0 ≡ 58
     → IsFingerprintWrittenBy (get_or text a 0) (get_or text b 0) byte → IsReadTo text a bytes → IsReadTo text d (bytes ++ byte ∷ [])
 read_on text bytes byte a b c d eb ec ed lt colon h so_far = λ more are.
     let places = three_at text a b c d eb ec ed lt ∙ ap (λ x. get_or text a 0 ∷ get_or text b 0 ∷ x ∷ drop d text) colon in
-    subst (λ (all : List ℕ). AllZip IsHexByte (pieces_of text) all) (sym (append_assoc bytes (byte ∷ []) more))
-    (so_far (byte ∷ more) (subst (λ (left : List ℕ). AllZip IsHexByte (pieces_of left) (byte ∷ more)) (sym places)
+    subst (λ (all : List ℕ). AllZip IsHexByte (hash_pieces text) all) (sym (append_assoc bytes (byte ∷ []) more))
+    (so_far (byte ∷ more) (subst (λ (left : List ℕ). AllZip IsHexByte (hash_pieces left) (byte ∷ more)) (sym places)
     (pair_then (get_or text a 0) (get_or text b 0) byte (drop d text) more h are)))
 
 pub read_out : (text bytes : List ℕ) (byte a b : ℕ) → b ≡ suc a → length text ≡ suc b
     → IsFingerprintWrittenBy (get_or text a 0) (get_or text b 0) byte → IsReadTo text a bytes
-    → AllZip IsHexByte (pieces_of text) (bytes ++ byte ∷ [])
+    → AllZip IsHexByte (hash_pieces text) (bytes ++ byte ∷ [])
 read_out text bytes byte a b eb el h so_far =
-    so_far (byte ∷ []) (subst (λ (left : List ℕ). AllZip IsHexByte (pieces_of left) (byte ∷ [])) (sym (two_at text a b eb el))
+    so_far (byte ∷ []) (subst (λ (left : List ℕ). AllZip IsHexByte (hash_pieces left) (byte ∷ [])) (sym (two_at text a b eb el))
     (pair_alone (get_or text a 0) (get_or text b 0) byte h))

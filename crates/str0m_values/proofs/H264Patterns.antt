@@ -3,7 +3,7 @@ use Rattle.std.proofs.lemmas.List.Sums.{sum_by-cons}
 use Rattle.std.proofs.lemmas.Nat.{and_assoc, and_comm}
 use Rattle.str0m_values.proofs.Common.{◌≡◌, ◌≤◌, ◌+◌, ◌==◌, ◌&&◌, ◌||◌, ℕ, Bool, true, false, not, cond, List, [], ◌∷◌, refl, sym, ap, ◌∙◌}
 use Rattle.str0m_values.proofs.Common.{arith, and_parts, eq-eqb, cases_Bool, bit_and, count_by, eqb-true}
-use Rattle.str0m_values.specs.H264.{Pattern, patterns, fits}
+use Rattle.str0m_values.specs.H264.{Pattern, patterns, fits_pattern}
 
 -- the first bytes differ, or some bit that counts in both does
 abbrev pattern_apart : Pattern → Pattern → Bool
@@ -22,33 +22,34 @@ both_masks : (n m k : ℕ) → bit_and (bit_and n m) k ≡ bit_and (bit_and n k)
 both_masks n m k = and_assoc k n m ∙ ap (bit_and n) (and_comm m k) ∙ sym (and_assoc m n k)
 
 -- bytes that fit both of two patterns show that they aren't apart
-patterns_not_apart : (idc iop : ℕ) (a b : Pattern) → fits idc iop a ≡ true → fits idc iop b ≡ true → pattern_apart a b ≡ false
+patterns_not_apart : (idc iop : ℕ) (a b : Pattern) → fits_pattern idc iop a ≡ true → fits_pattern idc iop b ≡ true
+    → pattern_apart a b ≡ false
 patterns_not_apart idc iop a b p q = grind (arith, and_parts, eqb-true, both_masks, eq-eqb)
 
-misses : (idc iop : ℕ) (a b : Pattern) → pattern_apart a b ≡ true → fits idc iop a ≡ true → fits idc iop b ≡ false
+misses : (idc iop : ℕ) (a b : Pattern) → pattern_apart a b ≡ true → fits_pattern idc iop a ≡ true → fits_pattern idc iop b ≡ false
 misses idc iop a b e p = grind (arith, cases_Bool, patterns_not_apart)
 
 -- how many fit, with one more pattern in front
-counted : (idc iop : ℕ) (a : Pattern) (more : List Pattern)
-    → count_by (fits idc iop) (a ∷ more) ≡ cond (fits idc iop a) 1 0 + count_by (fits idc iop) more
-counted idc iop a more = sum_by-cons (λ x. cond (fits idc iop x) 1 0) a more
+patterns_counted : (idc iop : ℕ) (a : Pattern) (more : List Pattern)
+    → count_by (fits_pattern idc iop) (a ∷ more) ≡ cond (fits_pattern idc iop a) 1 0 + count_by (fits_pattern idc iop) more
+patterns_counted idc iop a more = sum_by-cons (λ x. cond (fits_pattern idc iop x) 1 0) a more
 
-no_pattern_fits : (idc iop : ℕ) (a : Pattern) (more : List Pattern) → pattern_apart_from a more ≡ true → fits idc iop a ≡ true
-    → count_by (fits idc iop) more ≡ 0
+no_pattern_fits : (idc iop : ℕ) (a : Pattern) (more : List Pattern) → pattern_apart_from a more ≡ true → fits_pattern idc iop a ≡ true
+    → count_by (fits_pattern idc iop) more ≡ 0
 no_pattern_fits idc iop a [] e p = refl
-no_pattern_fits idc iop a (b ∷ more) e p = grind (arith, and_parts, counted, misses, no_pattern_fits idc iop a more)
+no_pattern_fits idc iop a (b ∷ more) e p = grind (arith, and_parts, patterns_counted, misses, no_pattern_fits idc iop a more)
 
-at_most_one_pattern : (idc iop : ℕ) (rows : List Pattern) → patterns_apart rows ≡ true → count_by (fits idc iop) rows ≤ 1
+at_most_one_pattern : (idc iop : ℕ) (rows : List Pattern) → patterns_apart rows ≡ true → count_by (fits_pattern idc iop) rows ≤ 1
 at_most_one_pattern idc iop [] e = omega arith
 at_most_one_pattern idc iop (a ∷ more) e =
     grind (
       arith,
       and_parts (pattern_apart_from a more) (patterns_apart more) e,
-      cases_Bool (fits idc iop a),
-      counted idc iop a more,
+      cases_Bool (fits_pattern idc iop a),
+      patterns_counted idc iop a more,
       no_pattern_fits idc iop a more,
       at_most_one_pattern idc iop more,
     )
 
-pub one_pattern : (idc iop : ℕ) → count_by (fits idc iop) patterns ≤ 1
+pub one_pattern : (idc iop : ℕ) → count_by (fits_pattern idc iop) patterns ≤ 1
 one_pattern idc iop = at_most_one_pattern idc iop patterns refl

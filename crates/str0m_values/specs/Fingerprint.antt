@@ -32,8 +32,8 @@ pub record IsNamed (text name rest : List ℕ) : Type 0 where
   pub word : Lacks 32 name
 
 -- what stands between the `:`s
-abbrev pub pieces_of : List ℕ → List (List ℕ)
-pieces_of text = slice_split (λ b. b == 58) text
+abbrev pub hash_pieces : List ℕ → List (List ℕ)
+hash_pieces text = slice_split (λ b. b == 58) text
 
 -- the piece is the byte, in hexadecimal as std reads it
 abbrev pub IsHexByte : List ℕ → ℕ → Type 0
@@ -45,15 +45,15 @@ IsFingerprintWrittenBy high low byte = (digit_value high < 16) × (digit_value l
 
 -- the text is read as this fingerprint
 abbrev pub IsFingerprint : List ℕ → Fingerprint → Type 0
-IsFingerprint text f = (rest : List ℕ) × IsNamed text f.hash_func rest × AllZip IsHexByte (pieces_of rest) f.bytes
+IsFingerprint text f = (rest : List ℕ) × IsNamed text f.hash_func rest × AllZip IsHexByte (hash_pieces rest) f.bytes
 
 -- some piece of the text is no byte
-abbrev pub HasBadPiece : List ℕ → Type 0
-HasBadPiece text = Any (λ piece. (byte : ℕ) → ¬ (IsHexByte piece byte)) (pieces_of text)
+abbrev pub HasBadHashPiece : List ℕ → Type 0
+HasBadHashPiece text = Any (λ piece. (byte : ℕ) → ¬ (IsHexByte piece byte)) (hash_pieces text)
 
 -- some piece after the first space is no byte
 abbrev pub HasBadByte : List ℕ → Type 0
-HasBadByte text = (name : List ℕ) × (rest : List ℕ) × IsNamed text name rest × HasBadPiece rest
+HasBadByte text = (name : List ℕ) × (rest : List ℕ) × IsNamed text name rest × HasBadHashPiece rest
 
 -- the answer is this fingerprint, memory aside
 abbrev pub Gives : Fingerprint → Result Fingerprint FingerprintError → Type 0
@@ -62,9 +62,9 @@ Gives f (Err e) = e ≡ Memory
 
 -- what the bytes of a text are read as, or why they aren't
 abbrev pub IsBytesReading : List ℕ → Result (List ℕ) FingerprintError → Type 0
-IsBytesReading text (Ok bytes) = AllZip IsHexByte (pieces_of text) bytes
+IsBytesReading text (Ok bytes) = AllZip IsHexByte (hash_pieces text) bytes
 IsBytesReading text (Err NoSpace) = ⊥
-IsBytesReading text (Err BadByte) = HasBadPiece text
+IsBytesReading text (Err BadByte) = HasBadHashPiece text
 IsBytesReading text (Err Memory) = ⊤
 
 -- what a text is read as, or why it isn't; memory is asked for only after a space

@@ -27,12 +27,12 @@ patterns =
     ∷ []
 
 -- the first byte is that of the pattern, and so are those bits of the second that count
-abbrev pub fits : ℕ → ℕ → Pattern → Bool
-fits idc iop pattern = pattern.1 == idc && bit_and iop pattern.2 == pattern.3
+abbrev pub fits_pattern : ℕ → ℕ → Pattern → Bool
+fits_pattern idc iop pattern = pattern.1 == idc && bit_and iop pattern.2 == pattern.3
 
 -- the profile of the first pattern that fits
 abbrev pub profile_of : ℕ → ℕ → Option H264Profile
-profile_of idc iop = option_map (λ pattern. pattern.0) (find (fits idc iop) patterns)
+profile_of idc iop = option_map (λ pattern. pattern.0) (find (fits_pattern idc iop) patterns)
 
 -- ---- levels
 

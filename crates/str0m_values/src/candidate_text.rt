@@ -83,7 +83,7 @@ fn kind(text: &str) -> Option<(CandidateKind, &str)>
     Some((CandidateKind::from_word(word)?, rest))
 }
 
-fn related(text: &str) -> Option<(Option<SocketAddr>, &str)>
+fn related_address(text: &str) -> Option<(Option<SocketAddr>, &str)>
     ensures { option_map (λ x. (x.0, x.1.now)) result ≡ related_read text.now }
 {
     if strip(text, candidate_label::RELATED_ADDRESS).is_some() {
@@ -140,7 +140,7 @@ fn before_address(text: &str) -> Option<(Lead<'_>, &str)>
 }
 
 /// The username fragment of the last parts, where nothing stands after them.
-fn last(text: &str) -> Option<Option<&str>>
+fn last_ufrag(text: &str) -> Option<Option<&str>>
     ensures { option_map (λ x. option_map (λ w. w.now) x) result ≡ last_read text.now }
 {
     let (_, rest) = optional(text, candidate_label::GENERATION)?;
@@ -155,9 +155,9 @@ fn last(text: &str) -> Option<Option<&str>>
 fn behind_kind(text: &str) -> Option<Extras<'_>>
     ensures { option_map seen_extras result ≡ extras_read text.now }
 {
-    let (raddr, rest) = related(text)?;
+    let (raddr, rest) = related_address(text)?;
     let (tcptype, rest) = tcp_type(rest)?;
-    let ufrag = last(rest)?;
+    let ufrag = last_ufrag(rest)?;
     Some(Extras {
         raddr,
         tcptype,
@@ -182,7 +182,7 @@ fn find(text: &str) -> Option<Found<'_>>
 }
 
 /// The candidate of a text, with copies of the texts that it keeps.
-fn keep(alloc: Global, text: &str) -> Result<Option<Candidate>, AllocError>
+fn keep_candidate(alloc: Global, text: &str) -> Result<Option<Candidate>, AllocError>
     ensures { IfOk result (λ found. found ≡ candidate_read text.now) }
 {
     let Some(found) = find(text) else {
@@ -220,5 +220,5 @@ pub fn candidate(alloc: Global, text: &str) -> Result<Option<Candidate>, AllocEr
     // As the readers of lines compute it.
     ensures computed { IfOk result (λ found. found ≡ candidate_read text.now) }
 {
-    keep(alloc, text)
+    keep_candidate(alloc, text)
 }

@@ -3,7 +3,7 @@ ghost use Rattle.std.specs.Fmt.{digit_glyph};
 ghost use Rattle.std.specs.List.{AllZip};
 ghost use Rattle.std.specs.Prelude.{◌≡◌, ◌<◌, ◌∷◌, ◌↔◌, IfOk, IfSome, IsErr, IsErrOf, IsTrue, Some, true, flat_map};
 ghost use Rattle.str0m_values.specs.CutsParts.{Lacks};
-ghost use Rattle.str0m_values.specs.Fingerprint.{IsFingerprint, IsHexByte, IsFingerprintWrittenBy, HasBadByte, IsBytesReading, IsFingerprintReading, Gives, CanBeReadBack, fingerprint_text, hex_pair, pairs_text, pieces_of, preference_of};
+ghost use Rattle.str0m_values.specs.Fingerprint.{IsFingerprint, IsHexByte, IsFingerprintWrittenBy, HasBadByte, IsBytesReading, IsFingerprintReading, Gives, CanBeReadBack, fingerprint_text, hex_pair, pairs_text, hash_pieces, preference_of};
 ghost use Rattle.str0m_values.specs.declared.fingerprint.Fingerprint.{Fingerprint};
 ghost use Rattle.str0m_values.specs.declared.fingerprint.FingerprintError.TheVariants.{NoSpace, BadByte, Memory};
 
@@ -135,7 +135,7 @@ fn pair_byte(high: u8, low: u8) -> Option<u8>
 /// The bytes of a text that is two hex digits for each, as nearly all are: these are read in place. `None` where it is
 /// another text, which may hold bytes nevertheless.
 fn read_pairs(alloc: Global, text: &[u8]) -> Result<Option<Items<u8>>, AllocError>
-    ensures { IfOk result (λ found. IfSome found (AllZip IsHexByte (pieces_of text.now))) }
+    ensures { IfOk result (λ found. IfSome found (AllZip IsHexByte (hash_pieces text.now))) }
 {
     if text.len() % 3 != 2 {
         return Ok(None);

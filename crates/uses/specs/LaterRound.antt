@@ -9,16 +9,16 @@ use Rattle.str0m_signal.specs.session.ReaderAnswers.{Refuses}
 use Rattle.uses.specs.declared.call_error.CallError.{CallError}
 use Rattle.uses.specs.declared.call_error.CallError.TheVariants.{NotRead, Refused, Memory}
 
-abbrev pub refusal : Outcome → Option NegotiationError
-refusal (Ok done) = None
-refusal (Err cause) = Some cause
+abbrev pub round_refusal : Outcome → Option NegotiationError
+round_refusal (Ok done) = None
+round_refusal (Err cause) = Some cause
 
 -- the first of the outcomes that is a refusal has this cause; None where none is
 abbrev pub IsFirstRefusal : List Outcome → Option NegotiationError → Type 0
 IsFirstRefusal outcomes refused = MatchOption refused
-    ((k : ℕ) (outcome : Outcome) → slice_get outcomes k ≡ Some outcome → refusal outcome ≡ None)
+    ((k : ℕ) (outcome : Outcome) → slice_get outcomes k ≡ Some outcome → round_refusal outcome ≡ None)
     (λ cause. (i : ℕ) × (slice_get outcomes i ≡ Some (Err cause))
-    × ((k : ℕ) (outcome : Outcome) → k < i → slice_get outcomes k ≡ Some outcome → refusal outcome ≡ None))
+    × ((k : ℕ) (outcome : Outcome) → k < i → slice_get outcomes k ≡ Some outcome → round_refusal outcome ≡ None))
 
 -- the text's rounds lead from the rows before them to the rows after them, and this is the first refusal among them
 abbrev pub NegotiatesUntil : List ℕ → List PayloadParams → Option NegotiationError → List PayloadParams → Type 0

@@ -3,14 +3,14 @@
 ghost use Rattle.std.specs.Prelude.{◌≡◌};
 ghost use Rattle.str0m_formats.specs.round.RoundsPromises.{LockedStay};
 ghost use Rattle.str0m_signal.specs.back.ReadBack.{MayBePrinted};
-ghost use Rattle.uses.specs.LaterRound.{ComesToRound, IsFirstRefusal, refusal};
+ghost use Rattle.uses.specs.LaterRound.{ComesToRound, IsFirstRefusal, round_refusal};
 
 use crate::call_error::CallError;
 use str0m_signal::{CodecConfig, NegotiationError, negotiate_text};
 
 /// The cause of a round that was refused.
-fn refusal(outcome: &Result<(), NegotiationError>) -> Option<NegotiationError>
-    ensures { result ≡ refusal outcome.now }
+fn round_refusal(outcome: &Result<(), NegotiationError>) -> Option<NegotiationError>
+    ensures { result ≡ round_refusal outcome.now }
 {
     match outcome {
         Ok(()) => None,
@@ -21,7 +21,7 @@ fn refusal(outcome: &Result<(), NegotiationError>) -> Option<NegotiationError>
 fn first_refusal(outcomes: &[Result<(), NegotiationError>]) -> Option<NegotiationError>
     ensures { IsFirstRefusal outcomes.now result }
 {
-    outcomes.iter().find_map(|outcome| refusal(outcome))
+    outcomes.iter().find_map(|outcome| round_refusal(outcome))
 }
 
 /// Negotiates with a later offer. `Ok` where every round was accepted; else the error is the first

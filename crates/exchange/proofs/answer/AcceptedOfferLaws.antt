@@ -7,15 +7,16 @@ use Rattle.exchange.proofs.Common.{direction_attribute, MediaAttribute, Proto, S
 use Rattle.exchange.proofs.Common.{NACK, PLI, REMB, TRANSPORT_CC, MediaLine, Sdp, is_mid, maps, is_of_type, made, feedback_attrs}
 use Rattle.exchange.proofs.Common.{feedback_line, fmtp_line, format_attrs, format_values, red_attrs, red_lines, row_attrs, rtx_attrs}
 use Rattle.exchange.proofs.Common.{rtx_lines, AreMidsDistinct, section_mids, receives, Candidate, Direction}
-use Rattle.exchange.proofs.offer.OfferNameLaws.{NamesDiffer, Other, name_differ_from}
+use Rattle.exchange.proofs.offer.OfferNameLaws.{NamesDiffer, OtherName, name_differ_from}
 use Rattle.exchange.proofs.offer.RuleLaws.{sections_shape}
 use Rattle.exchange.specs.answer.Accepted.{are_layers_told, candidate_line, channel_lines, first_lines, framed, layer_lines, media_lines}
 use Rattle.exchange.specs.answer.Accepted.{msid_lines, track_id}
 use Rattle.exchange.specs.answer.AcceptedOffer.{section_tracks, track_of}
 use Rattle.exchange.specs.answer.AnsweredSection.{AnswersSection, SaysSectionChoice}
-use Rattle.exchange.specs.answer.Layers.{answered_layers, answered_rid, answered_rids, is_rid_left, is_named, layers_line, received_layers}
-use Rattle.exchange.specs.answer.Layers.{sent_layers, types_left}
-use Rattle.exchange.specs.answer.RejectedSection.{direction_over, first_type, line_that, rejecting}
+use Rattle.exchange.specs.answer.Layers.{answered_layers, answered_rid, answered_rids, is_rid_left, is_layer_named, layers_line}
+use Rattle.exchange.specs.answer.Layers.{received_layers}
+use Rattle.exchange.specs.answer.Layers.{sent_layers, rid_types_left}
+use Rattle.exchange.specs.answer.RejectedSection.{direction_over, first_rejected_type, first_rejected_line, rejecting}
 use Rattle.exchange.specs.declared.answer.choice.Choice.{Choice}
 use Rattle.exchange.specs.declared.answer.choice.Choice.TheVariants.{Rejected, Media, Channels}
 use Rattle.exchange.specs.declared.state.own_side.DataChannels.{DataChannels}
@@ -107,12 +108,13 @@ rids_trackless : (sent : List SimulcastLayer) (rows : List PayloadParams) (attrs
     → Trackless (filter_map (answered_rid sent rows) attrs)
 rids_trackless sent rows [] = refl
 rids_trackless sent rows (media.Rid id direction pts restrictions ∷ attrs) =
-    go (bytes_eq direction (codes "send") && (list_any (is_named id.0) sent && is_rid_left rows pts)) (rids_trackless sent rows attrs) where
-      go : (b : Bool) → Trackless (filter_map (answered_rid sent rows) attrs)
-          → Trackless (cons_option (cond b (Some (media.Rid id (codes "recv") (types_left rows pts) restrictions)) None)
-          (filter_map (answered_rid sent rows) attrs))
-      go true rec = rec
-      go false rec = rec
+    go (bytes_eq direction (codes "send") && (list_any (is_layer_named id.0) sent && is_rid_left rows pts)) (rids_trackless sent rows attrs)
+  where
+    go : (b : Bool) → Trackless (filter_map (answered_rid sent rows) attrs)
+        → Trackless (cons_option (cond b (Some (media.Rid id (codes "recv") (rid_types_left rows pts) restrictions)) None)
+        (filter_map (answered_rid sent rows) attrs))
+    go true rec = rec
+    go false rec = rec
 rids_trackless sent rows (attr ∷ attrs) = rids_trackless sent rows attrs
 
 layers_trackless : (layers : List SimulcastLayer) → Trackless (layers_line layers)
@@ -198,10 +200,10 @@ over_trackless Sctp = refl
 
 rejected_trackless : (offered : MediaLine) → section_tracks (rejecting offered) ≡ []
 rejected_trackless offered =
-    let mapped : List MediaAttribute = line_that (maps (first_type offered.pts)) offered.attrs in
-    trackless_both (line_that is_mid offered.attrs) (direction_over offered.proto ++ mapped) (mid_trackless offered.attrs)
+    let mapped : List MediaAttribute = first_rejected_line (maps (first_rejected_type offered.pts)) offered.attrs in
+    trackless_both (first_rejected_line is_mid offered.attrs) (direction_over offered.proto ++ mapped) (mid_trackless offered.attrs)
     (trackless_both (direction_over offered.proto) mapped (over_trackless offered.proto)
-    (mapped_trackless (first_type offered.pts) offered.attrs))
+    (mapped_trackless (first_rejected_type offered.pts) offered.attrs))
 
 channels_trackless : (own : OwnSide) (offered : MediaLine) (mid : List ℕ) (role : Setup) (channels : DataChannels)
     → section_tracks (framed offered (first_lines own mid role ++ channel_lines channels ++ map candidate_line own.candidates)) ≡ []
@@ -237,16 +239,17 @@ same_mids (theirs ∷ more) (m ∷ ms) zip =
     ∙ ap (cons_option (name_of theirs)) (same_mids more ms zip.1)
 
 -- the track of a name is none of sections of other names
-track_apart : (mid : List ℕ) (ms : List MediaLine) → All (Other (Some mid)) ms → All TracksSo ms
+track_apart : (mid : List ℕ) (ms : List MediaLine) → All (OtherName (Some mid)) ms → All TracksSo ms
     → All (λ track. track_id mid ≢ track) (flat_map section_tracks ms)
 track_apart mid [] other so = All-nil (λ (track : List ℕ). track_id mid ≢ track)
 track_apart mid (m ∷ ms) other so =
-    All-append P (section_tracks m) (flat_map section_tracks ms) (here (All-head (Other (Some mid)) m ms other) (All-head TracksSo m ms so))
-    (track_apart mid ms (All-tail (Other (Some mid)) m ms other) (All-tail TracksSo m ms so)) where
+    All-append P (section_tracks m) (flat_map section_tracks ms)
+    (here (All-head (OtherName (Some mid)) m ms other) (All-head TracksSo m ms so))
+    (track_apart mid ms (All-tail (OtherName (Some mid)) m ms other) (All-tail TracksSo m ms so)) where
       P : List ℕ → Type 0
       P track = track_id mid ≢ track
 
-      here : Other (Some mid) m → TracksSo m → All P (section_tracks m)
+      here : OtherName (Some mid) m → TracksSo m → All P (section_tracks m)
       here apart (inl none) = subst (All P) (sym none) (All-nil P)
       here apart (inr said) =
           let differs : said.0 ≢ mid = subst (λ (name : Option (List ℕ)). IfSome name (λ k. k ≢ mid)) said.1 apart in
@@ -261,17 +264,18 @@ distinct_tracks (m ∷ ms) differ so = go (All-head TracksSo m ms so) (distinct_
   go (inr said) rec =
       subst (λ (found : List (List ℕ)). AreMidsDistinct (found ++ flat_map section_tracks ms)) (sym said.2)
       (AllPairs-cons (λ (a b : List ℕ). a ≢ b) (track_id said.0) (flat_map section_tracks ms)
-      (track_apart said.0 ms (subst (λ (name : Option (List ℕ)). All (Other name) ms) said.1 differ.0) (All-tail TracksSo m ms so)) rec)
+      (track_apart said.0 ms (subst (λ (name : Option (List ℕ)). All (OtherName name) ms) said.1 differ.0) (All-tail TracksSo m ms so)) rec)
 
 -- an answer has the names of its offer
-pub same_names : (own : OwnSide) (ours : List PayloadParams) (offer : Sdp) (answered : List MediaLine)
+pub offer_same_names : (own : OwnSide) (ours : List PayloadParams) (offer : Sdp) (answered : List MediaLine)
     → AllZip (AnswersSection own ours offer) offer.media_lines answered
     → section_mids answered ≡ section_mids offer.media_lines
-same_names own ours offer answered answers = same_mids offer.media_lines answered (sections_shape own ours offer answered answers)
+offer_same_names own ours offer answered answers = same_mids offer.media_lines answered (sections_shape own ours offer answered answers)
 
 pub tracks_differ : (own : OwnSide) (ours : List PayloadParams) (offer : Sdp) (answered : List MediaLine)
     → AllZip (AnswersSection own ours offer) offer.media_lines answered
     → AreMidsDistinct (section_mids offer.media_lines) → AreMidsDistinct (flat_map section_tracks answered)
 tracks_differ own ours offer answered answers distinct =
-    distinct_tracks answered (name_differ_from answered (subst AreMidsDistinct (sym (same_names own ours offer answered answers)) distinct))
+    distinct_tracks answered (name_differ_from answered
+    (subst AreMidsDistinct (sym (offer_same_names own ours offer answered answers)) distinct))
     (offer_all_so own ours offer offer.media_lines answered answers)

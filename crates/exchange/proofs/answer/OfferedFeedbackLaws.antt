@@ -3,8 +3,8 @@ use Rattle.exchange.proofs.Common.{◌≡◌, ◌<◌, ◌+◌, ◌==◌, ◌||�
 use Rattle.exchange.proofs.Common.{Option, Some, None, inl, inr, refl, subst, sym, ap, ◌∙◌, bytes_eq, if◌then◌else◌, cases_eq, eq-eqb}
 use Rattle.exchange.proofs.Common.{ne_eqb, get_or-replicate, get_or-set_other, get_or-set_same, length-set, MediaAttribute, RtcpFb, Unused}
 use Rattle.exchange.specs.answer.OfferedFeedback.{IsGathered, either_offered, offered_feedback_by, named_offered, none_offered}
-use Rattle.exchange.specs.answer.OfferedFeedback.{offered_feedback, with_offered, value_for_all}
-use Rattle.exchange.specs.answer.Rows.{are, is_offered, offers, value_of_all}
+use Rattle.exchange.specs.answer.OfferedFeedback.{offered_feedback, with_offered, feedback_for_all}
+use Rattle.exchange.specs.answer.Rows.{is_this_value, is_offered, offers, feedback_value_of_all}
 use Rattle.exchange.specs.declared.answer.offered_feedback.OfferedFeedback.{OfferedFeedback}
 use Rattle.std.proofs.Math.Bool.{or_comm}
 use Rattle.str0m_sdp.proofs.{mark_any_more, mark_any_same}
@@ -14,17 +14,17 @@ use Rattle.str0m_sdp.proofs.{mark_any_more, mark_any_same}
 -- the value of a line that offers feedback, for the type or for all types
 abbrev value_for : ℕ → MediaAttribute → Option (List ℕ)
 value_for pt (RtcpFb n value) = if n == pt then Some value else None
-value_for pt (Unused text) = value_of_all text
+value_for pt (Unused text) = feedback_value_of_all text
 value_for pt _ = None
 
 -- a line offers the value that it says
-by_value : (pt : ℕ) (words : List ℕ) (attr : MediaAttribute) → offers pt words attr ≡ are words (value_for pt attr)
-by_value pt words (RtcpFb n value) = go (n == pt) where
-  go : (b : Bool) → (b && bytes_eq value words) ≡ are words (if b then Some value else None)
+feedback_by_value : (pt : ℕ) (words : List ℕ) (attr : MediaAttribute) → offers pt words attr ≡ is_this_value words (value_for pt attr)
+feedback_by_value pt words (RtcpFb n value) = go (n == pt) where
+  go : (b : Bool) → (b && bytes_eq value words) ≡ is_this_value words (if b then Some value else None)
   go true = refl
   go false = refl
-by_value pt words (Unused text) = refl
-by_value pt words _ = refl
+feedback_by_value pt words (Unused text) = refl
+feedback_by_value pt words _ = refl
 
 -- before any line nothing is offered
 feedback_before_all : (pt : ℕ) → none_offered ≡ offered_feedback [] pt
@@ -37,7 +37,7 @@ same_feedback : (attrs : List MediaAttribute) (i : ℕ) (attr : MediaAttribute) 
     → offered_feedback (take (i + 1) attrs) pt ≡ offered_feedback (take i attrs) pt
 unfolding is_offered
 same_feedback attrs i attr pt lt at says = λ j. offered_feedback_by
-    (λ words. mark_any_same (offers pt words) attrs i attr lt at (by_value pt words attr ∙ ap (are words) says) j)
+    (λ words. mark_any_same (offers pt words) attrs i attr lt at (feedback_by_value pt words attr ∙ ap (is_this_value words) says) j)
 
 -- a line adds what it says
 feedback_more : (attrs : List MediaAttribute) (i : ℕ) (attr : MediaAttribute) (pt : ℕ) (said : List ℕ) → i < length attrs
@@ -46,7 +46,7 @@ feedback_more : (attrs : List MediaAttribute) (i : ℕ) (attr : MediaAttribute) 
 unfolding is_offered
 feedback_more attrs i attr pt said lt at says = λ j. offered_feedback_by (λ words.
     (mark_any_more (offers pt words) attrs i attr lt at
-    ∙ ap (λ (b : Bool). is_offered (take i attrs) pt words || b) (by_value pt words attr ∙ ap (are words) says)) j)
+    ∙ ap (λ (b : Bool). is_offered (take i attrs) pt words || b) (feedback_by_value pt words attr ∙ ap (is_this_value words) says)) j)
 
 line_value_more : (attrs : List MediaAttribute) (i : ℕ) (attr : MediaAttribute) (pt : ℕ) (said : Option (List ℕ)) → i < length attrs
     → attr ≡ get_or attrs i attr → value_for pt attr ≡ said
@@ -100,12 +100,12 @@ none_gathered of_types of_all table all = record {
 }
 
 -- a line of a type adds to that type
-type_more : (attrs : List MediaAttribute) (of_types : List OfferedFeedback) (of_all : OfferedFeedback) (i n : ℕ) (value : List ℕ)
+feedback_type_more : (attrs : List MediaAttribute) (of_types : List OfferedFeedback) (of_all : OfferedFeedback) (i n : ℕ) (value : List ℕ)
     (attr : MediaAttribute)
     → i < length attrs → attr ≡ get_or attrs i attr → attr ≡ RtcpFb n value → n < 256 → IsGathered (take i attrs) of_types of_all
     → either_offered (get_or (set of_types n (either_offered (get_or of_types n none_offered) (named_offered value))) n none_offered) of_all
     ≡ offered_feedback (take (i + 1) attrs) n
-type_more attrs of_types of_all i n value attr lt at variant small so_far =
+feedback_type_more attrs of_types of_all i n value attr lt at variant small so_far =
     ap (λ (f : OfferedFeedback). either_offered f of_all)
     (get_or-set_same of_types n (either_offered (get_or of_types n none_offered) (named_offered value)) none_offered
     (subst (λ (m : ℕ). n < m) (sym so_far.whole) small))
@@ -126,25 +126,26 @@ feedback_apart_more attrs of_types of_all i n value attr lt at variant so_far ad
     ∙ sym (same_feedback attrs i attr pt lt at (ap (value_for pt) variant
     ∙ ap (λ (b : Bool). if b then Some value else None) (ne_eqb n pt apart)))
 
-pub typed_more : (attrs : List MediaAttribute) (of_types : List OfferedFeedback) (of_all : OfferedFeedback) (i n : ℕ) (value : List ℕ)
+pub feedback_typed_more : (attrs : List MediaAttribute) (of_types : List OfferedFeedback) (of_all : OfferedFeedback) (i n : ℕ)
+    (value : List ℕ)
     (attr : MediaAttribute)
     → i < length attrs → attr ≡ get_or attrs i attr → attr ≡ RtcpFb n value → n < 256 → IsGathered (take i attrs) of_types of_all
     → IsGathered (take (i + 1) attrs) (set of_types n (either_offered (get_or of_types n none_offered) (named_offered value))) of_all
-typed_more attrs of_types of_all i n value attr lt at variant small so_far = record {
+feedback_typed_more attrs of_types of_all i n value attr lt at variant small so_far = record {
   whole = length-set of_types n _ ∙ so_far.whole;
   each = λ pt within. elim (cases_eq n pt) [
     | inl is ↦
         subst (λ (k : ℕ). either_offered
         (get_or (set of_types n (either_offered (get_or of_types n none_offered) (named_offered value))) k none_offered) of_all
         ≡ offered_feedback (take (i + 1) attrs) k) is
-        (type_more attrs of_types of_all i n value attr lt at variant small so_far)
+        (feedback_type_more attrs of_types of_all i n value attr lt at variant small so_far)
     | inr apart ↦ feedback_apart_more attrs of_types of_all i n value attr lt at variant so_far _ pt within apart
   ];
 }
 
 -- what is no line of one type may be one of all
 value_of_any : (pt : ℕ) (attr : MediaAttribute) → ((n : ℕ) (value : List ℕ) → attr ≡ RtcpFb n value → ⊥)
-    → value_for pt attr ≡ value_for_all attr
+    → value_for pt attr ≡ feedback_for_all attr
 value_of_any pt (RtcpFb n value) other = absurd (other n value refl)
 value_of_any pt (Unused text) other = refl
 value_of_any pt _ other = refl
@@ -154,13 +155,13 @@ pub feedback_other_more : (attrs : List MediaAttribute) (of_types : List Offered
     (attr : MediaAttribute)
     → i < length attrs → attr ≡ get_or attrs i attr → ((n : ℕ) (value : List ℕ) → attr ≡ RtcpFb n value → ⊥)
     → IsGathered (take i attrs) of_types of_all
-    → IsGathered (take (i + 1) attrs) of_types (with_offered of_all (value_for_all attr))
+    → IsGathered (take (i + 1) attrs) of_types (with_offered of_all (feedback_for_all attr))
 feedback_other_more attrs of_types of_all i attr lt at other so_far = record {
   whole = so_far.whole;
   each = λ pt within.
-      with_either (get_or of_types pt none_offered) of_all (value_for_all attr)
-      ∙ ap (λ (f : OfferedFeedback). with_offered f (value_for_all attr)) (so_far.each pt within)
-      ∙ sym (line_value_more attrs i attr pt (value_for_all attr) lt at (value_of_any pt attr other));
+      with_either (get_or of_types pt none_offered) of_all (feedback_for_all attr)
+      ∙ ap (λ (f : OfferedFeedback). with_offered f (feedback_for_all attr)) (so_far.each pt within)
+      ∙ sym (line_value_more attrs i attr pt (feedback_for_all attr) lt at (value_of_any pt attr other));
 }
 
 -- what is told of a type

@@ -7,8 +7,9 @@ use Rattle.exchange.proofs.Common.{REMB, TRANSPORT_CC, MediaLine, is_of_type, ma
 use Rattle.exchange.proofs.Common.{format_values, red_attrs, red_lines, row_attrs, rtx_attrs, rtx_lines, receives, Candidate, Direction}
 use Rattle.exchange.specs.answer.Accepted.{are_layers_told, candidate_line, channel_lines, first_lines, framed, layer_lines, media_lines}
 use Rattle.exchange.specs.answer.Accepted.{msid_lines}
-use Rattle.exchange.specs.answer.Layers.{answered_layers, answered_rid, answered_rids, is_rid_left, is_named, layers_line, received_layers}
-use Rattle.exchange.specs.answer.Layers.{sent_layers, types_left}
+use Rattle.exchange.specs.answer.Layers.{answered_layers, answered_rid, answered_rids, is_rid_left, is_layer_named, layers_line}
+use Rattle.exchange.specs.answer.Layers.{received_layers}
+use Rattle.exchange.specs.answer.Layers.{sent_layers, rid_types_left}
 use Rattle.exchange.specs.declared.state.own_side.DataChannels.{DataChannels}
 use Rattle.exchange.specs.declared.state.own_side.OwnSide.{OwnSide}
 use Rattle.exchange.specs.offer.Rules.{SaysOnlyOffered, needs_offer}
@@ -96,12 +97,13 @@ rids_none : (sent : List SimulcastLayer) (rows : List PayloadParams) (attrs : Li
     → list_any needs_offer (filter_map (answered_rid sent rows) attrs) ≡ false
 rids_none sent rows [] = refl
 rids_none sent rows (media.Rid id direction pts restrictions ∷ attrs) =
-    go (bytes_eq direction (codes "send") && (list_any (is_named id.0) sent && is_rid_left rows pts)) (rids_none sent rows attrs) where
-      go : (b : Bool) → list_any needs_offer (filter_map (answered_rid sent rows) attrs) ≡ false
-          → list_any needs_offer (cons_option (cond b (Some (media.Rid id (codes "recv") (types_left rows pts) restrictions)) None)
-          (filter_map (answered_rid sent rows) attrs)) ≡ false
-      go true rec = rec
-      go false rec = rec
+    go (bytes_eq direction (codes "send") && (list_any (is_layer_named id.0) sent && is_rid_left rows pts)) (rids_none sent rows attrs)
+  where
+    go : (b : Bool) → list_any needs_offer (filter_map (answered_rid sent rows) attrs) ≡ false
+        → list_any needs_offer (cons_option (cond b (Some (media.Rid id (codes "recv") (rid_types_left rows pts) restrictions)) None)
+        (filter_map (answered_rid sent rows) attrs)) ≡ false
+    go true rec = rec
+    go false rec = rec
 rids_none sent rows (attr ∷ attrs) = rids_none sent rows attrs
 
 layers_none : (layers : List SimulcastLayer) → list_any needs_offer (layers_line layers) ≡ false

@@ -27,10 +27,10 @@ feeds_before_rest text rest n from some is =
     omega (arith, before, both, line_number text rest from some)
 
 -- so its number is the next
-pub numbered : (text rest : List ℕ) (n most line : ℕ) (from : IsFromLine text rest) → rest ≢ [] → n ≡ length text - length rest
+pub rest_numbered : (text rest : List ℕ) (n most line : ℕ) (from : IsFromLine text rest) → rest ≢ [] → n ≡ length text - length rest
     → length text ≤ most
     → line ≡ min (line_feeds (take n text) + 1) most → line ≡ length from.before + 1
-numbered text rest n most line from some is bounded told =
+rest_numbered text rest n most line from some is bounded told =
     let feeds : line_feeds (take n text) ≡ length from.before = feeds_before_rest text rest n from some is in
     let whole : length text ≡ length (lines_joined from.before) + length rest =
     ap (λ (t : List ℕ). length t) (front_lines_first text rest from) ∙ length-append (lines_joined from.before) rest in

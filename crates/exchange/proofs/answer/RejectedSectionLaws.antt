@@ -4,8 +4,8 @@ use Rattle.exchange.proofs.Common.{IfSome, find, count_by, option_to_list, refl,
 use Rattle.exchange.proofs.Common.{All-head, All-nil, list_any, is_some, count-append, rows_uncounted, MediaAttribute, MediaType}
 use Rattle.exchange.proofs.Common.{Application}
 use Rattle.exchange.proofs.Common.{Audio, Video, Unknown, Proto, Srtp, Sctp, MediaLine, Consistent, is_mid, maps}
-use Rattle.exchange.proofs.answer.RowsListLaws.{found, is_some_find}
-use Rattle.exchange.specs.answer.RejectedSection.{direction_over, first_type, line_that, rejected_type_alone, rejecting}
+use Rattle.exchange.proofs.answer.RowsListLaws.{list_found, is_some_find}
+use Rattle.exchange.specs.answer.RejectedSection.{direction_over, first_rejected_type, first_rejected_line, rejected_type_alone, rejecting}
 use Rattle.str0m_formats.specs.declared.codec.Codec.TheVariants.{PCMU}
 use Rattle.str0m_formats.specs.format.FormatParams.{empty}
 use Rattle.str0m_sdp.specs.declared.attribute.MediaAttribute.TheVariants as media
@@ -25,15 +25,15 @@ of_mid : (pt : ℕ) (line : MediaAttribute) → is_mid line ≡ true → CountsA
 of_mid pt (media.Mid mid) h = record { mid_is = refl; setup_is = refl; direction_is = refl; mapping_is = refl; agrees = λ lines. tt }
 of_mid pt _ h = absurd (false≢true h)
 
-of_mapping : (pt : ℕ) (line : MediaAttribute) → maps pt line ≡ true → CountsAmongLines pt line false false false true
-of_mapping pt (media.RtpMap n value) h = record {
+rejected_counts_of_mapping : (pt : ℕ) (line : MediaAttribute) → maps pt line ≡ true → CountsAmongLines pt line false false false true
+rejected_counts_of_mapping pt (media.RtpMap n value) h = record {
   mid_is = refl;
   setup_is = refl;
   direction_is = refl;
   mapping_is = h;
   agrees = λ lines. tt;
 }
-of_mapping pt _ h = absurd (false≢true h)
+rejected_counts_of_mapping pt _ h = absurd (false≢true h)
 
 -- ---- a line that is found
 
@@ -56,38 +56,40 @@ rejected_counted_line_is_there test lines one = go (list_any test lines) refl wh
   go true e = is_some_find test lines ∙ e
   go false e = let none = rows_uncounted test lines e in absurd (omega arith)
 
-line_weaker : (P Q : MediaAttribute → Type 0) → ((line : MediaAttribute) → P line → Q line) → (o : Option MediaAttribute) → IfSome o P
+rejected_line_weaker : (P Q : MediaAttribute → Type 0) → ((line : MediaAttribute) → P line → Q line) → (o : Option MediaAttribute)
+    → IfSome o P
     → IfSome o Q
-line_weaker P Q f None h = tt
-line_weaker P Q f (Some line) h = f line h
+rejected_line_weaker P Q f None h = tt
+rejected_line_weaker P Q f (Some line) h = f line h
 
 -- ---- the lines of the section
 
 module _ (offered : MediaLine) (is : Consistent offered) where
   abbrev pt : ℕ
-  pt = first_type offered.pts
+  pt = first_rejected_type offered.pts
 
   abbrev mid_found : Option MediaAttribute
   mid_found = find is_mid offered.attrs
 
-  abbrev mapping_found : Option MediaAttribute
-  mapping_found = find (maps pt) offered.attrs
+  abbrev rejected_mapping_found : Option MediaAttribute
+  rejected_mapping_found = find (maps pt) offered.attrs
 
-  abbrev its_lines : List MediaAttribute
-  its_lines = option_to_list mid_found ++ (direction_over offered.proto ++ option_to_list mapping_found)
+  abbrev rejecting_lines_of : List MediaAttribute
+  rejecting_lines_of = option_to_list mid_found ++ (direction_over offered.proto ++ option_to_list rejected_mapping_found)
 
   mid_counts : IfSome mid_found (λ line. CountsAmongLines pt line true false false false)
-  mid_counts = line_weaker _ _ (λ line h. of_mid pt line h.0) mid_found (found is_mid offered.attrs)
+  mid_counts = rejected_line_weaker _ _ (λ line h. of_mid pt line h.0) mid_found (list_found is_mid offered.attrs)
 
-  mapping_counts : IfSome mapping_found (λ line. CountsAmongLines pt line false false false true)
-  mapping_counts = line_weaker _ _ (λ line h. of_mapping pt line h.0) mapping_found (found (maps pt) offered.attrs)
+  rejected_mapping_counts : IfSome rejected_mapping_found (λ line. CountsAmongLines pt line false false false true)
+  rejected_mapping_counts = rejected_line_weaker _ _ (λ line h. rejected_counts_of_mapping pt line h.0) rejected_mapping_found
+      (list_found (maps pt) offered.attrs)
 
-  lines_counted : (test : MediaAttribute → Bool) → count_by test its_lines ≡ count_by test (option_to_list mid_found)
-      + (count_by test (direction_over offered.proto) + count_by test (option_to_list mapping_found))
-  lines_counted test =
-      count-append test (option_to_list mid_found) (direction_over offered.proto ++ option_to_list mapping_found)
+  rejected_lines_counted : (test : MediaAttribute → Bool) → count_by test rejecting_lines_of ≡ count_by test (option_to_list mid_found)
+      + (count_by test (direction_over offered.proto) + count_by test (option_to_list rejected_mapping_found))
+  rejected_lines_counted test =
+      count-append test (option_to_list mid_found) (direction_over offered.proto ++ option_to_list rejected_mapping_found)
       ∙ ap (λ (n : ℕ). count_by test (option_to_list mid_found) + n)
-      (count-append test (direction_over offered.proto) (option_to_list mapping_found))
+      (count-append test (direction_over offered.proto) (option_to_list rejected_mapping_found))
 
   -- a line of a direction is neither a name nor a setup nor a mapping
   record Directed (proto : Proto) : Type 0 where
@@ -107,75 +109,81 @@ module _ (offered : MediaLine) (is : Consistent offered) where
   }
   directed Sctp = record { mids = refl; setups = refl; mappings = refl; one = λ e. cc; agree = λ all. All-nil (AgreesOnApt all) }
 
-  one_mid_line : count_by is_mid its_lines ≡ 1
+  one_mid_line : count_by is_mid rejecting_lines_of ≡ 1
   one_mid_line =
       let here = rejected_counts_one is_mid mid_found (rejected_counted_line_is_there is_mid offered.attrs is.mid)
-      (line_weaker _ _ (λ line h. h.mid_is) mid_found mid_counts) in
-      let neither = rejected_counts_none is_mid mapping_found (line_weaker _ _ (λ line h. h.mid_is) mapping_found mapping_counts) in
+      (rejected_line_weaker _ _ (λ line h. h.mid_is) mid_found mid_counts) in
+      let neither = rejected_counts_none is_mid rejected_mapping_found
+      (rejected_line_weaker _ _ (λ line h. h.mid_is) rejected_mapping_found rejected_mapping_counts) in
       let none = (directed offered.proto).mids in
-      omega (arith, lines_counted is_mid, here, neither, none)
+      omega (arith, rejected_lines_counted is_mid, here, neither, none)
 
-  few_setups : count_by is_setup its_lines ≤ 1
+  few_setups : count_by is_setup rejecting_lines_of ≤ 1
   few_setups =
-      let here = rejected_counts_none is_setup mid_found (line_weaker _ _ (λ line h. h.setup_is) mid_found mid_counts) in
-      let neither = rejected_counts_none is_setup mapping_found (line_weaker _ _ (λ line h. h.setup_is) mapping_found mapping_counts) in
+      let here = rejected_counts_none is_setup mid_found (rejected_line_weaker _ _ (λ line h. h.setup_is) mid_found mid_counts) in
+      let neither = rejected_counts_none is_setup rejected_mapping_found
+      (rejected_line_weaker _ _ (λ line h. h.setup_is) rejected_mapping_found rejected_mapping_counts) in
       let none = (directed offered.proto).setups in
-      omega (arith, lines_counted is_setup, here, neither, none)
+      omega (arith, rejected_lines_counted is_setup, here, neither, none)
 
-  one_direction : offered.proto ≡ Srtp → count_by is_direction its_lines ≡ 1
+  one_direction : offered.proto ≡ Srtp → count_by is_direction rejecting_lines_of ≡ 1
   one_direction srtp =
-      let here = rejected_counts_none is_direction mid_found (line_weaker _ _ (λ line h. h.direction_is) mid_found mid_counts) in
-      let neither = rejected_counts_none is_direction mapping_found
-      (line_weaker _ _ (λ line h. h.direction_is) mapping_found mapping_counts) in
+      let here = rejected_counts_none is_direction mid_found (rejected_line_weaker _ _ (λ line h. h.direction_is) mid_found mid_counts) in
+      let neither = rejected_counts_none is_direction rejected_mapping_found
+      (rejected_line_weaker _ _ (λ line h. h.direction_is) rejected_mapping_found rejected_mapping_counts) in
       let one = (directed offered.proto).one srtp in
-      omega (arith, lines_counted is_direction, here, neither, one)
+      omega (arith, rejected_lines_counted is_direction, here, neither, one)
 
-  mappings : count_by (maps pt) its_lines ≡ count_by (maps pt) (option_to_list mapping_found)
+  mappings : count_by (maps pt) rejecting_lines_of ≡ count_by (maps pt) (option_to_list rejected_mapping_found)
   mappings =
-      let here = rejected_counts_none (maps pt) mid_found (line_weaker _ _ (λ line h. h.mapping_is) mid_found mid_counts) in
+      let here = rejected_counts_none (maps pt) mid_found (rejected_line_weaker _ _ (λ line h. h.mapping_is) mid_found mid_counts) in
       let none = (directed offered.proto).mappings in
-      omega (arith, lines_counted (maps pt), here, none)
+      omega (arith, rejected_lines_counted (maps pt), here, none)
 
-  needs_no_mapping : (pts : List ℕ) → offered.pts ≡ pts → is_some (find (maps (first_type pts)) offered.attrs) ≡ false
-      → NeedsNoMapping (first_type pts)
-  needs_no_mapping [] e none = (record { codec = PCMU; clock_rate = 8000; channels = None; format = empty }, (refl, refl, refl))
-  needs_no_mapping (t ∷ ts) e none = go (All-head (IsMapped offered.attrs) t ts (subst (All (IsMapped offered.attrs)) e is.mapped)) where
-    go : IsMapped offered.attrs t → NeedsNoMapping t
-    go (inl one) = absurd (false≢true (sym none ∙ rejected_counted_line_is_there (maps t) offered.attrs one))
-    go (inr h) = h.1
+  rejected_needs_no_mapping : (pts : List ℕ) → offered.pts ≡ pts → is_some (find (maps (first_rejected_type pts)) offered.attrs) ≡ false
+      → NeedsNoMapping (first_rejected_type pts)
+  rejected_needs_no_mapping [] e none = (record { codec = PCMU; clock_rate = 8000; channels = None; format = empty }, (refl, refl, refl))
+  rejected_needs_no_mapping (t ∷ ts) e none = go (All-head (IsMapped offered.attrs) t ts (subst (All (IsMapped offered.attrs)) e is.mapped))
+    where
+      go : IsMapped offered.attrs t → NeedsNoMapping t
+      go (inl one) = absurd (false≢true (sym none ∙ rejected_counted_line_is_there (maps t) offered.attrs one))
+      go (inr h) = h.1
 
-  type_mapped : IsMapped its_lines pt
-  type_mapped = go mapping_found refl mapping_counts mappings where
-    go : (o : Option MediaAttribute) → mapping_found ≡ o → IfSome o (λ line. CountsAmongLines pt line false false false true)
-        → count_by (maps pt) its_lines ≡ count_by (maps pt) (option_to_list o) → IsMapped its_lines pt
-    go None e h n = inr (n, needs_no_mapping offered.pts refl (ap (λ (o : Option MediaAttribute). is_some o) e))
+  rejected_type_mapped : IsMapped rejecting_lines_of pt
+  rejected_type_mapped = go rejected_mapping_found refl rejected_mapping_counts mappings where
+    go : (o : Option MediaAttribute) → rejected_mapping_found ≡ o → IfSome o (λ line. CountsAmongLines pt line false false false true)
+        → count_by (maps pt) rejecting_lines_of ≡ count_by (maps pt) (option_to_list o) → IsMapped rejecting_lines_of pt
+    go None e h n = inr (n, rejected_needs_no_mapping offered.pts refl (ap (λ (o : Option MediaAttribute). is_some o) e))
     go (Some line) e h n = inl (n ∙ rejected_counts_one (maps pt) (Some line) refl h.mapping_is)
 
-  listed_mapped : (typ : MediaType) → All (IsMapped its_lines) (rejected_type_alone typ offered.pts)
-  listed_mapped Application = All-nil (IsMapped its_lines)
-  listed_mapped Audio = All-cons (IsMapped its_lines) pt [] type_mapped (All-nil (IsMapped its_lines))
-  listed_mapped Video = All-cons (IsMapped its_lines) pt [] type_mapped (All-nil (IsMapped its_lines))
-  listed_mapped (Unknown text) = All-cons (IsMapped its_lines) pt [] type_mapped (All-nil (IsMapped its_lines))
+  rejected_types_mapped : (typ : MediaType) → All (IsMapped rejecting_lines_of) (rejected_type_alone typ offered.pts)
+  rejected_types_mapped Application = All-nil (IsMapped rejecting_lines_of)
+  rejected_types_mapped Audio = All-cons (IsMapped rejecting_lines_of) pt [] rejected_type_mapped (All-nil (IsMapped rejecting_lines_of))
+  rejected_types_mapped Video = All-cons (IsMapped rejecting_lines_of) pt [] rejected_type_mapped (All-nil (IsMapped rejecting_lines_of))
+  rejected_types_mapped (Unknown text) = All-cons (IsMapped rejecting_lines_of) pt [] rejected_type_mapped
+      (All-nil (IsMapped rejecting_lines_of))
 
   found_agrees : (o : Option MediaAttribute) (all : List MediaAttribute) → IfSome o (λ line. AgreesOnApt all line)
       → All (AgreesOnApt all) (option_to_list o)
   found_agrees None all h = All-nil (AgreesOnApt all)
   found_agrees (Some line) all h = All-cons (AgreesOnApt all) line [] h (All-nil (AgreesOnApt all))
 
-  all_agree : All (AgreesOnApt its_lines) its_lines
+  all_agree : All (AgreesOnApt rejecting_lines_of) rejecting_lines_of
   all_agree =
-      All-append (AgreesOnApt its_lines) (option_to_list mid_found) (direction_over offered.proto ++ option_to_list mapping_found)
-      (found_agrees mid_found its_lines (line_weaker _ _ (λ line h. h.agrees its_lines) mid_found mid_counts))
-      (All-append (AgreesOnApt its_lines) (direction_over offered.proto) (option_to_list mapping_found)
-      ((directed offered.proto).agree its_lines)
-      (found_agrees mapping_found its_lines (line_weaker _ _ (λ line h. h.agrees its_lines) mapping_found mapping_counts)))
+      All-append (AgreesOnApt rejecting_lines_of) (option_to_list mid_found)
+      (direction_over offered.proto ++ option_to_list rejected_mapping_found)
+      (found_agrees mid_found rejecting_lines_of (rejected_line_weaker _ _ (λ line h. h.agrees rejecting_lines_of) mid_found mid_counts))
+      (All-append (AgreesOnApt rejecting_lines_of) (direction_over offered.proto) (option_to_list rejected_mapping_found)
+      ((directed offered.proto).agree rejecting_lines_of)
+      (found_agrees rejected_mapping_found rejecting_lines_of
+      (rejected_line_weaker _ _ (λ line h. h.agrees rejecting_lines_of) rejected_mapping_found rejected_mapping_counts)))
 
   consistent_so : Consistent (rejecting offered)
   consistent_so = record {
     mid = one_mid_line;
     setup = few_setups;
     proto = λ srtp. (one_direction srtp, λ e. absurd (false≢true (sym e)));
-    mapped = listed_mapped offered.typ;
+    mapped = rejected_types_mapped offered.typ;
     apt = all_agree;
   }
 
@@ -188,16 +196,17 @@ abbrev pub of_parts : Proto → MediaType → List ℕ → List MediaAttribute �
 of_parts proto typ pts lines = record { typ = typ; disabled = true; proto = proto; pts = pts; bw = None; attrs = lines }
 
 pub made_of_parts : (offered : MediaLine) (typ : MediaType) (pts listed : List ℕ) (attrs lines : List MediaAttribute) (pt : ℕ)
-    → typ ≡ offered.typ → listed ≡ offered.pts → lines ≡ offered.attrs → pt ≡ first_type listed
+    → typ ≡ offered.typ → listed ≡ offered.pts → lines ≡ offered.attrs → pt ≡ first_rejected_type listed
     → pts ≡ rejected_type_alone offered.typ listed
-    → attrs ≡ line_that is_mid lines ++ (direction_over offered.proto ++ line_that (maps pt) lines)
+    → attrs ≡ first_rejected_line is_mid lines ++ (direction_over offered.proto ++ first_rejected_line (maps pt) lines)
     → of_parts offered.proto typ pts attrs ≡ rejecting offered
 made_of_parts offered typ pts listed attrs lines alone_type same_typ same_pts same_lines is_first alone all =
     ap (λ (x : MediaType). of_parts offered.proto x pts attrs) same_typ
     ∙ ap (λ (x : List ℕ). of_parts offered.proto offered.typ x attrs) (alone ∙ ap (rejected_type_alone offered.typ) same_pts)
     ∙ ap (of_parts offered.proto offered.typ (rejected_type_alone offered.typ offered.pts))
     (all
-    ∙ ap (λ (x : ℕ). line_that is_mid lines ++ (direction_over offered.proto ++ line_that (maps x) lines))
-    (is_first ∙ ap first_type same_pts)
-    ∙ ap (λ (x : List MediaAttribute). line_that is_mid x ++ (direction_over offered.proto ++ line_that (maps (first_type offered.pts)) x))
+    ∙ ap (λ (x : ℕ). first_rejected_line is_mid lines ++ (direction_over offered.proto ++ first_rejected_line (maps x) lines))
+    (is_first ∙ ap first_rejected_type same_pts)
+    ∙ ap (λ (x : List MediaAttribute). first_rejected_line is_mid x
+    ++ (direction_over offered.proto ++ first_rejected_line (maps (first_rejected_type offered.pts)) x))
     same_lines)

@@ -4,7 +4,8 @@ use Rattle.exchange.proofs.Common.{if◌then◌else◌, filter, find, refl, subs
 use Rattle.exchange.proofs.Common.{false≢true, All-contains_itself, Contains, is_some, PayloadParams, AllTypesDistinct, has, type_times}
 use Rattle.exchange.proofs.Common.{distinct}
 use Rattle.exchange.proofs.Common.{MediaLine, rows, ◌>>=◌}
-use Rattle.exchange.proofs.answer.RowsListLaws.{All-distinct, All-filter_map, contains_type, distinct-once, found, found_some, kept_type}
+use Rattle.exchange.proofs.answer.RowsListLaws.{All-distinct, All-filter_map, list_contains_type, distinct-once, list_found, found_some}
+use Rattle.exchange.proofs.answer.RowsListLaws.{list_keeps_type}
 use Rattle.exchange.proofs.answer.RowsListLaws.{list_marks, times-filter}
 use Rattle.exchange.specs.answer.Rows.{IsAgreed, Belongs, SaysWhatIsOffered, agreed_type, answer_to, answer_under, answered_rows}
 use Rattle.exchange.specs.answer.Rows.{as_answered, is_answered, is_carried_in, matches, own_types}
@@ -12,9 +13,9 @@ use Rattle.str0m_formats.specs.round.MatchScore.{score}
 
 -- ---- one row
 
-there : {A : Type 0} (o : Option A) → is_some o ≡ true → o ≢ None
-there None h = λ e. false≢true h
-there (Some x) h = λ e. cc
+row_is_some : {A : Type 0} (o : Option A) → is_some o ≡ true → o ≢ None
+row_is_some None h = λ e. false≢true h
+row_is_some (Some x) h = λ e. cc
 
 some : {A : Type 0} (o : Option A) → o ≢ None → is_some o ≡ true
 some None h = absurd (h refl)
@@ -29,22 +30,22 @@ in_m_line listed None theirs = tt
 in_m_line listed (Some a) None = tt
 in_m_line listed (Some a) (Some b) = go (a == b && has listed a) refl where
   go : (test : Bool) → (a == b && has listed a) ≡ test → IfSome (if test then Some a else None) (Contains listed)
-  go true e = contains_type listed a (and_parts (a == b) (has listed a) e).1
+  go true e = list_contains_type listed a (and_parts (a == b) (has listed a) e).1
   go false e = tt
 
-second : (a b : Bool) → (a && b) ≡ true → b ≡ true
-second a b h = (and_parts a b h).1
+row_second_true : (a b : Bool) → (a && b) ≡ true → b ≡ true
+row_second_true a b h = (and_parts a b h).1
 
-says : (section : MediaLine) (theirs ours : PayloadParams) → SaysWhatIsOffered section (as_answered section theirs ours)
+row_says : (section : MediaLine) (theirs ours : PayloadParams) → SaysWhatIsOffered section (as_answered section theirs ours)
 unfolding as_answered
-says section theirs ours = record {
+row_says section theirs ours = record {
   resend = in_m_line section.pts ours.resend theirs.resend;
   red = in_m_line section.pts ours.red theirs.red;
-  transport_cc = second ours.fb_transport_cc _;
-  fir = second ours.fb_fir _;
-  nack = second ours.fb_nack _;
-  pli = second ours.fb_pli _;
-  remb = second ours.fb_remb _;
+  transport_cc = row_second_true ours.fb_transport_cc _;
+  fir = row_second_true ours.fb_fir _;
+  nack = row_second_true ours.fb_nack _;
+  pli = row_second_true ours.fb_pli _;
+  remb = row_second_true ours.fb_remb _;
 }
 
 under_own_type : (section : MediaLine) (theirs ours : PayloadParams) → (as_answered section theirs ours).pt ≡ ours.pt
@@ -75,17 +76,17 @@ matched own section theirs ours known offered h =
         carried = carried.0;
         same_type = sym same;
         listed = subst (Contains section.pts) (sym same) listed;
-        match = there (score ours.spec theirs.spec) carried.1;
+        match = row_is_some (score ours.spec theirs.spec) carried.1;
         said = refl;
       };
       under = under_own_type section theirs ours ∙ same;
-      offered = says section theirs ours;
+      offered = row_says section theirs ours;
     }
 
 answered : (own : List PayloadParams) (section : MediaLine) (pt : ℕ) (theirs : PayloadParams) → theirs.pt ≡ pt
     → Contains (rows section) theirs
     → IfSome (answer_to own section theirs) (FoundRow own section pt)
-answered own section pt theirs is offered = go (find (matches section.typ theirs) own) (found (matches section.typ theirs) own) where
+answered own section pt theirs is offered = go (find (matches section.typ theirs) own) (list_found (matches section.typ theirs) own) where
   go : (o : Option PayloadParams) → IfSome o (λ ours. (matches section.typ theirs ours ≡ true) × Contains own ours)
       → IfSome (option_map (as_answered section theirs) o) (FoundRow own section pt)
   go None h = tt
@@ -95,7 +96,7 @@ answered own section pt theirs is offered = go (find (matches section.typ theirs
 row_found_under : (own : List PayloadParams) (section : MediaLine) (pt : ℕ)
     → IfSome (answer_under own section (rows section) pt) (FoundRow own section pt)
 unfolding answer_under
-row_found_under own section pt = go (find (λ row. row.pt == pt) (rows section)) (found (λ row. row.pt == pt) (rows section)) where
+row_found_under own section pt = go (find (λ row. row.pt == pt) (rows section)) (list_found (λ row. row.pt == pt) (rows section)) where
   go : (o : Option PayloadParams) → IfSome o (λ theirs. ((theirs.pt == pt) ≡ true) × Contains (rows section) theirs)
       → IfSome (o >>= answer_to own section) (FoundRow own section pt)
   go None h = tt
@@ -165,7 +166,7 @@ has_answer own section ours b = ap (λ (o : Option PayloadParams). is_some (o >>
       is_under : (b.theirs.pt == ours.pt) ≡ true
       is_under = (subst (λ (o : Option PayloadParams). IfSome o (λ theirs. ((theirs.pt == ours.pt) ≡ true)
           × Contains (rows section) theirs))
-          b.offered (found (λ row. row.pt == ours.pt) (rows section))).0
+          b.offered (list_found (λ row. row.pt == ours.pt) (rows section))).0
 
       passes : matches section.typ b.theirs ours ≡ true
       passes = row_and_both b.locked (row_and_both (eq-eqb _ _ (sym (eqb-true _ _ is_under)))
@@ -176,4 +177,4 @@ pub answered_rows_stand : (own : List PayloadParams) (section : MediaLine) (answ
     → (ours : PayloadParams) → Belongs own section ours → Contains (own_types answer) ours.pt
 answered_rows_stand own section answer is ours b =
     subst (λ (ts : List ℕ). Contains ts ours.pt) (sym (in_order own section answer is))
-    (kept_type (is_answered own section) section.pts ours.pt b.listed (has_answer own section ours b))
+    (list_keeps_type (is_answered own section) section.pts ours.pt b.listed (has_answer own section ours b))

@@ -4,7 +4,7 @@ use Rattle.exchange.proofs.Common.{IfSome, if◌then◌else◌, find, option_map
 use Rattle.exchange.proofs.Common.{Contains, type_times-append, PayloadParams, AllTypesDistinct, has, type_times, locked_types, types}
 use Rattle.exchange.proofs.Common.{types_of, distinct}
 use Rattle.exchange.proofs.Common.{MediaLine, rows, ◌>>=◌}
-use Rattle.exchange.proofs.answer.RowsListLaws.{distinct-once, found}
+use Rattle.exchange.proofs.answer.RowsListLaws.{distinct-once, list_found}
 use Rattle.exchange.proofs.answer.RowsTypeLaws.{weight_no_more, weight_found}
 use Rattle.exchange.specs.answer.Rows.{agreed_type, answer_to, answer_under, answered_rows, as_answered, matches}
 
@@ -36,17 +36,17 @@ answer_fewer section theirs ours t = omega (
 )
 
 -- the test of the rows that answer a type, by the offered row
-abbrev test_with : MediaLine → Option PayloadParams → PayloadParams → Bool
-test_with section None ours = false
-test_with section (Some theirs) ours = matches section.typ theirs ours
+abbrev row_test_with : MediaLine → Option PayloadParams → PayloadParams → Bool
+row_test_with section None ours = false
+row_test_with section (Some theirs) ours = matches section.typ theirs ours
 
-abbrev test_under : MediaLine → ℕ → PayloadParams → Bool
-test_under section pt = test_with section (find (λ row. row.pt == pt) (rows section))
+abbrev row_test_under : MediaLine → ℕ → PayloadParams → Bool
+row_test_under section pt = row_test_with section (find (λ row. row.pt == pt) (rows section))
 
-tied : (section : MediaLine) (pt : ℕ) (ours : PayloadParams) → test_under section pt ours ≡ true → (ours.pt ≡ pt) × (ours.locked ≡ true)
-tied section pt ours = go (find (λ row. row.pt == pt) (rows section)) (found (λ row. row.pt == pt) (rows section)) where
+tied : (section : MediaLine) (pt : ℕ) (ours : PayloadParams) → row_test_under section pt ours ≡ true → (ours.pt ≡ pt) × (ours.locked ≡ true)
+tied section pt ours = go (find (λ row. row.pt == pt) (rows section)) (list_found (λ row. row.pt == pt) (rows section)) where
   go : (o : Option PayloadParams) → IfSome o (λ theirs. ((theirs.pt == pt) ≡ true) × Contains (rows section) theirs)
-      → test_with section o ours ≡ true
+      → row_test_with section o ours ≡ true
       → (ours.pt ≡ pt) × (ours.locked ≡ true)
   go None h e = absurd (false≢true e)
   go (Some theirs) h e =
@@ -55,7 +55,7 @@ tied section pt ours = go (find (λ row. row.pt == pt) (rows section)) (found (�
 
 each_weighed : (own : List PayloadParams) (section : MediaLine) (t pt : ℕ)
     → IfSome (answer_under own section (rows section) pt) (λ row. type_times (types_of row) t
-    ≤ weight_found t (find (test_under section pt) own))
+    ≤ weight_found t (find (row_test_under section pt) own))
 unfolding answer_under
 each_weighed own section t pt = go (find (λ row. row.pt == pt) (rows section)) where
   mapped : (theirs : PayloadParams) (o : Option PayloadParams)
@@ -64,7 +64,7 @@ each_weighed own section t pt = go (find (λ row. row.pt == pt) (rows section)) 
   mapped theirs (Some ours) = answer_fewer section theirs ours t
 
   go : (o : Option PayloadParams)
-      → IfSome (o >>= answer_to own section) (λ row. type_times (types_of row) t ≤ weight_found t (find (test_with section o) own))
+      → IfSome (o >>= answer_to own section) (λ row. type_times (types_of row) t ≤ weight_found t (find (row_test_with section o) own))
   go None = tt
   go (Some theirs) = mapped theirs (find (matches section.typ theirs) own)
 
@@ -72,7 +72,7 @@ row_times_bounded : (own : List PayloadParams) (section : MediaLine) (t : ℕ)
     → type_times (types (answered_rows own section)) t ≤ type_times (locked_types own) t
 unfolding answered_rows
 row_times_bounded own section t =
-    weight_no_more t (test_under section) (tied section) own (answer_under own section (rows section)) (each_weighed own section t)
+    weight_no_more t (row_test_under section) (tied section) own (answer_under own section (rows section)) (each_weighed own section t)
     (distinct ◌==◌ section.pts)
     (distinct-once section.pts)
 

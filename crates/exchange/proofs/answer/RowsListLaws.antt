@@ -71,9 +71,9 @@ distinct-once (x ∷ xs) t = go (x == t) refl (distinct-once xs t) where
 -- ---- what is found
 
 -- an item that is found passes the test, and stands in the list
-pub found : {X : Type 0} (test : X → Bool) (xs : List X) → IfSome (find test xs) (λ x. (test x ≡ true) × Contains xs x)
-found test [] = tt
-found {X} test (x ∷ xs) = go (test x) refl (found test xs) where
+pub list_found : {X : Type 0} (test : X → Bool) (xs : List X) → IfSome (find test xs) (λ x. (test x ≡ true) × Contains xs x)
+list_found test [] = tt
+list_found {X} test (x ∷ xs) = go (test x) refl (list_found test xs) where
   behind : (y : X) → (test y ≡ true) × Contains xs y → (test y ≡ true) × Contains (x ∷ xs) y
   behind y h = (h.0, Contains-append_right (x ∷ []) xs y h.1)
 
@@ -118,9 +118,9 @@ is_some_find {X} test (x ∷ xs) = go (test x) (is_some_find test xs) where
 pub found_some : {X : Type 0} (test : X → Bool) (xs : List X) (x : X) → Contains xs x → test x ≡ true → is_some (find test xs) ≡ true
 found_some test xs x there passes = is_some_find test xs ∙ list_any_at test xs there.0 x there.1 (ap test there.2 ∙ passes)
 
-pub contains_type : (xs : List ℕ) (k : ℕ) → has xs k ≡ true → Contains xs k
-contains_type [] k h = absurd (false≢true h)
-contains_type (x ∷ xs) k h = go (x == k) refl h (contains_type xs k) where
+pub list_contains_type : (xs : List ℕ) (k : ℕ) → has xs k ≡ true → Contains xs k
+list_contains_type [] k h = absurd (false≢true h)
+list_contains_type (x ∷ xs) k h = go (x == k) refl h (list_contains_type xs k) where
   go : (b : Bool) → (x == k) ≡ b → (b || has xs k) ≡ true → (has xs k ≡ true → Contains xs k) → Contains (x ∷ xs) k
   go true e h rec = (0, omega arith, eqb-true x k e)
   go false e h rec = Contains-append_right (x ∷ []) xs k (rec h)
@@ -138,7 +138,7 @@ has-filter test (x ∷ xs) k passes = go (test x) (x == k) refl refl (has-filter
   go false false e f rec = rec
 
 -- a type that passes stands among those that pass, each once
-pub kept_type : (test : ℕ → Bool) (xs : List ℕ) (k : ℕ) → Contains xs k → test k ≡ true → Contains (filter test (distinct ◌==◌ xs)) k
-kept_type test xs k there passes =
-    contains_type (filter test (distinct ◌==◌ xs)) k (has-filter test (distinct ◌==◌ xs) k passes ∙ list-has-distinct xs k
+pub list_keeps_type : (test : ℕ → Bool) (xs : List ℕ) (k : ℕ) → Contains xs k → test k ≡ true → Contains (filter test (distinct ◌==◌ xs)) k
+list_keeps_type test xs k there passes =
+    list_contains_type (filter test (distinct ◌==◌ xs)) k (has-filter test (distinct ◌==◌ xs) k passes ∙ list-has-distinct xs k
     ∙ list_has_contained xs k there)

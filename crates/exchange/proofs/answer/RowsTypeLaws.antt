@@ -42,9 +42,9 @@ module _ (t : ℕ) (test : ℕ → PayloadParams → Bool) (tied : (pt : ℕ) (r
     go true rec = omega arith
     go false rec = omega arith
 
-  never : (row : PayloadParams) (pts : List ℕ) → type_times pts row.pt ≡ 0 → hits row pts ≡ 0
-  never row [] gone = refl
-  never row (pt ∷ pts) gone = go (test pt row) refl (never row pts (omega (arith, gone, type_times-cons pt pts row.pt))) where
+  weight_never : (row : PayloadParams) (pts : List ℕ) → type_times pts row.pt ≡ 0 → hits row pts ≡ 0
+  weight_never row [] gone = refl
+  weight_never row (pt ∷ pts) gone = go (test pt row) refl (weight_never row pts (omega (arith, gone, type_times-cons pt pts row.pt))) where
     go : (b : Bool) → test pt row ≡ b → hits row pts ≡ 0 → cond b (weight t row) 0 + hits row pts ≡ 0
     go true e rec = let one = one_time_if (pt == row.pt) true (eq-eqb _ _ (sym (tied pt row e).0)) in
         absurd (omega (arith, gone, type_times-cons pt pts row.pt, one))
@@ -57,7 +57,7 @@ module _ (t : ℕ) (test : ℕ → PayloadParams → Bool) (tied : (pt : ℕ) (r
         → cond b (weight t row) 0 + hits row pts ≤ own_weight row
     go true e rec =
         let one = one_time_if (pt == row.pt) true (eq-eqb _ _ (sym (tied pt row e).0)) in
-        let none = never row pts (omega (arith, few, type_times-cons pt pts row.pt, one)) in
+        let none = weight_never row pts (omega (arith, few, type_times-cons pt pts row.pt, one)) in
         let mine : own_weight row ≡ weight t row = ap (λ (b : Bool). cond b (weight t row) 0) (tied pt row e).1 in
         omega (arith, none, mine)
     go false e rec = let less = rec (omega (arith, few, type_times-cons pt pts row.pt)) in omega (arith, less)

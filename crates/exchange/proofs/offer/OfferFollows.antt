@@ -15,7 +15,7 @@ use Rattle.exchange.specs.offer.MadeOffer.{MakesOffer, ready_with, sections_adde
 use Rattle.exchange.specs.offer.OfferPlaces.{FillsPlace, FillsPlaces, added_tail, over_section, their_section_at}
 use Rattle.exchange.specs.offer.OfferRules.{IsNewName}
 use Rattle.exchange.specs.offer.OfferSection.{new_section}
-use Rattle.exchange.specs.section.Places.{FollowsPlaces, HasNameAt, IsNewPlaceName}
+use Rattle.exchange.specs.section.Places.{FollowsPlaces, HasPlaceNameAt, IsNewPlaceName}
 use Rattle.exchange.specs.section.Stopped.{name_of}
 use Rattle.exchange.specs.state.State.{sections_of}
 
@@ -83,7 +83,8 @@ places_so names old ready at (mine ∷ more) added (said ∷ behind) left new fi
     let rest = places_so names old ready (at + 1) more fills.0 behind left one.left_new fills.2 in
     record { as_many = omega (arith, rest.as_many); each = go one rest } where
       go : StandsNamed names mine said fills.0 → FollowsPlaces names more (behind ++ left)
-          → (k : ℕ) (m : MediaLine) → slice_get (said ∷ behind ++ left) k ≡ Some m → HasNameAt (mine ∷ more) k m ⊎ IsNewPlaceName names m
+          → (k : ℕ) (m : MediaLine) → slice_get (said ∷ behind ++ left) k ≡ Some m
+          → HasPlaceNameAt (mine ∷ more) k m ⊎ IsNewPlaceName names m
       go one rest zero m there = subst (λ (x : MediaLine). (name_of x ≡ name_of mine) ⊎ IsNewPlaceName names x) (same_Some said m there)
           one.stands
       go one rest (suc k) m there = rest.each k m there

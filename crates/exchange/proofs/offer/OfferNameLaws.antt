@@ -3,7 +3,7 @@ use Rattle.exchange.proofs.Common.{arith, ◌≡◌, ◌≢◌, ◌+◌, ◌++�
 use Rattle.exchange.proofs.Common.{MatchOption, All, bytes_eq, map, subst, sym, ap, ◌∙◌, or_parts, true≢false, All-cons, All-head, All-nil}
 use Rattle.exchange.proofs.Common.{All-tail, All-weaker, AllPairs-cons, bytes_eq-Decides, cons_option, MediaAttribute, MediaLine, Sdp}
 use Rattle.exchange.proofs.Common.{AreMidsDistinct, is_listed, section_mids}
-use Rattle.exchange.proofs.offer.OfferRuleLaws.{all_named, new_section_name, next_shape}
+use Rattle.exchange.proofs.offer.OfferRuleLaws.{offer_all_named, new_section_name, next_shape}
 use Rattle.exchange.proofs.offer.RuleLaws.{rejecting_shape}
 use Rattle.exchange.proofs.section.PlaceLaws.{places_hold}
 use Rattle.exchange.specs.answer.RejectedSection.{rejecting}
@@ -21,12 +21,12 @@ use Rattle.exchange.specs.state.State.{sections_of}
 -- ---- sections whose names differ
 
 -- the section has another name than this one
-abbrev pub Other : Option (List ℕ) → MediaLine → Type 0
-Other name m = IfSome name (λ n. IfSome (name_of m) (λ k. k ≢ n))
+abbrev pub OtherName : Option (List ℕ) → MediaLine → Type 0
+OtherName name m = IfSome name (λ n. IfSome (name_of m) (λ k. k ≢ n))
 
 abbrev pub NamesDiffer : List MediaLine → Type 0
 NamesDiffer [] = Unit {0}
-NamesDiffer (m ∷ ms) = All (Other (name_of m)) ms × NamesDiffer ms
+NamesDiffer (m ∷ ms) = All (OtherName (name_of m)) ms × NamesDiffer ms
 
 name_differ_flipped : (name other : Option (List ℕ)) → IfSome name (λ n. IfSome other (λ k. k ≢ n))
     → IfSome other (λ k. IfSome name (λ n. n ≢ k))
@@ -67,7 +67,7 @@ rest_names_distinct n names distinct = λ i j d lt within. distinct (suc i) (suc
 pub name_differ_from : (ms : List MediaLine) → AreMidsDistinct (section_mids ms) → NamesDiffer ms
 name_differ_from [] distinct = tt
 name_differ_from (m ∷ ms) distinct = (apart (name_of m) distinct, name_differ_from ms (rest (name_of m) distinct)) where
-  apart : (name : Option (List ℕ)) → AreMidsDistinct (cons_option name (section_mids ms)) → All (Other name) ms
+  apart : (name : Option (List ℕ)) → AreMidsDistinct (cons_option name (section_mids ms)) → All (OtherName name) ms
   apart None told = λ k d lt. tt
   apart (Some n) told = named_from (λ (k : List ℕ). k ≢ n) ms (head_apart n (section_mids ms) told)
 
@@ -78,7 +78,7 @@ name_differ_from (m ∷ ms) distinct = (apart (name_of m) distinct, name_differ_
 name_distinct_from : (ms : List MediaLine) → NamesDiffer ms → AreMidsDistinct (section_mids ms)
 name_distinct_from [] differ = λ i j d lt within. absurd (omega arith)
 name_distinct_from (m ∷ ms) differ = go (name_of m) differ.0 (name_distinct_from ms differ.1) where
-  go : (name : Option (List ℕ)) → All (Other name) ms → AreMidsDistinct (section_mids ms)
+  go : (name : Option (List ℕ)) → All (OtherName name) ms → AreMidsDistinct (section_mids ms)
       → AreMidsDistinct (cons_option name (section_mids ms))
   go None apart rec = rec
   go (Some n) apart rec =
@@ -90,71 +90,73 @@ name_distinct_from (m ∷ ms) differ = go (name_of m) differ.0 (name_distinct_fr
 -- ---- places
 
 other_name_next : (name : Option (List ℕ)) (old : Exchange) (ready : List SectionDirection) (theirs : Option MediaLine) (mine : MediaLine)
-    → Other name mine → Other name (next_section old ready theirs mine)
+    → OtherName name mine → OtherName name (next_section old ready theirs mine)
 other_name_next name old ready theirs mine apart =
     subst (λ (found : Option (List ℕ)). IfSome name (λ n. IfSome found (λ k. k ≢ n))) (sym (next_shape old ready theirs mine).name) apart
 
-other_name_over : (name : Option (List ℕ)) (mine : MediaLine) → Other name mine → Other name (rejecting mine)
+other_name_over : (name : Option (List ℕ)) (mine : MediaLine) → OtherName name mine → OtherName name (rejecting mine)
 other_name_over name mine apart = subst (λ (found : Option (List ℕ)). IfSome name (λ n. IfSome found (λ k. k ≢ n)))
     (sym (rejecting_shape mine).name) apart
 
 other_names_hold : (name : Option (List ℕ)) (old : Exchange) (ready : List SectionDirection) (at : ℕ)
     (ms added filled left : List MediaLine)
-    → All (Other name) ms → All (Other name) added → FillsPlaces old ready at ms added filled left → All (Other name) (filled ++ left)
+    → All (OtherName name) ms → All (OtherName name) added → FillsPlaces old ready at ms added filled left
+    → All (OtherName name) (filled ++ left)
 other_names_hold name old ready at ms added filled left there apart fills =
-    places_hold (Other name) (Other name) old ready (other_name_next name old ready) (other_name_over name) at ms added filled left there
+    places_hold (OtherName name) (OtherName name) old ready (other_name_next name old ready) (other_name_over name) at ms added filled left
+    there
     apart fills
 
 -- each of what is added has another name than each earlier section
 abbrev AreNamedApart : List MediaLine → List MediaLine → Type 0
-AreNamedApart added ms = All (λ a. All (Other (name_of a)) ms) added
+AreNamedApart added ms = All (λ a. All (OtherName (name_of a)) ms) added
 
 -- none of what is added has the name of the first
-none_named_first : (m : MediaLine) (ms added : List MediaLine) → AreNamedApart added (m ∷ ms) → All (Other (name_of m)) added
+none_named_first : (m : MediaLine) (ms added : List MediaLine) → AreNamedApart added (m ∷ ms) → All (OtherName (name_of m)) added
 none_named_first m ms added apart =
-    All-weaker (λ (a : MediaLine). All (Other (name_of a)) (m ∷ ms)) (Other (name_of m))
-    (λ a others. name_differ_flipped (name_of a) (name_of m) (All-head (Other (name_of a)) m ms others)) added apart
+    All-weaker (λ (a : MediaLine). All (OtherName (name_of a)) (m ∷ ms)) (OtherName (name_of m))
+    (λ a others. name_differ_flipped (name_of a) (name_of m) (All-head (OtherName (name_of a)) m ms others)) added apart
 
 named_apart_from_rest : (m : MediaLine) (ms added : List MediaLine) → AreNamedApart added (m ∷ ms) → AreNamedApart added ms
 named_apart_from_rest m ms added apart =
-    All-weaker (λ (a : MediaLine). All (Other (name_of a)) (m ∷ ms)) (λ (a : MediaLine). All (Other (name_of a)) ms)
-    (λ a others. All-tail (Other (name_of a)) m ms others) added apart
+    All-weaker (λ (a : MediaLine). All (OtherName (name_of a)) (m ∷ ms)) (λ (a : MediaLine). All (OtherName (name_of a)) ms)
+    (λ a others. All-tail (OtherName (name_of a)) m ms others) added apart
 
 record NameGoesApart (ms : List MediaLine) (said : MediaLine) (between : List MediaLine) : Type 0 where
-  earlier : All (Other (name_of said)) ms
-  later : All (Other (name_of said)) between
+  earlier : All (OtherName (name_of said)) ms
+  later : All (OtherName (name_of said)) between
   differ : NamesDiffer between
   apart : AreNamedApart between ms
 
 as_named : (ms added : List MediaLine) (m said : MediaLine) (between : List MediaLine) → name_of said ≡ name_of m → between ≡ added
     → NamesDiffer (m ∷ ms) → NamesDiffer added → AreNamedApart added (m ∷ ms) → NameGoesApart ms said between
 as_named ms added m said between name same earlier differ apart = record {
-  earlier = subst (λ (found : Option (List ℕ)). All (Other found) ms) (sym name) earlier.0;
-  later = subst (λ (found : Option (List ℕ)). All (Other found) between) (sym name)
-      (subst (All (Other (name_of m))) (sym same) (none_named_first m ms added apart));
+  earlier = subst (λ (found : Option (List ℕ)). All (OtherName found) ms) (sym name) earlier.0;
+  later = subst (λ (found : Option (List ℕ)). All (OtherName found) between) (sym name)
+      (subst (All (OtherName (name_of m))) (sym same) (none_named_first m ms added apart));
   differ = subst NamesDiffer (sym same) differ;
   apart = subst (λ (more : List MediaLine). AreNamedApart more ms) (sym same) (named_apart_from_rest m ms added apart);
 }
 
-goes : (old : Exchange) (ready : List SectionDirection) (at : ℕ) (m : MediaLine) (ms added : List MediaLine) (said : MediaLine)
+name_goes_apart : (old : Exchange) (ready : List SectionDirection) (at : ℕ) (m : MediaLine) (ms added : List MediaLine) (said : MediaLine)
     (between : List MediaLine)
     → NamesDiffer (m ∷ ms) → NamesDiffer added → AreNamedApart added (m ∷ ms) → FillsPlace old ready at m added said between
     → NameGoesApart ms said between
-goes old ready at m ms added said between earlier differ apart (inl (runs, is, same)) =
+name_goes_apart old ready at m ms added said between earlier differ apart (inl (runs, is, same)) =
     as_named ms added m said between (ap name_of is ∙ (next_shape old ready (their_section_at old.remote at) m).name) same earlier differ
     apart
-goes old ready at m ms [] said between earlier differ apart (inr (over, is, same)) =
+name_goes_apart old ready at m ms [] said between earlier differ apart (inr (over, is, same)) =
     as_named ms [] m said between (ap name_of is ∙ (rejecting_shape m).name) same earlier differ apart
-goes old ready at m ms (x ∷ xs) said between earlier differ apart (inr (over, is, same)) =
+name_goes_apart old ready at m ms (x ∷ xs) said between earlier differ apart (inr (over, is, same)) =
     let rest : AreNamedApart (x ∷ xs) ms = named_apart_from_rest m ms (x ∷ xs) apart in
     record {
-      earlier = subst (λ (section : MediaLine). All (Other (name_of section)) ms) (sym is)
-          (All-head (λ (a : MediaLine). All (Other (name_of a)) ms) x xs rest);
-      later = subst (λ (section : MediaLine). All (Other (name_of section)) between) (sym is)
-          (subst (All (Other (name_of x))) (sym same) differ.0);
+      earlier = subst (λ (section : MediaLine). All (OtherName (name_of section)) ms) (sym is)
+          (All-head (λ (a : MediaLine). All (OtherName (name_of a)) ms) x xs rest);
+      later = subst (λ (section : MediaLine). All (OtherName (name_of section)) between) (sym is)
+          (subst (All (OtherName (name_of x))) (sym same) differ.0);
       differ = subst NamesDiffer (sym same) differ.1;
       apart = subst (λ (more : List MediaLine). AreNamedApart more ms) (sym same)
-          (All-tail (λ (a : MediaLine). All (Other (name_of a)) ms) x xs rest);
+          (All-tail (λ (a : MediaLine). All (OtherName (name_of a)) ms) x xs rest);
     }
 
 places_differ : (old : Exchange) (ready : List SectionDirection) (at : ℕ) (ms added filled left : List MediaLine)
@@ -164,7 +166,7 @@ places_differ old ready at [] added [] left earlier differ apart fills = subst N
 places_differ old ready at [] added (x ∷ filled) left earlier differ apart fills = absurd fills
 places_differ old ready at (m ∷ ms) added [] left earlier differ apart fills = absurd fills
 places_differ old ready at (m ∷ ms) added (x ∷ filled) left earlier differ apart fills =
-    let it : NameGoesApart ms x fills.0 = goes old ready at m ms added x fills.0 earlier differ apart fills.1 in (
+    let it : NameGoesApart ms x fills.0 = name_goes_apart old ready at m ms added x fills.0 earlier differ apart fills.1 in (
       other_names_hold (name_of x) old ready (at + 1) ms fills.0 filled left it.earlier it.later fills.2,
       places_differ old ready (at + 1) ms fills.0 filled left earlier.1 it.differ it.apart fills.2,
     )
@@ -181,12 +183,12 @@ name_added_differ : (old : Exchange) (ready : List SectionDirection) (extensions
 name_added_differ old ready extensions [] what distinct = tt
 name_added_differ old ready extensions (name ∷ names) [] distinct = tt
 name_added_differ old ready extensions (name ∷ names) (it ∷ more) distinct = (
-  subst (λ (found : Option (List ℕ)). All (Other found) (map (new_section old ready extensions) (placed_under names more)))
+  subst (λ (found : Option (List ℕ)). All (OtherName found) (map (new_section old ready extensions) (placed_under names more)))
       (sym (new_section_name old ready extensions (record { mid = name; added = it })))
-      (All-weaker (λ (m : MediaLine). MatchOption (name_of m) ⊥ (λ k. k ≢ name)) (Other (Some name))
+      (All-weaker (λ (m : MediaLine). MatchOption (name_of m) ⊥ (λ k. k ≢ name)) (OtherName (Some name))
       (λ m. name_weaker (λ (k : List ℕ). k ≢ name) (name_of m))
       (map (new_section old ready extensions) (placed_under names more))
-      (all_named (λ (k : List ℕ). k ≢ name) old ready extensions names more (head_apart name names distinct))),
+      (offer_all_named (λ (k : List ℕ). k ≢ name) old ready extensions names more (head_apart name names distinct))),
   name_added_differ old ready extensions names more (rest_names_distinct name names distinct),
 )
 
@@ -207,10 +209,10 @@ name_added_apart : (old : Exchange) (ready : List SectionDirection) (extensions 
     → AreNamedApart (map (new_section old ready extensions) (placed_under names what)) (sections_of old.local)
 name_added_apart old ready extensions names what new =
     All-weaker (λ (m : MediaLine). MatchOption (name_of m) ⊥ (IsNewName old))
-    (λ (m : MediaLine). All (Other (name_of m)) (sections_of old.local))
+    (λ (m : MediaLine). All (OtherName (name_of m)) (sections_of old.local))
     (λ m. apart_so (name_of m)) (map (new_section old ready extensions) (placed_under names what))
-    (all_named (IsNewName old) old ready extensions names what new) where
-      apart_so : (name : Option (List ℕ)) → MatchOption name ⊥ (IsNewName old) → All (Other name) (sections_of old.local)
+    (offer_all_named (IsNewName old) old ready extensions names what new) where
+      apart_so : (name : Option (List ℕ)) → MatchOption name ⊥ (IsNewName old) → All (OtherName name) (sections_of old.local)
       apart_so None it = absurd it
       apart_so (Some n) it = named_from (λ (k : List ℕ). k ≢ n) (sections_of old.local) (name_new_apart old n it)
 

@@ -15,8 +15,9 @@ use Rattle.exchange.specs.declared.state.own_side.SectionDirection.{SectionDirec
 use Rattle.exchange.specs.offer.Added.{placed_under}
 use Rattle.exchange.specs.offer.MadeOffer.{MakesOffer, ready_with, sections_added}
 use Rattle.exchange.specs.offer.OfferPlaces.{FillsPlace, FillsPlaces, their_section_at}
-use Rattle.exchange.specs.offer.OfferRules.{HasNewName, IsNewName, IsOffered, KeepsOffered, KeepsOfferPlace, KeepsOfferPlaces}
-use Rattle.exchange.specs.offer.OfferSection.{asked_lines, kept_lines, new_section, next_section, offered_channels, offered_media}
+use Rattle.exchange.specs.offer.OfferRules.{HasNewPlaceName, IsNewName, IsOffered, KeepsOffered, KeepsOfferPlace, KeepsOfferPlaces}
+use Rattle.exchange.specs.offer.OfferSection.{asked_section_lines, kept_section_lines, new_section, next_section, offered_channels}
+use Rattle.exchange.specs.offer.OfferSection.{offered_media}
 use Rattle.exchange.specs.offer.OfferSection.{section_by, section_for, section_with}
 use Rattle.exchange.specs.offer.Rules.{HasShapeOf}
 use Rattle.exchange.specs.section.Stopped.{name_of}
@@ -54,52 +55,55 @@ channels_name : (old : Exchange) (mid : List ℕ) (channels : Option DataChannel
 channels_name old mid None = refl
 channels_name old mid (Some channels) = refl
 
-name_for : (old : Exchange) (ready : List SectionDirection) (extensions : List MediaAttribute) (mid : List ℕ) (what : Added)
+offer_name_for : (old : Exchange) (ready : List SectionDirection) (extensions : List MediaAttribute) (mid : List ℕ) (what : Added)
     → name_of (section_for old ready extensions mid what) ≡ Some mid
-name_for old ready extensions mid (added.Media kind direction) = refl
-name_for old ready extensions mid added.Channels = channels_name old mid old.own.channels
+offer_name_for old ready extensions mid (added.Media kind direction) = refl
+offer_name_for old ready extensions mid added.Channels = channels_name old mid old.own.channels
 
 pub new_section_name : (old : Exchange) (ready : List SectionDirection) (extensions : List MediaAttribute) (placed : Placed)
     → name_of (new_section old ready extensions placed) ≡ Some placed.mid
-new_section_name old ready extensions placed = name_for old ready extensions placed.mid placed.added
+new_section_name old ready extensions placed = offer_name_for old ready extensions placed.mid placed.added
 
 -- ---- places
 
 -- what holds of the names holds of the sections under them
-pub all_named : (P : List ℕ → Type 0) (old : Exchange) (ready : List SectionDirection) (extensions : List MediaAttribute)
+pub offer_all_named : (P : List ℕ → Type 0) (old : Exchange) (ready : List SectionDirection) (extensions : List MediaAttribute)
     (names : List (List ℕ)) (what : List Added) → All P names
     → All (λ m. MatchOption (name_of m) ⊥ P) (map (new_section old ready extensions) (placed_under names what))
-all_named P old ready extensions [] what all = All-nil (λ (m : MediaLine). MatchOption (name_of m) ⊥ P)
-all_named P old ready extensions (name ∷ names) [] all = All-nil (λ (m : MediaLine). MatchOption (name_of m) ⊥ P)
-all_named P old ready extensions (name ∷ names) (it ∷ more) all =
+offer_all_named P old ready extensions [] what all = All-nil (λ (m : MediaLine). MatchOption (name_of m) ⊥ P)
+offer_all_named P old ready extensions (name ∷ names) [] all = All-nil (λ (m : MediaLine). MatchOption (name_of m) ⊥ P)
+offer_all_named P old ready extensions (name ∷ names) (it ∷ more) all =
     All-cons (λ (m : MediaLine). MatchOption (name_of m) ⊥ P) (new_section old ready extensions (record { mid = name; added = it }))
     (map (new_section old ready extensions) (placed_under names more))
     (subst (λ (found : Option (List ℕ)). MatchOption found ⊥ P)
     (sym (new_section_name old ready extensions (record { mid = name; added = it }))) (All-head P name names all))
-    (all_named P old ready extensions names more (All-tail P name names all))
+    (offer_all_named P old ready extensions names more (All-tail P name names all))
 
 record KeptOfferPlace (old : Exchange) (at : ℕ) (mine said : MediaLine) (left : List MediaLine) : Type 0 where
   place : KeepsOfferPlace old at mine said
-  later : All (HasNewName old) left
+  later : All (HasNewPlaceName old) left
 
 offer_place_kept : (old : Exchange) (ready : List SectionDirection) (at : ℕ) (mine : MediaLine) (added : List MediaLine) (said : MediaLine)
     (left : List MediaLine)
-    → All (HasNewName old) added → FillsPlace old ready at mine added said left → KeptOfferPlace old at mine said left
+    → All (HasNewPlaceName old) added → FillsPlace old ready at mine added said left → KeptOfferPlace old at mine said left
 offer_place_kept old ready at mine added said left new (inl (runs, is, same)) =
     record {
       place = inl (subst (HasShapeOf mine) (sym is) (next_shape old ready (their_section_at old.remote at) mine));
-      later = subst (All (HasNewName old)) (sym same) new;
+      later = subst (All (HasNewPlaceName old)) (sym same) new;
     }
 offer_place_kept old ready at mine [] said left new (inr (over, is, same)) =
-    record { place = inl (subst (HasShapeOf mine) (sym is) (rejecting_shape mine)); later = subst (All (HasNewName old)) (sym same) new }
+    record {
+      place = inl (subst (HasShapeOf mine) (sym is) (rejecting_shape mine));
+      later = subst (All (HasNewPlaceName old)) (sym same) new;
+    }
 offer_place_kept old ready at mine (x ∷ xs) said left new (inr (over, is, same)) =
     record {
-      place = inr (over, subst (HasNewName old) (sym is) (All-head (HasNewName old) x xs new));
-      later = subst (All (HasNewName old)) (sym same) (All-tail (HasNewName old) x xs new);
+      place = inr (over, subst (HasNewPlaceName old) (sym is) (All-head (HasNewPlaceName old) x xs new));
+      later = subst (All (HasNewPlaceName old)) (sym same) (All-tail (HasNewPlaceName old) x xs new);
     }
 
 offer_places_kept : (old : Exchange) (ready : List SectionDirection) (at : ℕ) (ms added filled left : List MediaLine)
-    → All (HasNewName old) added → FillsPlaces old ready at ms added filled left → KeepsOfferPlaces old at ms (filled ++ left)
+    → All (HasNewPlaceName old) added → FillsPlaces old ready at ms added filled left → KeepsOfferPlaces old at ms (filled ++ left)
 offer_places_kept old ready at [] added [] left new fills = tt
 offer_places_kept old ready at [] added (x ∷ filled) left new fills = absurd fills
 offer_places_kept old ready at (m ∷ ms) added [] left new fills = absurd fills
@@ -113,7 +117,7 @@ offer_places old names offer new makes =
     subst (KeepsOfferPlaces old 0 (sections_of old.local)) (sym makes.sections.all)
     (offer_places_kept old (ready_with old names) 0 (sections_of old.local) (sections_added old names) makes.sections.filled
     makes.sections.left
-    (all_named (IsNewName old) old (ready_with old names) _ names old.added new) makes.sections.fills)
+    (offer_all_named (IsNewName old) old (ready_with old names) _ names old.added new) makes.sections.fills)
 
 -- ---- sections with a port
 
@@ -156,8 +160,8 @@ channels_offered old ready instead mid (Some channels) =
 offered_by : (old : Exchange) (ready : List SectionDirection) (theirs : Option MediaLine) (mine : MediaLine) (name : Option (List ℕ))
     (typ : MediaType) (proto : Proto)
     → IsOffered old ready (section_by old ready theirs mine name typ proto)
-offered_by old ready theirs mine (Some mid) Audio Srtp = media_offered old ready kind.Audio mid (kept_lines theirs mine)
-offered_by old ready theirs mine (Some mid) Video Srtp = media_offered old ready kind.Video mid (kept_lines theirs mine)
+offered_by old ready theirs mine (Some mid) Audio Srtp = media_offered old ready kind.Audio mid (kept_section_lines theirs mine)
+offered_by old ready theirs mine (Some mid) Video Srtp = media_offered old ready kind.Video mid (kept_section_lines theirs mine)
 offered_by old ready theirs mine (Some mid) Application Sctp = channels_offered old ready mine mid old.own.channels
 offered_by old ready theirs mine (Some mid) Audio Sctp = rejecting_offered old ready mine
 offered_by old ready theirs mine (Some mid) Video Sctp = rejecting_offered old ready mine
@@ -167,7 +171,7 @@ offered_by old ready theirs mine None typ proto = rejecting_offered old ready mi
 
 offered_for : (old : Exchange) (ready : List SectionDirection) (extensions : List MediaAttribute) (mid : List ℕ) (what : Added)
     → IsOffered old ready (section_for old ready extensions mid what)
-offered_for old ready extensions mid (added.Media kind direction) = media_offered old ready kind mid (asked_lines extensions)
+offered_for old ready extensions mid (added.Media kind direction) = media_offered old ready kind mid (asked_section_lines extensions)
 offered_for old ready extensions mid added.Channels =
     channels_offered old ready (section_with Application Sctp (media.Mid mid ∷ [])) mid old.own.channels
 

@@ -8,8 +8,8 @@ use Rattle.exchange.proofs.answer.OfferedLaws.{accepted_channels_offered, accept
 use Rattle.exchange.specs.answer.Accepted.{AcceptsChannels, AcceptsMedia, candidate_line, first_lines, framed, layer_lines, media_lines}
 use Rattle.exchange.specs.answer.Accepted.{msid_lines}
 use Rattle.exchange.specs.answer.AnsweredSection.{AnswersSection, SaysSectionChoice}
-use Rattle.exchange.specs.answer.Choice.{IsSectionChoice, choice_by_kind, by_name, channels_or_none, rows_or_none}
-use Rattle.exchange.specs.answer.RejectedSection.{direction_over, first_type, line_that, rejecting}
+use Rattle.exchange.specs.answer.Choice.{IsSectionChoice, choice_by_kind, choice_by_name, channels_or_none, rows_or_none}
+use Rattle.exchange.specs.answer.RejectedSection.{direction_over, first_rejected_type, first_rejected_line, rejecting}
 use Rattle.exchange.specs.answer.Rows.{answered_rows}
 use Rattle.exchange.specs.declared.answer.choice.Choice.{Choice}
 use Rattle.exchange.specs.declared.answer.choice.Choice.TheVariants.{Rejected, Media, Channels}
@@ -78,7 +78,7 @@ media_of_kind own rows name (Unknown text) Sctp mid theirs e = cc
 
 media_chosen : (own : OwnSide) (rows : List PayloadParams) (name : Option (List ℕ)) (typ : MediaType) (proto : Proto) (mid : List ℕ)
     (theirs : List PayloadParams)
-    → Media mid theirs ≡ by_name own rows name typ proto → MediaChosen own rows name typ proto mid theirs
+    → Media mid theirs ≡ choice_by_name own rows name typ proto → MediaChosen own rows name typ proto mid theirs
 media_chosen own rows None typ proto mid theirs e = cc
 media_chosen own rows (Some name) typ proto mid theirs e = media_of_kind own rows name typ proto mid theirs e
 
@@ -103,7 +103,7 @@ channels_of_kind own rows name (Unknown text) Sctp mid theirs e = cc
 
 channels_chosen : (own : OwnSide) (rows : List PayloadParams) (name : Option (List ℕ)) (typ : MediaType) (proto : Proto) (mid : List ℕ)
     (theirs : DataChannels)
-    → Channels mid theirs ≡ by_name own rows name typ proto → ChannelsChosen own rows name typ proto mid
+    → Channels mid theirs ≡ choice_by_name own rows name typ proto → ChannelsChosen own rows name typ proto mid
 channels_chosen own rows None typ proto mid theirs e = cc
 channels_chosen own rows (Some name) typ proto mid theirs e = channels_of_kind own rows name typ proto mid theirs e
 
@@ -117,7 +117,7 @@ some_channels name None e some = some refl
 some_channels name (Some channels) e some = cc
 
 not_rejected : (own : OwnSide) (rows : List PayloadParams) (name : Option (List ℕ)) (typ : MediaType) (proto : Proto)
-    → Rejected ≡ by_name own rows name typ proto → name ≢ None → HasAnswerFor own rows typ proto → ⊥
+    → Rejected ≡ choice_by_name own rows name typ proto → name ≢ None → HasAnswerFor own rows typ proto → ⊥
 not_rejected own rows None typ proto e named_so has = named_so refl
 not_rejected own rows (Some name) Audio Srtp e named_so has = some_rows name rows e has
 not_rejected own rows (Some name) Video Srtp e named_so has = some_rows name rows e has
@@ -155,12 +155,12 @@ no_mid_behind Sctp lines none = none
 -- it has the name of the offered one
 pub rejected_name : (offered : MediaLine) → name_of (rejecting offered) ≡ name_of offered
 rejected_name offered =
-    let mapped : List MediaAttribute = line_that (maps (first_type offered.pts)) offered.attrs in
+    let mapped : List MediaAttribute = first_rejected_line (maps (first_rejected_type offered.pts)) offered.attrs in
     let behind : filter_map mid_of (direction_over offered.proto ++ mapped) ≡ [] =
-    no_mid_behind offered.proto mapped (no_mid_mapped (first_type offered.pts) offered.attrs) in
-    ap first (filter_map-append mid_of (line_that is_mid offered.attrs) (direction_over offered.proto ++ mapped)
-    ∙ ap (λ (names : List (List ℕ)). filter_map mid_of (line_that is_mid offered.attrs) ++ names) behind
-    ∙ append-nil (filter_map mid_of (line_that is_mid offered.attrs)))
+    no_mid_behind offered.proto mapped (no_mid_mapped (first_rejected_type offered.pts) offered.attrs) in
+    ap first (filter_map-append mid_of (first_rejected_line is_mid offered.attrs) (direction_over offered.proto ++ mapped)
+    ∙ ap (λ (names : List (List ℕ)). filter_map mid_of (first_rejected_line is_mid offered.attrs) ++ names) behind
+    ∙ append-nil (filter_map mid_of (first_rejected_line is_mid offered.attrs)))
     ∙ mid_first offered.attrs
 
 pub rejecting_shape : (offered : MediaLine) → HasShapeOf offered (rejecting offered)

@@ -20,17 +20,17 @@ as_many_brought : (rounds : List Round) → length (map brought rounds) ≡ leng
 as_many_brought [] = refl
 as_many_brought (round ∷ rounds) = ap suc (as_many_brought rounds)
 
-ended : (before : List PayloadParams) (rounds : List Round) (outcomes : List Outcome) (after : List PayloadParams)
+rounds_ended : (before : List PayloadParams) (rounds : List Round) (outcomes : List Outcome) (after : List PayloadParams)
     → RunReached before rounds outcomes after
     → length rounds ≡ length outcomes
-ended before [] [] after reached = refl
-ended before (round ∷ rounds) (outcome ∷ outcomes) after reached = ap suc (ended reached.0 rounds outcomes after reached.2)
-ended before [] (outcome ∷ outcomes) after reached = absurd reached
-ended before (round ∷ rounds) [] after reached = absurd reached
+rounds_ended before [] [] after reached = refl
+rounds_ended before (round ∷ rounds) (outcome ∷ outcomes) after reached = ap suc (rounds_ended reached.0 rounds outcomes after reached.2)
+rounds_ended before [] (outcome ∷ outcomes) after reached = absurd reached
+rounds_ended before (round ∷ rounds) [] after reached = absurd reached
 
 pub one_name_each : (sdp : Sdp) (before after : List PayloadParams) (outcomes : List Outcome)
     → Negotiated sdp.media_lines before outcomes after
     → length (negotiated_names sdp) ≡ length outcomes
 one_name_each sdp before after outcomes negotiated =
     as_many_named sdp.media_lines ∙ sym (ap length negotiated.rounds_are) ∙ as_many_brought negotiated.rounds
-    ∙ ended before negotiated.rounds outcomes after negotiated.reached
+    ∙ rounds_ended before negotiated.rounds outcomes after negotiated.reached

@@ -2,7 +2,7 @@
 use Rattle.exchange.proofs.Common.{arith, ◌≡◌, ◌↔◌, ◌||◌, ℕ, Bool, true, false, List, [], ◌∷◌, get_or, Option, Some, None, IfSome, IsTrue}
 use Rattle.exchange.proofs.Common.{bytes_eq, refl, subst, sym, ap, ◌∙◌, false≢true, Contains-append_right, list_any_at, bytes_eq-Decides}
 use Rattle.exchange.proofs.Common.{BTreeSet, Bor, Contains, MediaLine, Sdp, HoldsMids, is_listed}
-use Rattle.exchange.specs.answer.InBundle.{bundle_names, names_or_none}
+use Rattle.exchange.specs.answer.InBundle.{bundle_names, bundle_names_or_none}
 use Rattle.exchange.specs.section.Places.{HoldsGroup}
 use Rattle.exchange.specs.section.Stopped.{IsBundled, bundle_group, name_of}
 
@@ -22,25 +22,26 @@ stopped_listed_there names mid there = list_any_at (λ other. bytes_eq other mid
 
 -- ---- names in a group
 
-names_some : (group : Option (List (List ℕ))) (name : Option (List ℕ)) → is_listed (names_or_none group) name ≡ true
+names_some : (group : Option (List (List ℕ))) (name : Option (List ℕ)) → is_listed (bundle_names_or_none group) name ≡ true
     → (names : List (List ℕ)) × (mid : List ℕ) × (group ≡ Some names) × (name ≡ Some mid) × Contains names mid
 names_some None None h = absurd (false≢true h)
 names_some None (Some mid) h = absurd (false≢true h)
 names_some (Some names) None h = absurd (false≢true h)
 names_some (Some names) (Some mid) h = (names, mid, refl, refl, stopped_name_contained names mid h)
 
-one_named : (group : Option (List (List ℕ))) (name : Option (List ℕ)) (names : List (List ℕ)) (mid : List ℕ) → group ≡ Some names
+stopped_one_section_named : (group : Option (List (List ℕ))) (name : Option (List ℕ)) (names : List (List ℕ)) (mid : List ℕ)
+    → group ≡ Some names
     → name ≡ Some mid
-    → Contains names mid → is_listed (names_or_none group) name ≡ true
-one_named group name names mid is named there =
-    ap (λ (g : Option (List (List ℕ))). is_listed (names_or_none g) name) is ∙ ap (is_listed names) named
+    → Contains names mid → is_listed (bundle_names_or_none group) name ≡ true
+stopped_one_section_named group name names mid is named there =
+    ap (λ (g : Option (List (List ℕ))). is_listed (bundle_names_or_none g) name) is ∙ ap (is_listed names) named
     ∙ stopped_listed_there names mid there
 
 -- a test for the name of a section tells whether the group names it
 pub bundled_so : (sdp : Sdp) (m : MediaLine) (b : Bool) → b ≡ is_listed (bundle_names sdp) (name_of m) → IsTrue b ↔ IsBundled sdp m
 bundled_so sdp m b is = (λ yes. names_some (bundle_group sdp) (name_of m) (sym is ∙ yes), λ so. is ∙ again so) where
   again : IsBundled sdp m → is_listed (bundle_names sdp) (name_of m) ≡ true
-  again (names, mid, grouped, named, there) = one_named (bundle_group sdp) (name_of m) names mid grouped named there
+  again (names, mid, grouped, named, there) = stopped_one_section_named (bundle_group sdp) (name_of m) names mid grouped named there
 
 -- ---- the other side's group
 

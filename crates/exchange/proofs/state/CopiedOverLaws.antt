@@ -1,7 +1,7 @@
 -- Items that are in a relation with those in their places, mended one after another.
 use Rattle.exchange.proofs.Common.{arith, ◌≡◌, ◌<◌, ◌+◌, ◌≤◌, false, ℕ, List, get_or, length, set, subst, sym, true≢false, get_or-set_other}
 use Rattle.exchange.proofs.Common.{MediaAttribute, Fmtp, Alike}
-use Rattle.exchange.specs.state.ReadBack.{may_differ}
+use Rattle.exchange.specs.state.ReadBack.{read_back_may_differ}
 use Rattle.str0m_sdp.specs.declared.attribute.MediaAttribute.TheVariants.{Simulcast as SimulcastLine}
 
 -- those from a place on
@@ -21,7 +21,7 @@ behind_place {X} R xs ys i y rest = λ k d e le lt.
     subst (λ (z : X). R (get_or xs k d) z) (sym (get_or-set_other ys i k y e other)) (rest k d e (omega (arith, le)) lt)
 
 -- lines that are alike are the same where they have no values and no layers
-pub copied_same_if_alike : (a b : MediaAttribute) → may_differ a ≡ false → Alike a b → b ≡ a
+pub copied_same_if_alike : (a b : MediaAttribute) → read_back_may_differ a ≡ false → Alike a b → b ≡ a
 copied_same_if_alike (Fmtp n values) b plain alike = absurd (true≢false plain)
 copied_same_if_alike (SimulcastLine layers) b plain alike = absurd (true≢false plain)
 copied_same_if_alike _ b plain alike = sym alike

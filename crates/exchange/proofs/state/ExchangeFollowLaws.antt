@@ -2,14 +2,15 @@
 use Rattle.exchange.proofs.Common.{arith, ◌≡◌, ◌≢◌, ◌||◌, ◌++◌, ◌⊎◌, ℕ, Bool, true, false, cond, List, [], ◌∷◌, length, Option, Some, None}
 use Rattle.exchange.proofs.Common.{All, IfSome, IsSomeAnd, MatchOption, filter_map, inl, inr, refl, subst, sym, ap, ◌∙◌, true≢false}
 use Rattle.exchange.proofs.Common.{All-cons, All-nil, All-weaker, list_any-append, same_Some, AllZip-long, AllZip-right, AllZip}
-use Rattle.exchange.proofs.Common.{cons_option, slice_get, stays-same, stays-then, row_before, CodecConfig, PayloadParams, LockedStay}
+use Rattle.exchange.proofs.Common.{cons_option, slice_get, locked-stays-same, locked-stays-then, row_before, CodecConfig, PayloadParams}
+use Rattle.exchange.proofs.Common.{LockedStay}
 use Rattle.exchange.proofs.Common.{StaysLocked, MediaLine, Sdp, AreMidsDistinct, is_listed, section_mids, bytes_itself}
 use Rattle.exchange.specs.declared.offer.pending.Pending.{Pending}
 use Rattle.exchange.specs.declared.state.exchange.Exchange.{Exchange}
 use Rattle.exchange.specs.declared.state.signaling_state.SignalingState.TheVariants.{Stable}
 use Rattle.exchange.specs.offer.Names.{grown_names, new_name}
 use Rattle.exchange.specs.offer.Rules.{HasShapeOf}
-use Rattle.exchange.specs.section.Places.{FollowsPlaces, HasNameAt, IsNewPlaceName, StaysInPlace, StaysInPlaces}
+use Rattle.exchange.specs.section.Places.{FollowsPlaces, HasPlaceNameAt, IsNewPlaceName, StaysInPlace, StaysInPlaces}
 use Rattle.exchange.specs.section.Stopped.{name_of}
 use Rattle.exchange.specs.state.ExchangeFollows.{Follows, NamesGrow, IsKnownName, IsPlacedSo, IsSound}
 use Rattle.exchange.specs.state.State.{sections_of, state_by}
@@ -41,15 +42,15 @@ follows_grows_so names sections name there = follows_listed_more names (filter_m
 
 -- a section of the name of another stands where that one may
 renamed : (names : List (List ℕ)) (xs : List MediaLine) (at : ℕ) (m e : MediaLine) → name_of m ≡ name_of e
-    → HasNameAt xs at e ⊎ IsNewPlaceName names e → HasNameAt xs at m ⊎ IsNewPlaceName names m
+    → HasPlaceNameAt xs at e ⊎ IsNewPlaceName names e → HasPlaceNameAt xs at m ⊎ IsNewPlaceName names m
 renamed names xs at m e same stands = elim stands [
   | inl has ↦ inl (subst (λ (name : Option (List ℕ)). IsSomeAnd (slice_get xs at) (λ earlier. name ≡ name_of earlier)) (sym same) has)
   | inr new ↦ inr (subst (λ (name : Option (List ℕ)). is_listed names name ≡ false) (sym same) new)
 ]
 
 place_follows_through : (names : List (List ℕ)) (xs : List MediaLine) (at : ℕ) (m : MediaLine) (o : Option MediaLine)
-    → ((e : MediaLine) → o ≡ Some e → HasNameAt xs at e ⊎ IsNewPlaceName names e) → IsSomeAnd o (λ e. name_of m ≡ name_of e)
-    → HasNameAt xs at m ⊎ IsNewPlaceName names m
+    → ((e : MediaLine) → o ≡ Some e → HasPlaceNameAt xs at e ⊎ IsNewPlaceName names e) → IsSomeAnd o (λ e. name_of m ≡ name_of e)
+    → HasPlaceNameAt xs at m ⊎ IsNewPlaceName names m
 place_follows_through names xs at m None each same = absurd same
 place_follows_through names xs at m (Some e) each same = renamed names xs at m e same (each e refl)
 
@@ -74,11 +75,11 @@ places_then names more xs ys zs grows first second = record {
 rows_then : (xs ys zs : List PayloadParams) → length zs ≡ length ys → LockedStay xs ys → LockedStay ys zs → LockedStay xs zs
 rows_then xs ys zs as_many first second i old new at_old at_new =
     let mid = row_before ys zs i new as_many at_new in
-    stays-then old mid.0 new (first i old mid.0 at_old mid.1) (second i mid.0 new mid.1 at_new)
+    locked-stays-then old mid.0 new (first i old mid.0 at_old mid.1) (second i mid.0 new mid.1 at_new)
 
 locked_stay_same : (rows : List PayloadParams) → LockedStay rows rows
 locked_stay_same rows i old new at_old at_new = subst (λ (row : PayloadParams). old.locked ≡ true → StaysLocked old row)
-    (same_Some old new (sym at_old ∙ at_new)) (stays-same old)
+    (same_Some old new (sym at_old ∙ at_new)) (locked-stays-same old)
 
 -- ---- states
 
@@ -116,7 +117,7 @@ follows_same before after names local config =
 
 shaped : (names : List (List ℕ)) (local : List MediaLine) (remote : Option Sdp) (at : ℕ) (m : MediaLine) (o : Option MediaLine)
     → ((e : MediaLine) → o ≡ Some e → StaysInPlace names local remote at e) → IsSomeAnd o (λ e. HasShapeOf e m)
-    → HasNameAt local at m ⊎ IsNewPlaceName names m
+    → HasPlaceNameAt local at m ⊎ IsNewPlaceName names m
 shaped names local remote at m None each shape = absurd shape
 shaped names local remote at m (Some e) each shape = renamed names local at m e shape.name (elim (each e refl) [
   | inl has ↦ inl has
@@ -226,9 +227,9 @@ sound_new exchange local none = record {
 }
 
 -- no two sections of an open offer have one name
-pub open_names : (exchange : Exchange) (pending : Pending) → IsSound exchange → exchange.pending ≡ Some pending
+pub follows_open_names : (exchange : Exchange) (pending : Pending) → IsSound exchange → exchange.pending ≡ Some pending
     → AreMidsDistinct (section_mids pending.sdp.media_lines)
-open_names exchange pending sound is = (subst (λ (offer : Option Pending). IfSome offer (IsPlacedSo exchange)) is sound.placed).1
+follows_open_names exchange pending sound is = (subst (λ (offer : Option Pending). IfSome offer (IsPlacedSo exchange)) is sound.placed).1
 
 -- an exchange that is done leaves no open offer, and knows its names
 pub sound_done : (after : Exchange) (names : List (List ℕ)) (sdp : Sdp) → AreMidsDistinct (section_mids sdp.media_lines)

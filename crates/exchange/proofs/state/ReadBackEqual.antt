@@ -12,11 +12,11 @@ use Rattle.str0m_sdp.specs.declared.attribute.bandwidth.Bandwidth.{Bandwidth}
 use Rattle.str0m_values.specs.contracts.ice_creds.IceCredsPartialEq.TheImpl as creds_eq
 use Rattle.str0m_values.specs.contracts.payload_type.PtPartialEq.TheImpl as pt_eq
 
-abbrev eq_types : Equality (List ℕ)
-eq_types = hlevel equality
+abbrev read_back_eq_types : Equality (List ℕ)
+read_back_eq_types = hlevel equality
 
-pub types_Decides : (a b : List ℕ) → Decides (pointwise pt_eq.eq-value.it a b) (a ≡ b)
-types_Decides a b = eq_types.decides a b
+pub read_back_types_Decides : (a b : List ℕ) → Decides (pointwise pt_eq.eq-value.it a b) (a ≡ b)
+read_back_types_Decides a b = read_back_eq_types.decides a b
 
 abbrev eq_creds : Equality IceCreds
 eq_creds = hlevel equality
@@ -24,11 +24,11 @@ eq_creds = hlevel equality
 pub creds_Decides : (a b : IceCreds) → Decides (creds_eq.eq-value.it a b) (a ≡ b)
 creds_Decides a b = eq_creds.decides a b
 
-abbrev typ : Equality MediaType
-typ = eq_along media_type.as_values media_type.the_make media_type.the_eta (hlevel equality)
+abbrev media_type_equality : Equality MediaType
+media_type_equality = eq_along media_type.as_values media_type.the_make media_type.the_eta (hlevel equality)
 
-pub type_Decides : (a b : MediaType) → Decides (type_eq.eq-value.it a b) (a ≡ b)
-type_Decides a b = typ.decides a b
+pub read_back_type_Decides : (a b : MediaType) → Decides (type_eq.eq-value.it a b) (a ≡ b)
+read_back_type_Decides a b = media_type_equality.decides a b
 
 abbrev eq_bandwidth : Equality Bandwidth
 eq_bandwidth = hlevel equality

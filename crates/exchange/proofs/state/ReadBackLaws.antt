@@ -57,7 +57,7 @@ pub read_back_found_alike : (said : Sdp) (found : Option Sdp) (read : Sdp) → f
 read_back_found_alike said found read is alike = subst (λ (o : Option Sdp). IfSome o (IsWholeReadAs said)) is alike
 
 -- a copy that was found is what was said, and is read back
-pub copied : (said : Sdp) (text : List ℕ) (found : Option Sdp) (copy : Sdp) → found ≡ Some copy
+pub read_back_copied : (said : Sdp) (text : List ℕ) (found : Option Sdp) (copy : Sdp) → found ≡ Some copy
     → MatchOption found (IsReadBack said text → ⊥) (λ it. (it ≡ said) × IsReadBack said text) → (copy ≡ said) × IsReadBack said text
-copied said text found copy is told =
+read_back_copied said text found copy is told =
     subst (λ (other : Option Sdp). MatchOption other (IsReadBack said text → ⊥) (λ it. (it ≡ said) × IsReadBack said text)) is told

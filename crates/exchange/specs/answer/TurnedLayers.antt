@@ -1,7 +1,7 @@
 -- Layers of an answer beside those of its offer: what the one sends, the other receives (RFC 8851, section 6.3; RFC 8853,
 -- section 5.3.2).
 use Rattle.exchange.specs.Prelude.{MediaAttribute, MediaLine, SimulcastLayer, last, simulcast_of}
-use Rattle.exchange.specs.answer.Layers.{is_named, sent_layers}
+use Rattle.exchange.specs.answer.Layers.{is_layer_named, sent_layers}
 use Rattle.std.specs.List.{list_any}
 use Rattle.std.specs.Prelude.{◌≡◌, ◌&&◌, ◌||◌, ℕ, Bool, true, false, List, [], Option, Some, None, All, codes, bytes_eq, filter_map}
 use Rattle.str0m_sdp.specs.declared.attribute.MediaAttribute.TheVariants.{Rid}
@@ -32,7 +32,7 @@ layers_received m = received_by (last (filter_map simulcast_of m.attrs))
 
 -- each layer has the name of one of the others
 abbrev pub AreLayersAmong : List SimulcastLayer → List SimulcastLayer → Type 0
-AreLayersAmong others layers = All (λ layer. list_any (is_named layer.restriction_id.0) others ≡ true) layers
+AreLayersAmong others layers = All (λ layer. list_any (is_layer_named layer.restriction_id.0) others ≡ true) layers
 
 pub record TurnsLayers (offered answered : MediaLine) : Type 0 where
   pub rids : All (λ line. is_turned offered.attrs line ≡ true) answered.attrs

@@ -13,8 +13,8 @@ placed_under [] added = []
 placed_under (mid ∷ mids) [] = []
 placed_under (mid ∷ mids) (first ∷ more) = record { mid = mid; added = first } ∷ placed_under mids more
 
-abbrev pub names_of : List Placed → List (List ℕ)
-names_of placed = map (λ it. it.mid) placed
+abbrev pub added_names_of : List Placed → List (List ℕ)
+added_names_of placed = map (λ it. it.mid) placed
 
 -- what media was added for, in the section of that name
 abbrev pub direction_under : List ℕ → Added → Option SectionDirection

@@ -56,11 +56,11 @@ FitsAt ours offer answer at = (offered answered : MediaLine)
 -- ---- an answer as a whole
 
 -- the name of a section that is accepted
-abbrev pub accepted_name : MediaLine → Option (List ℕ)
-accepted_name m = cond m.disabled None (name_of m)
+abbrev pub fit_section_name : MediaLine → Option (List ℕ)
+fit_section_name m = cond m.disabled None (name_of m)
 
 abbrev pub unrejected_names : Sdp → List (List ℕ)
-unrejected_names sdp = filter_map accepted_name sdp.media_lines
+unrejected_names sdp = filter_map fit_section_name sdp.media_lines
 
 -- its group lists accepted sections alone, and of those that the offer's group lists (RFC 9143, section 7.3)
 pub record IsBundledSo (offer answer : Sdp) (mid : List ℕ) : Type 0 where

@@ -1,7 +1,7 @@
 -- The offer that this side makes (RFC 3264, section 8; RFC 8829, section 5.2).
 use Rattle.exchange.specs.Prelude.{MediaLine, Sdp, Session}
-use Rattle.exchange.specs.answer.AnsweredSession.{group_lines, is_accepted, mixed_lines}
-use Rattle.exchange.specs.answer.Bundle.{accepted_names}
+use Rattle.exchange.specs.answer.AnsweredSession.{group_lines, is_section_accepted, mixed_lines}
+use Rattle.exchange.specs.answer.Bundle.{answered_bundle_names}
 use Rattle.exchange.specs.declared.offer.added.Placed.{Placed}
 use Rattle.exchange.specs.declared.state.exchange.Exchange.{Exchange}
 use Rattle.exchange.specs.declared.state.own_side.SectionDirection.{SectionDirection}
@@ -27,7 +27,7 @@ sections_added old names =
 
 -- one group of all sections with a port, in order (RFC 9143, section 7.2)
 abbrev pub bundled_names : List MediaLine → List (List ℕ)
-bundled_names sections = accepted_names sections (map is_accepted sections)
+bundled_names sections = answered_bundle_names sections (map is_section_accepted sections)
 
 -- the session's part of an offer with these sections
 abbrev pub offer_session : Exchange → List MediaLine → Session

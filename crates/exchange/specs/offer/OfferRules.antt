@@ -23,13 +23,13 @@ use Rattle.str0m_values.specs.declared.media_kind.MediaKind.TheVariants as kind
 abbrev pub IsNewName : Exchange → List ℕ → Type 0
 IsNewName old name = is_listed (taken_names old) (Some name) ≡ false
 
-abbrev pub HasNewName : Exchange → MediaLine → Type 0
-HasNewName old m = MatchOption (name_of m) ⊥ (IsNewName old)
+abbrev pub HasNewPlaceName : Exchange → MediaLine → Type 0
+HasNewPlaceName old m = MatchOption (name_of m) ⊥ (IsNewName old)
 
 -- an earlier section has its place, with its type, protocol and name; or the place is over, and has a new one (RFC 3264, section 8;
 -- RFC 8829, section 5.2.2)
 abbrev pub KeepsOfferPlace : Exchange → ℕ → MediaLine → MediaLine → Type 0
-KeepsOfferPlace old at mine said = HasShapeOf mine said ⊎ (IsPlaceOver old.remote at mine × HasNewName old said)
+KeepsOfferPlace old at mine said = HasShapeOf mine said ⊎ (IsPlaceOver old.remote at mine × HasNewPlaceName old said)
 
 -- each place from one on, and there may be more after them
 abbrev pub KeepsOfferPlaces : Exchange → ℕ → List MediaLine → List MediaLine → Type 0

@@ -26,9 +26,9 @@ use Rattle.str0m_values.specs.declared.media_kind.MediaKind.TheVariants as kind
 abbrev pub section_with : MediaType → Proto → List MediaAttribute → MediaLine
 section_with typ proto lines = record { typ = typ; disabled = false; proto = proto; pts = []; bw = None; attrs = lines }
 
-abbrev pub type_of : MediaKind → MediaType
-type_of kind.Audio = Audio
-type_of kind.Video = Video
+abbrev pub type_of_kind : MediaKind → MediaType
+type_of_kind kind.Audio = Audio
+type_of_kind kind.Video = Video
 
 -- what media says but for its rows, after its name and its transport: its direction, where this side is reached, what both
 -- sides have to agree on, and its track
@@ -38,8 +38,8 @@ flow_lines own mid direction asked = direction_attribute direction ∷ [] ++ map
 -- media over RTP, in any role, with the rows of its kind, in the direction that these entries say this side is ready for
 abbrev pub offered_media : Exchange → List SectionDirection → MediaKind → List ℕ → List MediaAttribute → MediaLine
 offered_media old ready kind mid asked =
-    made (section_with (type_of kind) Srtp (first_lines old.own mid ActPass
-    ++ flow_lines old.own mid (direction_among old.own ready (Some mid) (type_of kind)) asked)) (kind_rows kind true old.config.params.items)
+    made (section_with (type_of_kind kind) Srtp (first_lines old.own mid ActPass
+    ++ flow_lines old.own mid (direction_among old.own ready (Some mid) (type_of_kind kind)) asked)) (kind_rows kind true old.config.params.items)
 
 -- data channels over SCTP, in any role; a side that takes none rejects them
 abbrev pub offered_channels : OwnSide → MediaLine → List ℕ → Option DataChannels → MediaLine
@@ -50,11 +50,11 @@ offered_channels own instead mid (Some channels) =
 -- ---- what is added
 
 -- RTP and RTCP on one port (RFC 5761, section 5.1.1), RTCP of reduced size (RFC 5506, section 5), and header extensions
-abbrev pub asked_lines : List MediaAttribute → List MediaAttribute
-asked_lines extensions = media.RtcpMux ∷ (media.RtcpRsize ∷ extensions)
+abbrev pub asked_section_lines : List MediaAttribute → List MediaAttribute
+asked_section_lines extensions = media.RtcpMux ∷ (media.RtcpRsize ∷ extensions)
 
 abbrev pub section_for : Exchange → List SectionDirection → List MediaAttribute → List ℕ → Added → MediaLine
-section_for old ready extensions mid (added.Media kind direction) = offered_media old ready kind mid (asked_lines extensions)
+section_for old ready extensions mid (added.Media kind direction) = offered_media old ready kind mid (asked_section_lines extensions)
 section_for old ready extensions mid added.Channels = offered_channels old.own (section_with Application Sctp (media.Mid mid ∷ [])) mid old.own.channels
 
 abbrev pub new_section : Exchange → List SectionDirection → List MediaAttribute → Placed → MediaLine
@@ -97,13 +97,13 @@ is_own _ = false
 abbrev pub is_line_said_again : Option MediaLine → MediaAttribute → Bool
 is_line_said_again theirs line = is_said_by_theirs theirs line || is_own line
 
-abbrev pub kept_lines : Option MediaLine → MediaLine → List MediaAttribute
-kept_lines theirs mine = filter (is_line_said_again theirs) mine.attrs
+abbrev pub kept_section_lines : Option MediaLine → MediaLine → List MediaAttribute
+kept_section_lines theirs mine = filter (is_line_said_again theirs) mine.attrs
 
 -- by its name, its type and its protocol, which stay (RFC 3264, section 8; RFC 8829, section 5.2.2)
 abbrev pub section_by : Exchange → List SectionDirection → Option MediaLine → MediaLine → Option (List ℕ) → MediaType → Proto → MediaLine
-section_by old ready theirs mine (Some mid) Audio Srtp = offered_media old ready kind.Audio mid (kept_lines theirs mine)
-section_by old ready theirs mine (Some mid) Video Srtp = offered_media old ready kind.Video mid (kept_lines theirs mine)
+section_by old ready theirs mine (Some mid) Audio Srtp = offered_media old ready kind.Audio mid (kept_section_lines theirs mine)
+section_by old ready theirs mine (Some mid) Video Srtp = offered_media old ready kind.Video mid (kept_section_lines theirs mine)
 section_by old ready theirs mine (Some mid) Application Sctp = offered_channels old.own mine mid old.own.channels
 section_by old ready theirs mine _ _ _ = rejecting mine
 

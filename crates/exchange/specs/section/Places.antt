@@ -23,8 +23,8 @@ IsFree local remote at = IfSome (slice_get local at) (IsPlaceOver remote at)
 -- ---- which names stand there
 
 -- the section at a place has the name of this one
-abbrev pub HasNameAt : List MediaLine → ℕ → MediaLine → Type 0
-HasNameAt sections at m = IsSomeAnd (slice_get sections at) (λ earlier. name_of m ≡ name_of earlier)
+abbrev pub HasPlaceNameAt : List MediaLine → ℕ → MediaLine → Type 0
+HasPlaceNameAt sections at m = IsSomeAnd (slice_get sections at) (λ earlier. name_of m ≡ name_of earlier)
 
 -- no section has had the name
 abbrev pub IsNewPlaceName : List (List ℕ) → MediaLine → Type 0
@@ -32,7 +32,7 @@ IsNewPlaceName names m = is_listed names (name_of m) ≡ false
 
 -- a section has the name of its place, or a new one where the place is free
 abbrev pub StaysInPlace : List (List ℕ) → List MediaLine → Option Sdp → ℕ → MediaLine → Type 0
-StaysInPlace names local remote at m = HasNameAt local at m ⊎ (IsFree local remote at × IsNewPlaceName names m)
+StaysInPlace names local remote at m = HasPlaceNameAt local at m ⊎ (IsFree local remote at × IsNewPlaceName names m)
 
 -- so at a place, where there is a section
 abbrev pub StaysInPlaceAt : List (List ℕ) → List MediaLine → Option Sdp → Sdp → ℕ → Type 0
@@ -54,4 +54,4 @@ MovesPlaceAt names local remote offer at =
 -- sections after others, where `names` are those that sections had before: none moves, and a new name is new
 pub record FollowsPlaces (names : List (List ℕ)) (before after : List MediaLine) : Type 0 where
   pub as_many : length before ≤ length after
-  pub each : (at : ℕ) (m : MediaLine) → slice_get after at ≡ Some m → HasNameAt before at m ⊎ IsNewPlaceName names m
+  pub each : (at : ℕ) (m : MediaLine) → slice_get after at ≡ Some m → HasPlaceNameAt before at m ⊎ IsNewPlaceName names m

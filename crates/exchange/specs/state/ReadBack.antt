@@ -12,10 +12,10 @@ pub record IsSameHead (said read : MediaLine) : Type 0 where
   pub types : read.pts ≡ said.pts
 
 -- lines that differ may be alike: fmtp lines, and those of layers
-abbrev pub may_differ : MediaAttribute → Bool
-may_differ (Fmtp pt values) = true
-may_differ (SimulcastLine layers) = true
-may_differ _ = false
+abbrev pub read_back_may_differ : MediaAttribute → Bool
+read_back_may_differ (Fmtp pt values) = true
+read_back_may_differ (SimulcastLine layers) = true
+read_back_may_differ _ = false
 
 -- a section with the same m-line and the same bandwidth, whose attributes are alike one by one
 pub record IsSectionReadAs (said read : MediaLine) : Type 0 where

@@ -183,7 +183,7 @@ fn push_media(
 
 /// How many lines a section may have, as a guess that most don't pass: no answer depends on it. A stranger's long section doesn't
 /// ask for room that its answer won't take.
-fn likely_lines(own: &OwnSide, offered: &MediaLine) -> usize {
+fn likely_accepted_lines(own: &OwnSide, offered: &MediaLine) -> usize {
     let extra = own.candidates.as_slice().len().saturating_add(8);
     offered
         .attrs
@@ -200,12 +200,12 @@ fn types_of_rows(alloc: Global, rows: &[PayloadParams]) -> Result<Vec<Pt>, Alloc
     let likely = rows.len().saturating_mul(2);
     let mut pts = Vec::with_capacity(alloc, likely)?;
     for row in rows {
-        push_types(&mut pts, row)?;
+        push_accepted_types(&mut pts, row)?;
     }
     Ok(pts)
 }
 
-fn push_types(pts: &mut Vec<Pt>, row: &PayloadParams) -> Result<(), AllocError>
+fn push_accepted_types(pts: &mut Vec<Pt>, row: &PayloadParams) -> Result<(), AllocError>
     ensures { OnOk result (pts.new.items ≡ pts.old.items ++ types_of row.now) }
 {
     pts.push(row.pt())?;
@@ -264,7 +264,7 @@ pub(crate) fn accepted_media(
 {
     let role = Setup::answer(setup_in_force(offer, offered));
     let direction = offered.direction().answer(own.direction_for(offered));
-    let mut lines = Vec::with_capacity(alloc, likely_lines(own, offered))?;
+    let mut lines = Vec::with_capacity(alloc, likely_accepted_lines(own, offered))?;
     lines.append(&mut first_lines(alloc, own, mid, role)?)?;
     push_media(&mut lines, own, offered, mid, direction, rows)?;
     made(alloc, offered, lines, rows)

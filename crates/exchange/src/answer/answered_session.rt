@@ -1,5 +1,5 @@
 //! What an answer says of the session as a whole.
-ghost use Rattle.exchange.specs.answer.AnsweredSession.{allows_mixed, answered_session, group_lines, is_accepted, mixed_lines};
+ghost use Rattle.exchange.specs.answer.AnsweredSession.{allows_mixed, answered_session, group_lines, is_section_accepted, mixed_lines};
 ghost use Rattle.std.specs.List.{list_any};
 ghost use Rattle.std.specs.Prelude.{◌≡◌, IfOk, map};
 
@@ -13,7 +13,7 @@ pub(crate) fn session_sections_accepted(
     alloc: Global,
     sections: &[MediaLine],
 ) -> Result<Vec<bool>, AllocError>
-    ensures { IfOk result (λ accepted. accepted.items ≡ map is_accepted sections.now) }
+    ensures { IfOk result (λ accepted. accepted.items ≡ map is_section_accepted sections.now) }
 {
     let mut accepted = Vec::new(alloc);
     for section in sections {

@@ -1,6 +1,6 @@
 //! Sections that share the transport of a bundle.
 ghost use Rattle.exchange.specs.Prelude.{HoldsMids};
-ghost use Rattle.exchange.specs.answer.InBundle.{bundle_names, is_same_name, is_tagged, tagged_section};
+ghost use Rattle.exchange.specs.answer.InBundle.{bundle_names, is_same_bundle_name, is_tagged, tagged_section};
 ghost use Rattle.std.specs.Prelude.{◌≡◌, IfOk, option_copied};
 
 use crate::offer::names::ordered_names;
@@ -26,8 +26,8 @@ pub(crate) fn ordered_bundle(alloc: Global, sdp: &Sdp) -> Result<BTreeSet<&str>,
     ordered_names(alloc, bundle_names(sdp))
 }
 
-fn is_same_name(name: Option<Mid>, other: Option<Mid>) -> bool
-    ensures { result ≡ is_same_name name other }
+fn is_same_bundle_name(name: Option<Mid>, other: Option<Mid>) -> bool
+    ensures { result ≡ is_same_bundle_name name other }
 {
     match (name, other) {
         (Some(name), Some(other)) => name == other,
@@ -39,7 +39,7 @@ fn is_same_name(name: Option<Mid>, other: Option<Mid>) -> bool
 fn is_tagged(names: &[Mid], section: &MediaLine) -> bool
     ensures { result ≡ is_tagged names.now section.now }
 {
-    is_same_name(names.first().copied(), name_of(section))
+    is_same_bundle_name(names.first().copied(), name_of(section))
 }
 
 /// The section whose transport all of the bundle share.

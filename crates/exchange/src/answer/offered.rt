@@ -20,7 +20,7 @@ fn line_feeds(bytes: &[u8]) -> usize
 }
 
 /// The number, counted from 1, of the line at which the rest of a text begins.
-fn line_of(text: &str, rest: &str) -> usize
+fn rest_line_number(text: &str, rest: &str) -> usize
     ensures { (from : IsFromLine text.now rest.now) → rest.now ≢ [] → result ≡ length from.before + 1 }
 {
     let read = text.len().saturating_sub(rest.len());
@@ -29,7 +29,7 @@ fn line_of(text: &str, rest: &str) -> usize
 }
 
 /// Its first line, without the end.
-fn first_line(alloc: Global, rest: &str) -> Result<Text, AllocError> {
+fn first_rest_line(alloc: Global, rest: &str) -> Result<Text, AllocError> {
     Text::from_str(alloc, rest.lines().next().unwrap_or(""))
 }
 
@@ -44,8 +44,8 @@ pub(crate) fn whole_description(alloc: Global, text: &str) -> Result<Sdp, Exchan
         return Ok(offer);
     }
     Err(ExchangeError::Unread {
-        line: line_of(text, rest),
-        text: first_line(alloc, rest)?,
+        line: rest_line_number(text, rest),
+        text: first_rest_line(alloc, rest)?,
     })
 }
 

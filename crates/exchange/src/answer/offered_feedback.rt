@@ -1,5 +1,5 @@
 //! The feedback that a section offers for each payload type, by one pass over its lines.
-ghost use Rattle.exchange.specs.answer.OfferedFeedback.{IsGathered, TellsFeedbackOf, either_offered, named_offered, none_offered, offered_feedback, with_offered, value_for_all};
+ghost use Rattle.exchange.specs.answer.OfferedFeedback.{IsGathered, TellsFeedbackOf, either_offered, named_offered, none_offered, offered_feedback, with_offered, feedback_for_all};
 ghost use Rattle.std.specs.Prelude.{◌≡◌, ◌<◌, get_or, set, option_copied};
 
 use str0m_sdp::label::{FIR, NACK, PLI, REMB, TRANSPORT_CC};
@@ -29,8 +29,8 @@ pub(crate) struct SectionFeedback {
 }
 
 /// The value of a line that offers feedback for all types.
-fn value_for_all(attr: &MediaAttribute) -> Option<&str>
-    ensures { option_copied result ≡ value_for_all attr.now }
+fn feedback_for_all(attr: &MediaAttribute) -> Option<&str>
+    ensures { option_copied result ≡ feedback_for_all attr.now }
 {
     match attr {
         MediaAttribute::Unused(text) => strip(text.as_str(), "rtcp-fb:* "),
@@ -78,9 +78,9 @@ impl OfferedFeedback {
 
     /// With what a line offers for all types.
     fn with_line(self, attr: &MediaAttribute) -> OfferedFeedback
-        ensures { result ≡ with_offered self (value_for_all attr.now) }
+        ensures { result ≡ with_offered self (feedback_for_all attr.now) }
     {
-        match value_for_all(attr) {
+        match feedback_for_all(attr) {
             Some(words) => self.or(OfferedFeedback::named(words)),
             None => self,
         }
@@ -96,7 +96,7 @@ fn place(pt: Pt) -> usize
 }
 
 /// Adds what the value of a line names to the feedback of its payload type.
-fn add_value(table: &mut [OfferedFeedback; TYPES], pt: Pt, words: &str)
+fn add_feedback_value(table: &mut [OfferedFeedback; TYPES], pt: Pt, words: &str)
     ensures added { table.new ≡ set table.old pt (either_offered (get_or table.old pt none_offered) (named_offered words.now)) }
     ensures within { pt < 256 }
 {
@@ -113,7 +113,11 @@ fn gathered(attrs: &[MediaAttribute]) -> SectionFeedback
     let mut of_all = nothing;
     for attr in attrs {
         match attr {
-            MediaAttribute::RtcpFb { pt, value } => add_value(&mut of_types, *pt, value.as_str()),
+            MediaAttribute::RtcpFb { pt, value } => add_feedback_value(
+                &mut of_types,
+                *pt,
+                value.as_str(),
+            ),
             _ => of_all = of_all.with_line(attr),
         }
     }

@@ -20,7 +20,7 @@ fn is_equal_line(line: &MediaAttribute, other: &MediaAttribute) -> bool
     line == other
 }
 
-fn has_line(lines: &[MediaAttribute], line: &MediaAttribute) -> bool
+fn has_equal_line(lines: &[MediaAttribute], line: &MediaAttribute) -> bool
     ensures { IsTrue result ↔ Contains lines.now line.now }
 {
     lines.iter().any(|other| is_equal_line(other, line))
@@ -29,7 +29,7 @@ fn has_line(lines: &[MediaAttribute], line: &MediaAttribute) -> bool
 fn line_may_be_said(offered: &[MediaAttribute], line: &MediaAttribute) -> bool
     ensures { IsTrue result ↔ (needs_offer line.now ≡ true → Contains offered.now line.now) }
 {
-    !needs_offer(line) || has_line(offered, line)
+    !needs_offer(line) || has_equal_line(offered, line)
 }
 
 /// Whether `rtcp-mux`, `rtcp-rsize` and header extensions are said only as the offered section says them.

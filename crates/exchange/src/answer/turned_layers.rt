@@ -1,5 +1,5 @@
 //! Layers of an answer beside those of its offer.
-ghost use Rattle.exchange.specs.answer.Layers.{is_named};
+ghost use Rattle.exchange.specs.answer.Layers.{is_layer_named};
 ghost use Rattle.exchange.specs.answer.TurnedLayers.{AreLayersAmong, TurnsLayers, are_opposite, is_opposite, is_turned, layers_received};
 ghost use Rattle.std.specs.List.{list_any};
 ghost use Rattle.std.specs.Prelude.{◌≡◌, ◌↔◌, IfOk, IsTrue, All, true};
@@ -65,7 +65,7 @@ fn layers_received(alloc: Global, section: &MediaLine) -> Result<Items<Simulcast
 }
 
 fn is_layer_among(others: &[SimulcastLayer], layer: &SimulcastLayer) -> bool
-    ensures { result ≡ list_any (is_named layer.now.restriction_id.0) others.now }
+    ensures { result ≡ list_any (is_layer_named layer.now.restriction_id.0) others.now }
 {
     is_sent(others, layer.restriction_id.0.as_str())
 }

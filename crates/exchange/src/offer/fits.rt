@@ -2,7 +2,7 @@
 ghost use Rattle.exchange.specs.Prelude.{HoldsMids};
 ghost use Rattle.exchange.specs.answer.Bundled.{IsBundledBy};
 ghost use Rattle.exchange.specs.answer.InBundle.{bundle_names};
-ghost use Rattle.exchange.specs.offer.Fits.{Breaks, BreaksAt, BreaksFirstAt, BundlesSo, FitsAt, FitsOffer, IsBundledSo, accepted_name, unrejected_names};
+ghost use Rattle.exchange.specs.offer.Fits.{Breaks, BreaksAt, BreaksFirstAt, BundlesSo, FitsAt, FitsOffer, IsBundledSo, fit_section_name, unrejected_names};
 ghost use Rattle.std.specs.Prelude.{◌≡◌, ◌↔◌, ℕ, IfOk, IsTrue, MatchOption, filter_map, Some};
 
 use crate::answer::bundled::{Bundled, shared_by};
@@ -51,8 +51,8 @@ fn broken_section(
     Ok(None)
 }
 
-fn accepted_name(section: &MediaLine) -> Option<Mid>
-    ensures { result ≡ accepted_name section.now }
+fn fit_section_name(section: &MediaLine) -> Option<Mid>
+    ensures { result ≡ fit_section_name section.now }
 {
     if section.disabled {
         None
@@ -63,11 +63,11 @@ fn accepted_name(section: &MediaLine) -> Option<Mid>
 
 /// The names of the sections that are accepted.
 fn unrejected_names(alloc: Global, sections: &[MediaLine]) -> Result<Vec<Mid>, AllocError>
-    ensures { IfOk result (λ names. names.items ≡ filter_map accepted_name sections.now) }
+    ensures { IfOk result (λ names. names.items ≡ filter_map fit_section_name sections.now) }
 {
     let mut names = Vec::new(alloc);
     for section in sections {
-        push_name(&mut names, accepted_name(section))?;
+        push_name(&mut names, fit_section_name(section))?;
     }
     Ok(names)
 }

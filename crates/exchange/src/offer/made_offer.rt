@@ -9,7 +9,7 @@ ghost use Rattle.exchange.specs.state.State.{sections_of, session_of, taken_name
 ghost use Rattle.std.specs.Prelude.{◌≡◌, All, IfOk, map};
 
 use crate::answer::answered_session::{group_lines, mixed_lines, session_sections_accepted};
-use crate::answer::bundle::accepted_names;
+use crate::answer::bundle::answered_bundle_names;
 use crate::offer::added::{Placed, placed_under, with_placed};
 use crate::offer::offer_extensions::extension_lines;
 use crate::offer::offer_places::{filled_places, new_sections};
@@ -58,7 +58,7 @@ fn bundled_names(alloc: Global, sections: &[MediaLine]) -> Result<Items<Mid>, Al
     ensures { IfOk result (λ names. names ≡ bundled_names sections.now) }
 {
     let accepted = session_sections_accepted(alloc, sections)?;
-    let names = accepted_names(alloc, sections, accepted.as_slice())?;
+    let names = answered_bundle_names(alloc, sections, accepted.as_slice())?;
     Ok(Items::from(names))
 }
 

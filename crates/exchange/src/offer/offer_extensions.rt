@@ -108,7 +108,7 @@ fn last_number(last: u8, number: Option<u8>) -> u8
 }
 
 /// The line of a URI after others, where it has a number.
-fn push_line(
+fn push_ext_line(
     alloc: Global,
     lines: &mut Vec<MediaAttribute>,
     uri: &str,
@@ -136,7 +136,7 @@ pub(crate) fn extension_lines(
     let (mut last, mut left) = (greatest_in(said), known);
     while let Some((uri, later)) = left.split_first() {
         let number = number_for(said, last, uri.as_str());
-        push_line(alloc, &mut lines, uri.as_str(), number)?;
+        push_ext_line(alloc, &mut lines, uri.as_str(), number)?;
         last = last_number(last, number);
         left = later;
     }

@@ -74,7 +74,7 @@ fn added_left(is_over: bool, added: &[MediaLine]) -> &[MediaLine]
 }
 
 /// Copies of sections after others.
-fn with_copies(
+fn with_section_copies(
     mut sections: Vec<MediaLine>,
     behind: &[MediaLine],
 ) -> Result<Vec<MediaLine>, AllocError>
@@ -105,7 +105,7 @@ pub(crate) fn filled_places(
         sections.push(place_section(exchange, ready, at, mine, is_over, left)?)?;
         left = added_left(is_over, left);
     }
-    with_copies(sections, left)
+    with_section_copies(sections, left)
 }
 
 /// The sections of what is added.

@@ -1,6 +1,6 @@
 //! The sections of an offer.
 ghost use Rattle.exchange.specs.Prelude.{kind_rows};
-ghost use Rattle.exchange.specs.offer.OfferSection.{asked_lines, flow_lines, is_extension, is_mux, is_own, is_rsize, is_said_by_theirs, is_same_shared_line, kept_lines, new_section, next_section, offered_channels, offered_media, section_with, type_of};
+ghost use Rattle.exchange.specs.offer.OfferSection.{asked_section_lines, flow_lines, is_extension, is_mux, is_own, is_rsize, is_said_by_theirs, is_same_shared_line, kept_section_lines, new_section, next_section, offered_channels, offered_media, section_with, type_of_kind};
 ghost use Rattle.std.specs.List.{list_any};
 ghost use Rattle.std.specs.Prelude.{◌≡◌, ◌≢◌, [], IfOk, false, true, option_copied};
 
@@ -32,8 +32,8 @@ fn section_with(
     section
 }
 
-fn type_of(kind: MediaKind) -> MediaType
-    ensures { result ≡ type_of kind }
+fn type_of_kind(kind: MediaKind) -> MediaType
+    ensures { result ≡ type_of_kind kind }
 {
     match kind {
         MediaKind::Audio => MediaType::Audio,
@@ -90,7 +90,7 @@ fn offered_media(
 {
     let (own, config) = (&exchange.own, &exchange.config);
     let alloc = *config.allocator();
-    let typ = type_of(kind);
+    let typ = type_of_kind(kind);
     let direction = own.direction_among(ready, Some(mid), &typ);
     let mut lines = first_lines(alloc, own, mid, Setup::ActPass)?;
     lines.append(&mut flow_lines(alloc, own, mid, direction, asked)?)?;
@@ -118,11 +118,11 @@ fn offered_channels(
 }
 
 /// The lines that a new section of media asks for.
-fn asked_lines(
+fn asked_section_lines(
     alloc: Global,
     extensions: &[MediaAttribute],
 ) -> Result<Vec<MediaAttribute>, AllocError>
-    ensures { IfOk result (λ lines. lines.items ≡ asked_lines extensions.now) }
+    ensures { IfOk result (λ lines. lines.items ≡ asked_section_lines extensions.now) }
 {
     let mut lines = vec![in alloc; MediaAttribute::RtcpMux, MediaAttribute::RtcpRsize]?;
     for line in extensions {
@@ -144,7 +144,7 @@ pub(crate) fn new_section(
     let mid = placed.mid;
     match placed.added {
         Added::Media(kind, _) => {
-            let asked = asked_lines(alloc, extensions)?;
+            let asked = asked_section_lines(alloc, extensions)?;
             offered_media(exchange, ready, kind, mid, asked)
         }
         Added::Channels => {
@@ -190,7 +190,7 @@ fn is_same_shared_line(line: &MediaAttribute, other: &MediaAttribute) -> bool
     }
 }
 
-fn says(section: &MediaLine, line: &MediaAttribute) -> bool
+fn says_line(section: &MediaLine, line: &MediaAttribute) -> bool
     ensures { result ≡ list_any (is_same_shared_line line.now) section.now.attrs }
 {
     let attrs = section.attrs.as_slice();
@@ -201,7 +201,7 @@ fn is_said_by_theirs(theirs: Option<&MediaLine>, line: &MediaAttribute) -> bool
     ensures { result ≡ is_said_by_theirs (option_copied theirs.entry) line.now }
 {
     match theirs {
-        Some(theirs) => says(theirs, line),
+        Some(theirs) => says_line(theirs, line),
         None => false,
     }
 }
@@ -218,12 +218,12 @@ fn is_own(line: &MediaAttribute) -> bool
 }
 
 /// The lines of this side's section that it goes on saying.
-fn kept_lines(
+fn kept_section_lines(
     alloc: Global,
     theirs: Option<&MediaLine>,
     mine: &MediaLine,
 ) -> Result<Vec<MediaAttribute>, AllocError>
-    ensures { IfOk result (λ lines. lines.items ≡ kept_lines (option_copied theirs.entry) mine.now) }
+    ensures { IfOk result (λ lines. lines.items ≡ kept_section_lines (option_copied theirs.entry) mine.now) }
 {
     let mut lines = Vec::new(alloc);
     for line in mine.attrs.as_slice() {
@@ -255,6 +255,6 @@ pub(crate) fn next_section(
         }
         _ => return rejected(alloc, mine),
     };
-    let kept = kept_lines(alloc, theirs, mine)?;
+    let kept = kept_section_lines(alloc, theirs, mine)?;
     offered_media(exchange, ready, kind, mid, kept)
 }

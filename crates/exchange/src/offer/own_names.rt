@@ -10,7 +10,7 @@ use std::collections::BTreeSet;
 use str0m_signal::{MediaLine, Mid};
 
 /// The names of sections, in order; `None` where a section says none.
-fn names_of(alloc: Global, sections: &[MediaLine]) -> Result<Vec<Option<Mid>>, AllocError>
+fn added_names_of(alloc: Global, sections: &[MediaLine]) -> Result<Vec<Option<Mid>>, AllocError>
     ensures { IfOk result (λ names. names.items ≡ map name_of sections.now) }
 {
     let mut names = Vec::new(alloc);
@@ -27,7 +27,7 @@ pub(crate) fn first_named_again(
 ) -> Result<Option<usize>, AllocError>
     ensures { IfOk result (λ found. MatchOption found (AreMidsDistinct (section_mids sections.now)) (IsNamedAgain sections.now)) }
 {
-    let names = names_of(alloc, sections)?;
+    let names = added_names_of(alloc, sections)?;
     let mut before = BTreeSet::new(alloc);
     for (at, name) in names.iter().enumerate() {
         if let Some(name) = name {

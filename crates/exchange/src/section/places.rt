@@ -1,6 +1,6 @@
 //! The places of sections over several exchanges.
 ghost use Rattle.exchange.specs.Prelude.{HoldsMids};
-ghost use Rattle.exchange.specs.section.Places.{HasNameAt, HoldsGroup, IsFree, IsPlaceOver, StaysInPlace, StaysInPlaceAt, StaysInPlaces, MovesPlaceAt};
+ghost use Rattle.exchange.specs.section.Places.{HasPlaceNameAt, HoldsGroup, IsFree, IsPlaceOver, StaysInPlace, StaysInPlaceAt, StaysInPlaces, MovesPlaceAt};
 ghost use Rattle.exchange.specs.section.Stopped.{IsStoppedAt};
 ghost use Rattle.exchange.specs.state.State.{sections_of};
 ghost use Rattle.std.specs.Prelude.{◌≡◌, ◌↔◌, IfOk, IsSomeAnd, IsTrue, MatchOption};
@@ -79,8 +79,8 @@ pub(crate) fn are_same_names(name: Option<Mid>, other: Option<Mid>) -> bool
     }
 }
 
-fn has_name_at(sections: &[MediaLine], at: usize, section: &MediaLine) -> bool
-    ensures { IsTrue result ↔ HasNameAt sections.now at section.now }
+fn has_place_name_at(sections: &[MediaLine], at: usize, section: &MediaLine) -> bool
+    ensures { IsTrue result ↔ HasPlaceNameAt sections.now at section.now }
 {
     match sections.get(at) {
         Some(earlier) => are_same_names(name_of(section), name_of(earlier)),
@@ -102,7 +102,7 @@ fn keeps_place(
     requires group { HoldsGroup remote.now group.now }
     ensures { IsTrue result ↔ StaysInPlace had.now local.now remote.now at section.now }
 {
-    has_name_at(local, at, section)
+    has_place_name_at(local, at, section)
         || (is_free(local, remote, group, at) && !is_held(names, name_of(section)))
 }
 

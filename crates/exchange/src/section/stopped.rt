@@ -54,7 +54,7 @@ fn is_one_mid(mid: Mid, other: Mid) -> bool
     mid == other
 }
 
-fn lists(group: &[Mid], mid: Mid) -> bool
+fn group_lists(group: &[Mid], mid: Mid) -> bool
     ensures { IsTrue result ↔ Contains group.now mid }
 {
     group.iter().any(|other| is_one_mid(*other, mid))
@@ -65,7 +65,7 @@ fn is_bundled(sdp: &Sdp, section: &MediaLine) -> bool
     ensures { IsTrue result ↔ IsBundled sdp.now section.now }
 {
     match (sdp.bundle_mids(), name_of(section)) {
-        (Some(group), Some(mid)) => lists(group, mid),
+        (Some(group), Some(mid)) => group_lists(group, mid),
         _ => false,
     }
 }

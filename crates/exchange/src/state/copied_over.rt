@@ -1,6 +1,6 @@
 //! Descriptions that were read back, made equal to those that were said, at the cost of what may differ.
 ghost use Rattle.exchange.specs.Prelude.{Alike};
-ghost use Rattle.exchange.specs.state.ReadBack.{IsWholeReadAs, IsSectionReadAs, may_differ};
+ghost use Rattle.exchange.specs.state.ReadBack.{IsWholeReadAs, IsSectionReadAs, read_back_may_differ};
 ghost use Rattle.std.specs.List.{AllZip};
 ghost use Rattle.std.specs.Prelude.{◌≡◌, ◌↔◌, IsTrue, OnOk};
 
@@ -26,8 +26,8 @@ fn copy_values(source: &MediaAttribute, line: &mut MediaAttribute) -> Result<(),
 }
 
 /// Whether a line may be alike that differs.
-fn may_differ(line: &MediaAttribute) -> bool
-    ensures { result ≡ may_differ line.now }
+fn read_back_may_differ(line: &MediaAttribute) -> bool
+    ensures { result ≡ read_back_may_differ line.now }
 {
     matches!(
         line,
@@ -40,7 +40,7 @@ fn copy_line(source: &MediaAttribute, line: &mut MediaAttribute) -> Result<(), A
     requires { Alike source.now line.old }
     ensures { OnOk result (line.new ≡ source.now) }
 {
-    if may_differ(source) {
+    if read_back_may_differ(source) {
         copy_values(source, line)
     } else {
         Ok(())

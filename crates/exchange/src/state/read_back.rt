@@ -27,7 +27,7 @@ fn are_attributes_alike(said: &[MediaAttribute], read: &[MediaAttribute]) -> boo
     reads.is_empty()
 }
 
-#[tactic(auto, using(crate::proofs::state::ReadBackEqual::type_Decides))]
+#[tactic(auto, using(crate::proofs::state::ReadBackEqual::read_back_type_Decides))]
 pub(crate) fn is_same_type(typ: &MediaType, other: &MediaType) -> bool
     ensures { IsTrue result ↔ (typ.now ≡ other.now) }
 {
@@ -109,7 +109,7 @@ fn is_read_back_whole(said: &Sdp, read: &Sdp, rest: &str) -> bool
 }
 
 /// What was read, where it is this description with nothing left.
-fn whole(said: &Sdp, read: Sdp, rest: &str) -> Option<Sdp>
+fn whole_read_back(said: &Sdp, read: Sdp, rest: &str) -> Option<Sdp>
     ensures { MatchOption result
         ((rest.now ≡ []) × IsWholeReadAs said.now read → ⊥)
         (λ found. (found ≡ read) × (rest.now ≡ []) × IsWholeReadAs said.now read) }
@@ -137,7 +137,7 @@ pub(crate) fn read_back(alloc: Global, said: &Sdp, text: &str) -> Result<Option<
     ensures alike { IfOk result (λ found. IfSome found (IsWholeReadAs said.now)) }
 {
     match sdp_parser(alloc, text) {
-        Ok((read, rest)) => Ok(whole(said, read, rest)),
+        Ok((read, rest)) => Ok(whole_read_back(said, read, rest)),
         Err(error) => refused(error),
     }
 }

@@ -2,14 +2,14 @@
 use Rattle.str0m_formats.proofs.Common.{rules, arith, ◌≡◌, ◌≢◌, ℕ, Bool, true, false, ◌⊎◌, List, map, Some, ap, ◌∙◌, unwrap_or}
 use Rattle.str0m_formats.proofs.Common.{to_ascii_lowercase, bytes_eq, str_eq_ignore_ascii_case, bytes_eq-Decides}
 use Rattle.str0m_formats.proofs.codec.CodecLookup.{codec_find_passes, if_some_map, codec_case_at}
-use Rattle.str0m_formats.specs.codec.Codec.{codec_text, codec_of, printed_and_read, IsSameText, IsReadAs}
+use Rattle.str0m_formats.specs.codec.Codec.{codec_text, codec_of, printed_and_read, IsSameCodecText, IsReadAs}
 use Rattle.str0m_formats.specs.declared.codec.Codec.{Codec}
 use Rattle.str0m_formats.specs.declared.codec.Codec.TheVariants.{Null, Unknown}
 use Rattle.str0m_formats.specs.declared.codec.TheConstants.{NAMED}
 use Rattle.str0m_values.specs.Words.{case_of}
 
 -- the test of two texts says whether they are the same
-pub same_text : (s t : List ℕ) → str_eq_ignore_ascii_case s t ≡ true → IsSameText s t
+pub same_text : (s t : List ℕ) → str_eq_ignore_ascii_case s t ≡ true → IsSameCodecText s t
 same_text s t e = (bytes_eq-Decides (map to_ascii_lowercase s) (map to_ascii_lowercase t)).0 e
 
 codec_is_unknown : (c : Codec) → (c ≡ Unknown) ⊎ (c ≢ Unknown)
@@ -35,13 +35,18 @@ unfolding codec_of
 read_as text = search (rules, codec_at-text, codec_not_null, if_some_map, codec_find_passes, same_text)
 
 -- whether this is the codec's very text
-abbrev has_text : List ℕ → Codec → Bool
-has_text text codec = bytes_eq text (codec_text codec)
+abbrev codec_has_text : List ℕ → Codec → Bool
+codec_has_text text codec = bytes_eq text (codec_text codec)
 
 -- the codec of this very text is the codec of the text
 pub written_codec_is : (text : List ℕ) (codec : Codec) → case_of codec_text NAMED text ≡ Some codec → codec ≡ codec_of text
 unfolding case_of
-written_codec_is text codec e = grind (arith, codec_find_passes is_codec_named (has_text text) NAMED, read_as text, bytes_eq-Decides text)
+written_codec_is text codec e = grind (
+  arith,
+  codec_find_passes is_codec_named (codec_has_text text) NAMED,
+  read_as text,
+  bytes_eq-Decides text,
+)
 
 -- and a text reads as one codec
 pub read_only : (text : List ℕ) (codec : Codec) → IsReadAs text codec → codec ≡ codec_of text

@@ -2,7 +2,7 @@
 use Rattle.str0m_formats.proofs.Common.{arith, ◌≡◌, ◌≤◌, ◌↔◌, ℕ, leb, Bool, true, false, Option, Some, None, is_some, option_map, refl, sym}
 use Rattle.str0m_formats.proofs.Common.{ap, ◌∙◌, leb-true, false≢true, IsTheOnly, bind_some, only_read, reads_none, Reads}
 use Rattle.str0m_formats.specs.codec.Codec.{static_entry}
-use Rattle.str0m_formats.specs.codec.CodecSpec.{IsStatic, spec_at, is_at, static_codec, static_spec}
+use Rattle.str0m_formats.specs.codec.CodecSpec.{IsStatic, spec_at, is_spec_at, static_codec, static_spec}
 use Rattle.str0m_formats.specs.declared.codec.Codec.{Codec}
 use Rattle.str0m_formats.specs.declared.codec.TheConstants.{NAMED}
 use Rattle.str0m_formats.specs.declared.codec.codec_spec.CodecSpec.{CodecSpec}
@@ -20,7 +20,7 @@ this_codec_is codec o same = grind arith
 static_own : (pt : ℕ) (spec : CodecSpec) → IsStatic pt spec → (is_this_codec spec.codec (static_codec pt) ≡ true) × (leb pt 127 ≡ true)
 static_own pt spec is = grind arith
 
-static_entry_is : (pt : ℕ) (codec : Codec) (row : Option (ℕ × ℕ)) (spec : CodecSpec) → static_entry codec ≡ row → is_at pt row ≡ true
+static_entry_is : (pt : ℕ) (codec : Codec) (row : Option (ℕ × ℕ)) (spec : CodecSpec) → static_entry codec ≡ row → is_spec_at pt row ≡ true
     → option_map (λ row. spec_at codec row.1) row ≡ Some spec → IsStatic pt spec
 static_entry_is pt codec row spec is at e = grind arith
 
@@ -30,7 +30,7 @@ static_both = record {
   sound = λ pt spec e.
       let codec = bind_some (static_codec pt) (λ codec. option_map (λ row. spec_at codec row.1) (static_entry codec)) spec e in
       static_entry_is pt codec.0 (static_entry codec.0) spec refl
-      (case_found_passes (λ codec. is_at pt (static_entry codec)) NAMED codec.0 codec.1) codec.2;
+      (case_found_passes (λ codec. is_spec_at pt (static_entry codec)) NAMED codec.0 codec.1) codec.2;
   complete = λ pt spec is.
       let said : spec_at spec.codec spec.clock_rate ≡ spec = rw (is.1, is.2) refl in
       bind_is (static_codec pt) spec.codec _ (Some spec) (this_codec_is spec.codec (static_codec pt) (static_own pt spec is).0)

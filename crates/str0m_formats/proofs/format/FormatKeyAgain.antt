@@ -75,11 +75,11 @@ read_again param o is h = grind (arith, key_reads)
 keyed_read : (param : FormatParam) → IsKeyed param → param_of (pair_of param) ≡ param
 keyed_read param h = read_again param (entry param) (entry_made param) h
 
-solid_of : (o : Option Entry) → MatchOption o ⊥ HasRange → IsSolidPair (entry_pair o)
-solid_of o h = grind (arith, pair_solid)
+key_solid_of : (o : Option Entry) → MatchOption o ⊥ HasRange → IsSolidPair (entry_pair o)
+key_solid_of o h = grind (arith, pair_solid)
 
 keyed_solid : (param : FormatParam) → IsKeyed param → IsSolidPair (pair_of param)
-keyed_solid param h = solid_of (entry param) h
+keyed_solid param h = key_solid_of (entry param) h
 
 param_text_at : (param : FormatParam) (o : Option Entry) → entry param ≡ o → MatchOption o ⊥ HasRange
     → param_text param ≡ joined_pair (entry_pair o)

@@ -8,11 +8,13 @@ use Rattle.str0m_formats.proofs.Common.{cut_none}
 use Rattle.str0m_formats.proofs.Common.{lacks_true, lacks_from, H265ProfileTierLevel as h265_triple, H266ProfileTierLevel as h266_triple}
 use Rattle.str0m_formats.proofs.format.FormatLineLaws.{set_all-append}
 use Rattle.str0m_formats.proofs.format.FormatParamsSet.{fields_filled, are_fields_fresh, set_each}
-use Rattle.str0m_formats.proofs.format.FormatParamsShown.{slots_at, bares_at, joined_pair, pieces_at, IsSolidPair, IsShown, shows}
+use Rattle.str0m_formats.proofs.format.FormatParamsShown.{shown_slots_at, bares_at, joined_pair, shown_pieces_at, IsSolidPair, IsShown}
+use Rattle.str0m_formats.proofs.format.FormatParamsShown.{field_shows}
 use Rattle.str0m_formats.proofs.format.FormatParamsShown.{shown_is_single, field_reads}
 use Rattle.str0m_formats.proofs.format.PairsJoined.{AreFreeOf, slice_split-join}
 use Rattle.str0m_formats.proofs.format.PairsLaws.{pairs_read_only}
-use Rattle.str0m_formats.proofs.format.PairsRows.{Slots, given, given-append, slot_look_given, mark_given_slots, others_given_slots}
+use Rattle.str0m_formats.proofs.format.PairsRows.{PairSlots, given_slots, given_slots-append, slot_look_given, mark_given_slots}
+use Rattle.str0m_formats.proofs.format.PairsRows.{others_given_slots}
 use Rattle.str0m_formats.proofs.format.PairsRows.{merged_given}
 use Rattle.str0m_formats.proofs.format.PairsSolid.{IsSolid, solid_lacks, lacks_free, trim_solid}
 use Rattle.str0m_formats.proofs.format.PairsTripleLaws.{h265_again, h266_again}
@@ -29,34 +31,34 @@ use Rattle.str0m_formats.specs.format.FormatLine.{pieces, pair_in, bare_in, pair
 use Rattle.str0m_formats.specs.format.FormatParam.{IsBare, param_text}
 use Rattle.str0m_formats.specs.format.FormatParamReading.{param_of}
 use Rattle.str0m_formats.specs.format.FormatParams.{empty, get, set_all, param_at, params_of, params_text, IsFieldWithin, CanBeReadBack}
-use Rattle.str0m_formats.specs.format.Pairs.{has_triple_mark, merged, others, texts_of}
+use Rattle.str0m_formats.specs.format.Pairs.{has_triple_mark, merged, other_pairs, triple_texts_of}
 use Rattle.str0m_formats.specs.format.PairsReading.{triple_read, joined_read, params_read}
 
 -- ---- lists of fields
 
-abbrev pub all_pieces : List Field → FormatParams → List (List ℕ)
-all_pieces [] p = []
-all_pieces (f ∷ fs) p = pieces_at f p ++ all_pieces fs p
+abbrev pub line_all_field_pieces : List Field → FormatParams → List (List ℕ)
+line_all_field_pieces [] p = []
+line_all_field_pieces (f ∷ fs) p = shown_pieces_at f p ++ line_all_field_pieces fs p
 
 abbrev pub all_pairs : List Field → FormatParams → List (List ℕ × List ℕ)
 all_pairs [] p = []
-all_pairs (f ∷ fs) p = given (slots_at f p) ++ all_pairs fs p
+all_pairs (f ∷ fs) p = given_slots (shown_slots_at f p) ++ all_pairs fs p
 
 -- the pairs that a format prints
 abbrev pub printed_pairs : FormatParams → List (List ℕ × List ℕ)
 printed_pairs p = all_pairs FIELDS p
 
-abbrev pub all_slots : List Field → FormatParams → Slots
-all_slots [] p = []
-all_slots (f ∷ fs) p = slots_at f p ++ all_slots fs p
+abbrev pub line_all_slots : List Field → FormatParams → PairSlots
+line_all_slots [] p = []
+line_all_slots (f ∷ fs) p = shown_slots_at f p ++ line_all_slots fs p
 
 abbrev all_bares : List Field → FormatParams → List (List ℕ)
 all_bares [] p = []
 all_bares (f ∷ fs) p = bares_at f p ++ all_bares fs p
 
-pairs_slots : (fs : List Field) (p : FormatParams) → all_pairs fs p ≡ given (all_slots fs p)
+pairs_slots : (fs : List Field) (p : FormatParams) → all_pairs fs p ≡ given_slots (line_all_slots fs p)
 pairs_slots [] p = refl
-pairs_slots (f ∷ fs) p = grind (arith, pairs_slots fs p, given-append)
+pairs_slots (f ∷ fs) p = grind (arith, pairs_slots fs p, given_slots-append)
 
 -- the values of all fields read back
 abbrev pub AllFieldsWithin : FormatParams → Type 0
@@ -83,10 +85,10 @@ line_texts_alike_step : (o : Option FormatParam) (qs : List FormatParam) (own re
     → AreTextsAlike (map param_text (cons_option o qs)) (own ++ rest)
 line_texts_alike_step o qs own rest shown alike = grind (arith, append-nil, join_cons, join_append)
 
-pub texts_alike : (fs : List Field) (p : FormatParams) → AllFieldsWithin p
-    → AreTextsAlike (map param_text (filter_map (λ f. param_at f p) fs)) (all_pieces fs p)
-texts_alike [] p h = inl (refl, refl)
-texts_alike (f ∷ fs) p h = grind (arith, line_texts_alike_step, shows, texts_alike fs p h)
+pub line_texts_alike : (fs : List Field) (p : FormatParams) → AllFieldsWithin p
+    → AreTextsAlike (map param_text (filter_map (λ f. param_at f p) fs)) (line_all_field_pieces fs p)
+line_texts_alike [] p h = inl (refl, refl)
+line_texts_alike (f ∷ fs) p h = grind (arith, line_texts_alike_step, field_shows, line_texts_alike fs p h)
 
 -- ---- and is cut into them
 
@@ -110,12 +112,13 @@ free_bares : (texts : List (List ℕ)) → AllByRecursion IsSolid texts → AreF
 free_bares [] h = tt
 free_bares (text ∷ texts) h = (lacks_free 59 text (solid_lacks 59 text refl h.0), free_bares texts h.1)
 
-free_pieces : (fs : List Field) (p : FormatParams) → AllFieldsWithin p → AreFreeOf 59 (all_pieces fs p)
+free_pieces : (fs : List Field) (p : FormatParams) → AllFieldsWithin p → AreFreeOf 59 (line_all_field_pieces fs p)
 free_pieces [] p h = tt
 free_pieces (f ∷ fs) p h =
-    let own = shows f p (h f) in
-    free_append (pieces_at f p) (all_pieces fs p)
-    (free_append (map joined_pair (given (slots_at f p))) (bares_at f p) (free_pairs (given (slots_at f p)) own.plain)
+    let own = field_shows f p (h f) in
+    free_append (shown_pieces_at f p) (line_all_field_pieces fs p)
+    (free_append (map joined_pair (given_slots (shown_slots_at f p))) (bares_at f p)
+    (free_pairs (given_slots (shown_slots_at f p)) own.plain)
     (free_bares (bares_at f p) own.bare)) (free_pieces fs p h)
 
 cut_pieces : (texts : List (List ℕ)) (all : List (List ℕ)) → AreTextsAlike texts all → AreFreeOf 59 all
@@ -152,23 +155,24 @@ bares_found : (texts : List (List ℕ)) → AllByRecursion IsSolid texts → (fi
 bares_found [] h = (refl, refl)
 bares_found (text ∷ texts) h = grind (arith, bares_found texts h.1, no_pair, bare_found)
 
-pieces_found : (fs : List Field) (p : FormatParams) → AllFieldsWithin p
-    → (pairs_in (all_pieces fs p) ≡ all_pairs fs p) × (bares_in (all_pieces fs p) ≡ all_bares fs p)
+line_pieces_found : (fs : List Field) (p : FormatParams) → AllFieldsWithin p
+    → (pairs_in (line_all_field_pieces fs p) ≡ all_pairs fs p) × (bares_in (line_all_field_pieces fs p) ≡ all_bares fs p)
 unfolding pairs_in bares_in
-pieces_found [] p h = (refl, refl)
-pieces_found (f ∷ fs) p h =
-    let own = shows f p (h f) in
-    let keyed = map joined_pair (given (slots_at f p)) in
-    let pairs = piece_pairs_found (given (slots_at f p)) own.plain in
+line_pieces_found [] p h = (refl, refl)
+line_pieces_found (f ∷ fs) p h =
+    let own = field_shows f p (h f) in
+    let keyed = map joined_pair (given_slots (shown_slots_at f p)) in
+    let pairs = piece_pairs_found (given_slots (shown_slots_at f p)) own.plain in
     let bares = bares_found (bares_at f p) own.bare in
-    let rest = pieces_found fs p h in (
-      filter_map-append pair_in (keyed ++ bares_at f p) (all_pieces fs p)
-          ∙ ap (λ (t : List (List ℕ × List ℕ)). t ++ filter_map pair_in (all_pieces fs p))
+    let rest = line_pieces_found fs p h in (
+      filter_map-append pair_in (keyed ++ bares_at f p) (line_all_field_pieces fs p)
+          ∙ ap (λ (t : List (List ℕ × List ℕ)). t ++ filter_map pair_in (line_all_field_pieces fs p))
           (filter_map-append pair_in keyed (bares_at f p) ∙ ap (λ (t : List (List ℕ × List ℕ)). t ++ filter_map pair_in (bares_at f p))
-          pairs.0 ∙ ap (λ (t : List (List ℕ × List ℕ)). given (slots_at f p) ++ t) bares.0 ∙ append-nil (given (slots_at f p)))
-          ∙ ap (λ (t : List (List ℕ × List ℕ)). given (slots_at f p) ++ t) rest.0,
-      filter_map-append bare_in (keyed ++ bares_at f p) (all_pieces fs p)
-          ∙ ap (λ (t : List (List ℕ)). t ++ filter_map bare_in (all_pieces fs p))
+          pairs.0 ∙ ap (λ (t : List (List ℕ × List ℕ)). given_slots (shown_slots_at f p) ++ t) bares.0
+          ∙ append-nil (given_slots (shown_slots_at f p)))
+          ∙ ap (λ (t : List (List ℕ × List ℕ)). given_slots (shown_slots_at f p) ++ t) rest.0,
+      filter_map-append bare_in (keyed ++ bares_at f p) (line_all_field_pieces fs p)
+          ∙ ap (λ (t : List (List ℕ)). t ++ filter_map bare_in (line_all_field_pieces fs p))
           (filter_map-append bare_in keyed (bares_at f p) ∙ ap (λ (t : List (List ℕ)). t ++ filter_map bare_in (bares_at f p)) pairs.1
           ∙ bares.1)
           ∙ ap (λ (t : List (List ℕ)). bares_at f p ++ t) rest.1,
@@ -195,7 +199,7 @@ reads_all : (fs : List Field) (p : FormatParams) → AllFieldsWithin p → list_
 reads_all [] p h single = refl
 reads_all (f ∷ fs) p h single =
     let k = and_parts (shown_is_single f) (list_all shown_is_single fs) single in
-    map-append param_of (given (slots_at f p)) (all_pairs fs p)
+    map-append param_of (given_slots (shown_slots_at f p)) (all_pairs fs p)
     ∙ ap (λ (t : List FormatParam). t ++ map param_of (all_pairs fs p)) (field_reads f p k.0 (h f))
     ∙ ap (λ (t : List FormatParam). cons_option (param_at f p) [] ++ t) (reads_all fs p h k.1)
     ∙ cons_append (param_at f p) (filter_map (λ f. param_at f p) fs)
@@ -215,7 +219,7 @@ without_triple p h e5 e6 =
     grind (
       arith,
       pairs_slots single_fields p,
-      mark_given_slots (all_slots single_fields p),
+      mark_given_slots (line_all_slots single_fields p),
       unmarked (all_pairs single_fields p),
       reads_all single_fields p h,
     )
@@ -226,23 +230,24 @@ triple_first = field.H265ProfileTierLevel ∷ field.H266ProfileTierLevel ∷ fie
 -- ---- with a triple
 
 -- the keys of a triple in the place of H265's, among those of the other fields
-abbrev slots_beside : List ℕ → List ℕ → List ℕ → FormatParams → Field → Slots
-slots_beside a b c p field.H265ProfileTierLevel = (PROFILE_ID.now, Some a) ∷ (TIER_FLAG.now, Some b) ∷ (LEVEL_ID.now, Some c) ∷ []
-slots_beside a b c p f = cond (line_is_beside_triple f) (slots_at f p) []
+abbrev line_slots_beside : List ℕ → List ℕ → List ℕ → FormatParams → Field → PairSlots
+line_slots_beside a b c p field.H265ProfileTierLevel = (PROFILE_ID.now, Some a) ∷ (TIER_FLAG.now, Some b) ∷ (LEVEL_ID.now, Some c) ∷ []
+line_slots_beside a b c p f = cond (line_is_beside_triple f) (shown_slots_at f p) []
 
-abbrev slots_with : List ℕ → List ℕ → List ℕ → FormatParams → Slots
-slots_with a b c p = flat_map (slots_beside a b c p) FIELDS
+abbrev line_slots_with : List ℕ → List ℕ → List ℕ → FormatParams → PairSlots
+line_slots_with a b c p = flat_map (line_slots_beside a b c p) FIELDS
 
-with_triple : (q : FormatParam) (a b c : List ℕ) (p : FormatParams) → AllFieldsWithin p → all_pairs FIELDS p ≡ given (slots_with a b c p)
+with_triple : (q : FormatParam) (a b c : List ℕ) (p : FormatParams) → AllFieldsWithin p
+    → all_pairs FIELDS p ≡ given_slots (line_slots_with a b c p)
     → triple_read (Some a, Some b, Some c) ≡ Some q → params_read (all_pairs FIELDS p) ≡ q ∷ filter_map (λ f. param_at f p) rest
 with_triple q a b c p h own read =
-    let rows = slots_with a b c p in
-    let texts : texts_of (given rows) ≡ (Some a, Some b, Some c) =
+    let rows = line_slots_with a b c p in
+    let texts : triple_texts_of (given_slots rows) ≡ (Some a, Some b, Some c) =
     λ i. (slot_look_given PROFILE_ID.now rows i, slot_look_given TIER_FLAG.now rows i, slot_look_given LEVEL_ID.now rows i) in
-    let others_are : map param_of (others (given rows)) ≡ filter_map (λ f. param_at f p) rest =
+    let others_are : map param_of (other_pairs (given_slots rows)) ≡ filter_map (λ f. param_at f p) rest =
     ap (map param_of) (others_given_slots rows ∙ sym (pairs_slots rest p)) ∙ reads_all rest p h refl in
-    ap params_read own ∙ marked (given rows) (mark_given_slots rows) (merged_given rows refl)
-    ∙ ap (λ (o : Option FormatParam). cons_option o (map param_of (others (given rows)))) (ap triple_read texts ∙ read)
+    ap params_read own ∙ marked (given_slots rows) (mark_given_slots rows) (merged_given rows refl)
+    ∙ ap (λ (o : Option FormatParam). cons_option o (map param_of (other_pairs (given_slots rows)))) (ap triple_read texts ∙ read)
     ∙ ap (λ (qs : List FormatParam). q ∷ qs) others_are
 
 with_h265 : (p : FormatParams) (t : h265_triple) → AllFieldsWithin p → p.h265_profile_tier_level ≡ Some t → p.h266_profile_tier_level ≡ None
@@ -336,14 +341,15 @@ pub format_itself : (line : List ℕ) (p r : FormatParams) → CanBeReadBack p �
 unfolding pairs_in bares_in
 format_itself line p r h printed reading =
     let order = order_of p h p.h265_profile_tier_level p.h266_profile_tier_level refl refl in
-    let is = pieces_found FIELDS p h.values in
+    let is = line_pieces_found FIELDS p h.values in
     let events = h.values field.TelephoneEvents in
     let params_are : pairs_in (pieces line) ≡ all_pairs FIELDS p → reading.params ≡ filter_map (λ f. param_at f p) order.order =
     λ same. pairs_read_only (pairs_in (pieces line)) reading.params reading.params_are ∙ ap params_read same ∙ order.read in
-    elim (cut_pieces (map param_text (filter_map (λ f. param_at f p) FIELDS)) (all_pieces FIELDS p) (texts_alike FIELDS p h.values)
+    elim (cut_pieces (map param_text (filter_map (λ f. param_at f p) FIELDS)) (line_all_field_pieces FIELDS p)
+    (line_texts_alike FIELDS p h.values)
     (free_pieces FIELDS p h.values)) [
       | inl same ↦
-          let whole : pieces line ≡ all_pieces FIELDS p = ap pieces (printed ∙ line_texts p) ∙ same in
+          let whole : pieces line ≡ line_all_field_pieces FIELDS p = ap pieces (printed ∙ line_texts p) ∙ same in
           let bares_are = bares_set p.telephone_event_max reading.bares events
           (subst (λ (ts : List (List ℕ)). AllZip IsBare ts reading.bares) (ap bares_in whole ∙ is.1 ∙ bares_printed p)
           reading.bares_are) in
@@ -362,6 +368,7 @@ format_itself line p r h printed reading =
           (params_are pairs_are) reading.format
     ]
 
-pub line_itself : {E : Type 0} (line : List ℕ) (answer : Result FormatParams E) → IfOk answer (IsFormatOfLine line) → (p : FormatParams)
+pub format_line_itself : {E : Type 0} (line : List ℕ) (answer : Result FormatParams E) → IfOk answer (IsFormatOfLine line)
+    → (p : FormatParams)
     → CanBeReadBack p → line ≡ params_text p → IfOk answer (λ r. r ≡ p)
-line_itself line answer h p can printed = grind (arith, format_itself)
+format_line_itself line answer h p can printed = grind (arith, format_itself)

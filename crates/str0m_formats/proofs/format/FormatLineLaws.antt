@@ -7,7 +7,7 @@ use Rattle.str0m_formats.specs.declared.codec.Codec.TheVariants.{AmrWb}
 use Rattle.str0m_formats.specs.declared.format.format_param.FormatParam.{FormatParam}
 use Rattle.str0m_formats.specs.declared.format.format_params.FormatParams.{FormatParams}
 use Rattle.str0m_formats.specs.format.FormatLine.{pair_in, bare_in, pairs_in, bares_in, pieces, IsFormatOfBares, IsFormatOfLine}
-use Rattle.str0m_formats.specs.format.FormatLine.{is_unsupported, line_asks_absent, kept, values_of, line_values}
+use Rattle.str0m_formats.specs.format.FormatLine.{is_unsupported, line_asks_absent, line_without_event_ranges, values_of_lines, line_values}
 use Rattle.str0m_formats.specs.format.FormatParam.{IsBare, pair_texts}
 use Rattle.str0m_formats.specs.format.FormatParams.{empty, set, set_all}
 use Rattle.str0m_formats.specs.format.Pairs.{AreRead}
@@ -16,10 +16,11 @@ pub set_all-append : (xs ys : List FormatParam) (p : FormatParams) → set_all p
 set_all-append [] ys p = refl
 set_all-append (x ∷ xs) ys p = set_all-append xs ys (set x p)
 
-pub asks : (lines : List (Bor (List FormatParam))) (answer : Bool) → answer ≡ list_any (λ line. list_any is_unsupported line.now) lines
+pub asks_absent_answer : (lines : List (Bor (List FormatParam))) (answer : Bool)
+    → answer ≡ list_any (λ line. list_any is_unsupported line.now) lines
     → answer ≡ line_asks_absent AmrWb (line_values lines)
 unfolding line_asks_absent
-asks lines answer e = e ∙ sym (go lines)
+asks_absent_answer lines answer e = e ∙ sym (go lines)
   where
     go : (lines : List (Bor (List FormatParam))) → list_any (λ line. list_any is_unsupported line) (line_values lines)
         ≡ list_any (λ line. list_any is_unsupported line.now) lines
@@ -36,18 +37,19 @@ pub bares_more : (pieces : List (List ℕ)) (piece : List ℕ) → bares_in (pie
 unfolding bares_in
 bares_more pieces piece = filter_map-append bare_in pieces (piece ∷ [])
 
-values-push : (lines : List (List FormatParam)) (line : List FormatParam) → values_of (lines ++ line ∷ []) ≡ values_of lines ++ kept line
-values-push [] line = append-nil (kept line)
-values-push (l ∷ lines) line = grind (arith, values-push lines line, append_assoc)
+line_values-push : (lines : List (List FormatParam)) (line : List FormatParam)
+    → values_of_lines (lines ++ line ∷ []) ≡ values_of_lines lines ++ line_without_event_ranges line
+line_values-push [] line = append-nil (line_without_event_ranges line)
+line_values-push (l ∷ lines) line = grind (arith, line_values-push lines line, append_assoc)
 
 -- one more line
-pub values_more : (lines : List (Bor (List FormatParam))) (i : ℕ) (d : Bor (List FormatParam)) → i < length lines
-    → set_all (set_all empty (values_of (line_values (take i lines)))) (kept (get_or lines i d).now)
-    ≡ set_all empty (values_of (line_values (take (i + 1) lines)))
-values_more lines i d lt =
-    sym (set_all-append (values_of (line_values (take i lines))) (kept (get_or lines i d).now) empty)
-    ∙ ap (set_all empty) (sym (values-push (line_values (take i lines)) (get_or lines i d).now)
-    ∙ ap values_of (sym (map-append (λ line. line.now) (take i lines) (get_or lines i d ∷ []))
+pub line_values_more : (lines : List (Bor (List FormatParam))) (i : ℕ) (d : Bor (List FormatParam)) → i < length lines
+    → set_all (set_all empty (values_of_lines (line_values (take i lines)))) (line_without_event_ranges (get_or lines i d).now)
+    ≡ set_all empty (values_of_lines (line_values (take (i + 1) lines)))
+line_values_more lines i d lt =
+    sym (set_all-append (values_of_lines (line_values (take i lines))) (line_without_event_ranges (get_or lines i d).now) empty)
+    ∙ ap (set_all empty) (sym (line_values-push (line_values (take i lines)) (get_or lines i d).now)
+    ∙ ap values_of_lines (sym (map-append (λ line. line.now) (take i lines) (get_or lines i d ∷ []))
     ∙ ap line_values (sym (take_more lines i d lt))))
 
 -- ---- pieces
@@ -81,6 +83,6 @@ pub bares_absent : (pieces : List (List ℕ)) (piece : List ℕ) (p : FormatPara
     → IsFormatOfBares (pieces ++ piece ∷ []) p
 bares_absent pieces piece p h e = grind (arith, append-nil, bares_more)
 
-pub line_of : (line : List ℕ) (params : List FormatParam) (p q : FormatParams) → IsFormatOfBares (pieces line) p
+pub format_of_line_is : (line : List ℕ) (params : List FormatParam) (p q : FormatParams) → IsFormatOfBares (pieces line) p
     → AreRead (pairs_in (pieces line)) params → q ≡ set_all p params → IsFormatOfLine line q
-line_of line params p q h are e = grind (arith, set_all-append)
+format_of_line_is line params p q h are e = grind (arith, set_all-append)

@@ -2,10 +2,10 @@
 use Rattle.str0m_formats.proofs.Common.{◌≡◌, ◌≢◌, ℕ, false, List, [], ◌∷◌, ◌++◌, length, map, Option, Some, None, IfSome, option_map, inl}
 use Rattle.str0m_formats.proofs.Common.{inr, refl, sym, arith, ap, subst, ◌∙◌, AllByRecursion, cons_option, list_any, append-nil}
 use Rattle.str0m_formats.proofs.Common.{map-append, IsRest, filter_map}
-use Rattle.str0m_formats.proofs.format.FormatLineAgain.{all_pieces, all_pairs, linked, texts_alike, order_of}
+use Rattle.str0m_formats.proofs.format.FormatLineAgain.{line_all_field_pieces, all_pairs, linked, line_texts_alike, order_of}
 use Rattle.str0m_formats.proofs.format.FormatParamsSet.{param_is, set_each}
-use Rattle.str0m_formats.proofs.format.FormatParamsShown.{joined_pair, slots_at, bares_at, IsSolidPair, entry_at, shows}
-use Rattle.str0m_formats.proofs.format.PairsRows.{given}
+use Rattle.str0m_formats.proofs.format.FormatParamsShown.{joined_pair, shown_slots_at, bares_at, IsSolidPair, entry_at, field_shows}
+use Rattle.str0m_formats.proofs.format.PairsRows.{given_slots}
 use Rattle.str0m_formats.specs.declared.codec.Codec.{Codec}
 use Rattle.str0m_formats.specs.declared.codec.Codec.TheVariants as codec
 use Rattle.str0m_formats.specs.declared.format.format_key.FormatKey.{FormatKey}
@@ -17,7 +17,8 @@ use Rattle.str0m_formats.specs.declared.format.format_params.Field.{Field}
 use Rattle.str0m_formats.specs.declared.format.format_params.Field.TheVariants as field
 use Rattle.str0m_formats.specs.declared.format.format_params.FormatParams.{FormatParams}
 use Rattle.str0m_formats.specs.declared.format.format_params.TheConstants.{FIELDS}
-use Rattle.str0m_formats.specs.format.FormatLine.{is_event, is_unsupported, line_asks_absent, kept, values_of, format_of_fmtp}
+use Rattle.str0m_formats.specs.format.FormatLine.{is_event, is_unsupported, line_asks_absent, line_without_event_ranges, values_of_lines}
+use Rattle.str0m_formats.specs.format.FormatLine.{format_of_fmtp}
 use Rattle.str0m_formats.specs.format.FormatParam.{HeldValue, kind, keyed, entry, param_text}
 use Rattle.str0m_formats.specs.format.FormatParams.{empty, get, param_in, set_all, param_at, params_of, CanBeReadBack}
 use Rattle.str0m_formats.specs.format.PairsReading.{params_read}
@@ -97,14 +98,15 @@ line_all_of_both P (x ∷ xs) ys h k = (h.0, line_all_of_both P xs ys h.1 k)
 no_bares : (f : Field) (p : FormatParams) → p.telephone_event_max ≡ None → bares_at f p ≡ []
 no_bares f p none = grind arith
 
-pieces_are : (fs : List Field) (p : FormatParams) → p.telephone_event_max ≡ None
-    → all_pieces fs p ≡ map joined_pair (all_pairs fs p)
-pieces_are [] p none = refl
-pieces_are (f ∷ fs) p none = grind (arith, no_bares, append-nil, pieces_are fs p none, map-append)
+line_field_pieces_are : (fs : List Field) (p : FormatParams) → p.telephone_event_max ≡ None
+    → line_all_field_pieces fs p ≡ map joined_pair (all_pairs fs p)
+line_field_pieces_are [] p none = refl
+line_field_pieces_are (f ∷ fs) p none = grind (arith, no_bares, append-nil, line_field_pieces_are fs p none, map-append)
 
 solid_pairs : (fs : List Field) (p : FormatParams) → CanBeReadBack p → AllByRecursion IsSolidPair (all_pairs fs p)
 solid_pairs [] p h = tt
-solid_pairs (f ∷ fs) p h = line_all_of_both IsSolidPair (given (slots_at f p)) (all_pairs fs p) (shows f p (h.values f)).plain
+solid_pairs (f ∷ fs) p h = line_all_of_both IsSolidPair (given_slots (shown_slots_at f p)) (all_pairs fs p)
+    (field_shows f p (h.values f)).plain
     (solid_pairs fs p h)
 
 -- what the line of a format is
@@ -125,18 +127,18 @@ unfolding params_of
 line_of_pairs p h none =
     let order = order_of p h p.h265_profile_tier_level p.h266_profile_tier_level refl refl in
     let pairs = all_pairs FIELDS p in
-    let same = pieces_are FIELDS p none in
+    let same = line_field_pieces_are FIELDS p none in
     record {
       plain = solid_pairs FIELDS p h;
-      text = elim (texts_alike FIELDS p h.values) [
+      text = elim (line_texts_alike FIELDS p h.values) [
         | inl none_at_all ↦ ap linked none_at_all.0 ∙ ap linked (sym none_at_all.1 ∙ same)
         | inr some ↦ some.2 ∙ ap linked same
       ];
-      some = λ given_some nothing. elim (texts_alike FIELDS p h.values) [
+      some = λ given_some nothing. elim (line_texts_alike FIELDS p h.values) [
         | inl none_at_all ↦ given_some (none_of (filter_map (λ f. param_at f p) FIELDS) none_at_all.0)
         | inr some ↦ absurd (omega (arith, some.1, ap (λ (t : List (List ℕ)). length t) (same ∙ ap (map joined_pair) nothing)))
       ];
-      none = λ given_none. elim (texts_alike FIELDS p h.values) [
+      none = λ given_none. elim (line_texts_alike FIELDS p h.values) [
         | inl none_at_all ↦ line_nothing_of pairs (sym same ∙ none_at_all.1)
         | inr some ↦ absurd (omega (arith, some.0, ap (λ (params : List FormatParam). length (map param_text params)) given_none))
       ];
@@ -154,11 +156,12 @@ line_of_pairs p h none =
 
 -- ---- the format that such a line says
 
-line_own_param_kept : (q : FormatParam) (params : List FormatParam) → IsOwnParam q → kept params ≡ params → kept (q ∷ params) ≡ q ∷ params
+line_own_param_kept : (q : FormatParam) (params : List FormatParam) → IsOwnParam q → line_without_event_ranges params ≡ params
+    → line_without_event_ranges (q ∷ params) ≡ q ∷ params
 unfolding is_event
 line_own_param_kept q params mine e = grind arith
 
-line_own_params_kept : (params : List FormatParam) → AllByRecursion IsOwnParam params → kept params ≡ params
+line_own_params_kept : (params : List FormatParam) → AllByRecursion IsOwnParam params → line_without_event_ranges params ≡ params
 line_own_params_kept [] own = refl
 line_own_params_kept (q ∷ params) own = line_own_param_kept q params own.0 (line_own_params_kept params own.1)
 
@@ -172,8 +175,8 @@ supported [] own = refl
 supported (q ∷ params) own = supported_one q params own.0 (supported params own.1)
 
 -- a line of own parameters is read as the format that they make, for every codec but telephone events
-values_one : (params : List FormatParam) → AllByRecursion IsOwnParam params → values_of (params ∷ []) ≡ params
-values_one params own = append-nil (kept params) ∙ line_own_params_kept params own
+line_own_params_values : (params : List FormatParam) → AllByRecursion IsOwnParam params → values_of_lines (params ∷ []) ≡ params
+line_own_params_values params own = append-nil (line_without_event_ranges params) ∙ line_own_params_kept params own
 
 refused_none : (c : Codec) (params : List FormatParam) → AllByRecursion IsOwnParam params → line_asks_absent c (params ∷ []) ≡ false
 unfolding line_asks_absent
@@ -181,4 +184,4 @@ refused_none c params own = grind (arith, supported)
 
 pub format_said : (c : Codec) (p : FormatParams) (params : List FormatParam) → c ≢ codec.Tele → AllByRecursion IsOwnParam params
     → set_all empty params ≡ p → format_of_fmtp c (params ∷ []) ≡ Some p
-format_said c p params other own e = grind (arith, refused_none, values_one)
+format_said c p params other own e = grind (arith, refused_none, line_own_params_values)

@@ -13,7 +13,8 @@ use Rattle.str0m_formats.specs.declared.format.format_param.FormatParam.{FormatP
 use Rattle.str0m_formats.specs.format.FormatKey.{key_text}
 use Rattle.str0m_formats.specs.format.FormatParam.{Kind, flag, number, hex, modes, exactly, anything, HeldValue, ReadsKind, kind, keyed}
 use Rattle.str0m_formats.specs.format.FormatParam.{entry}
-use Rattle.str0m_formats.specs.format.FormatParam.{IsParsed, IsPrinted, InRange, IsModeSet, flag_text, six_digits, mode_list, value_text}
+use Rattle.str0m_formats.specs.format.FormatParam.{IsParsed, IsPrinted, InRange, IsModeSet, param_flag_text, six_digits, mode_list}
+use Rattle.str0m_formats.specs.format.FormatParam.{param_value_text}
 use Rattle.str0m_formats.specs.format.FormatParamReading.{modes_read, param_of}
 
 -- a numeral begins with no plus
@@ -42,7 +43,7 @@ zeros_value (suc k) ds = zeros_value k ds
 pub six_digits_reads : (n : ℕ) → n ≤ 4294967295 → IsNumber 16 4294967295 (six_digits n) n
 six_digits_reads n fits = grind (arith, digits_is_IsNumeral, as_number, length-append, zeros_digits, zeros_value)
 
-flag_reads : (b : Bool) → ReadsKind flag (flag_text b) b
+flag_reads : (b : Bool) → ReadsKind flag (param_flag_text b) b
 flag_reads b = grind arith
 
 mask_reads_back : ℕ → Option ℕ → Bool
@@ -98,7 +99,7 @@ pub limit_small : (limit n : ℕ) → param_is_kind_small (number limit) ≡ tru
 limit_small limit n small h = let le : limit ≤ 4294967295 = leb-true limit 4294967295 small in omega arith
 
 -- a printed value reads as itself
-value_reads : (k : Kind) (x : HeldValue k) → param_is_kind_small k ≡ true → InRange k x → ReadsKind k (value_text k x) x
+value_reads : (k : Kind) (x : HeldValue k) → param_is_kind_small k ≡ true → InRange k x → ReadsKind k (param_value_text k x) x
 value_reads flag b small h = flag_reads b
 value_reads (number limit) n small h = let le = limit_small limit n small h in decimal_reads limit n h (omega (arith, le))
 value_reads hex n small h = inl (six_digits_reads n h)
@@ -107,8 +108,9 @@ value_reads (exactly own) x small h = absurd h
 value_reads anything x small h = absurd h
 
 -- what a key and its value print is read as the parameter that holds them
-pub key_reads : (k : FormatKey) (x : HeldValue (kind k)) → InRange (kind k) x → param_of (key_text k, value_text (kind k) x) ≡ keyed k x
-key_reads k x h = sym (spelled (key_text k) (value_text (kind k) x) (keyed k x)
+pub key_reads : (k : FormatKey) (x : HeldValue (kind k)) → InRange (kind k) x
+    → param_of (key_text k, param_value_text (kind k) x) ≡ keyed k x
+key_reads k x h = sym (spelled (key_text k) (param_value_text (kind k) x) (keyed k x)
     (k, refl, (x, refl, value_reads (kind k) x (key_small k) h)))
 
 -- the table and the keys of parameters agree
@@ -121,7 +123,7 @@ pub parsed_printed : (key_as value : List ℕ) (r : FormatParam) → IsParsed (k
 parsed_printed key_as value r h p printed = parsed_only key_as value r h ∙ reads (entry p) (entry_made p) printed
   where
     reads : (o : Option ((k : FormatKey) × HeldValue (kind k))) → MatchOption o (Unit {0}) (λ e. p ≡ keyed e.0 e.1)
-        → MatchOption o ⊥ (λ e. (key_as ≡ key_text e.0) × (value ≡ value_text (kind e.0) e.1) × InRange (kind e.0) e.1)
+        → MatchOption o ⊥ (λ e. (key_as ≡ key_text e.0) × (value ≡ param_value_text (kind e.0) e.1) × InRange (kind e.0) e.1)
         → param_of (key_as, value) ≡ p
     reads None is printed = absurd printed
     reads (Some e) is printed = (λ i. param_of (printed.0 i, printed.1 i)) ∙ key_reads e.0 e.1 printed.2 ∙ sym is

@@ -6,14 +6,14 @@ use Rattle.str0m_formats.proofs.codec.CodecLookup.{codec_find_passes, if_some_ma
 use Rattle.str0m_formats.proofs.codec.CodecNames.{same_text}
 use Rattle.str0m_formats.proofs.format.FormatParamModes.{modes_only}
 use Rattle.str0m_formats.proofs.format.FormatParamReadingLaws.{hex_both}
-use Rattle.str0m_formats.specs.codec.Codec.{IsSameText}
+use Rattle.str0m_formats.specs.codec.Codec.{IsSameCodecText}
 use Rattle.str0m_formats.specs.declared.format.format_key.FormatKey.{FormatKey}
 use Rattle.str0m_formats.specs.declared.format.format_key.FormatKey.TheVariants as key
 use Rattle.str0m_formats.specs.declared.format.format_param.FormatParam.{FormatParam}
 use Rattle.str0m_formats.specs.declared.format.format_param.FormatParam.TheVariants.{Unknown}
 use Rattle.str0m_formats.specs.format.FormatKey.{key_text}
 use Rattle.str0m_formats.specs.format.FormatParam.{Kind, flag, number, hex, modes, exactly, anything, HeldValue, ReadsKind, kind, keyed}
-use Rattle.str0m_formats.specs.format.FormatParam.{HoldsValue, Spells, IsParsed, AreParsed, IsEventRange, IsBare}
+use Rattle.str0m_formats.specs.format.FormatParam.{ParamHoldsValue, Spells, IsParsed, AreParsed, IsEventRange, IsBare}
 use Rattle.str0m_formats.specs.format.FormatParamReading.{hex_read, keys, key_read, is_flag_one, kind_read, value_read, param_of}
 use Rattle.str0m_formats.specs.format.FormatParamReading.{bare_param}
 
@@ -23,7 +23,7 @@ use Rattle.str0m_formats.specs.format.FormatParamReading.{bare_param}
 key_at-text : (k : FormatKey) → codec_case_at key_text keys (map to_ascii_lowercase (key_text k)) ≡ Some k
 key_at-text k = grind arith
 
-pub key_only : (text : List ℕ) → IsTheOnly (λ key. IsSameText text (key_text key)) (key_read text)
+pub key_only : (text : List ℕ) → IsTheOnly (λ key. IsSameCodecText text (key_text key)) (key_read text)
 unfolding key_read
 key_only text = search (rules, if_some_map, codec_find_passes, same_text, key_at-text)
 
@@ -51,10 +51,10 @@ by_kind : (k : FormatKey) (text : List ℕ) → value_read k text ≡ option_map
 by_kind key.Apt text = refl
 by_kind k text = refl
 
-held_read : (k : FormatKey) (text : List ℕ) (param : FormatParam) → HoldsValue k text param → value_read k text ≡ Some param
+held_read : (k : FormatKey) (text : List ℕ) (param : FormatParam) → ParamHoldsValue k text param → value_read k text ≡ Some param
 held_read k text param h = by_kind k text ∙ ap (option_map (keyed k)) (kind_complete (kind k) text h.0 h.2) ∙ ap (λ p. Some p) (sym h.1)
 
-read_held : (k : FormatKey) (text : List ℕ) (param : FormatParam) → value_read k text ≡ Some param → HoldsValue k text param
+read_held : (k : FormatKey) (text : List ℕ) (param : FormatParam) → value_read k text ≡ Some param → ParamHoldsValue k text param
 read_held k text param e = grind (arith, kind_sound (kind k) text, by_kind k text)
 
 -- ---- pairs
@@ -63,7 +63,7 @@ pub parsed : (key_as value : List ℕ) → IsParsed (key_as, value) (param_of (k
 unfolding param_of
 parsed key_as value = known (key_read key_as) (key_only key_as)
   where
-    held : (k : FormatKey) → IsTheOnly (λ key. IsSameText key_as (key_text key)) (Some k) → (o : Option FormatParam)
+    held : (k : FormatKey) → IsTheOnly (λ key. IsSameCodecText key_as (key_text key)) (Some k) → (o : Option FormatParam)
         → value_read k value ≡ o → IsParsed (key_as, value) (unwrap_or o Unknown)
     held k is (Some p) e = inl (k, is.found, read_held k value p e)
     held k is None e = inr (
@@ -72,7 +72,7 @@ parsed key_as value = known (key_read key_as) (key_only key_as)
       refl,
     )
 
-    known : (o : Option FormatKey) → IsTheOnly (λ key. IsSameText key_as (key_text key)) o
+    known : (o : Option FormatKey) → IsTheOnly (λ key. IsSameCodecText key_as (key_text key)) o
         → IsParsed (key_as, value) (unwrap_or (o >>= λ key. value_read key value) Unknown)
     known None none = inr ((λ c h. none-some h.0 (none.only h.0 h.1)), refl)
     known (Some k) is = held k is (value_read k value) refl

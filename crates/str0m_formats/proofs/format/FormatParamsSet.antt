@@ -7,15 +7,15 @@ use Rattle.str0m_formats.specs.declared.format.format_params.Field.{Field}
 use Rattle.str0m_formats.specs.declared.format.format_params.Field.TheVariants as field
 use Rattle.str0m_formats.specs.declared.format.format_params.FormatParams.{FormatParams}
 use Rattle.str0m_formats.specs.declared.format.format_params.TheConstants.{FIELDS}
-use Rattle.str0m_formats.specs.format.FormatParams.{FieldContent, get, put, param_in, set, set_all, empty, param_at, params_of}
+use Rattle.str0m_formats.specs.format.FormatParams.{FieldContent, get, put_field, param_in, set, set_all, empty, param_at, params_of}
 
 -- ---- one field
 
-set_put : (f : Field) (x : FieldContent f) (p : FormatParams) → set (param_in f x) p ≡ put f (Some x) p
+set_put : (f : Field) (x : FieldContent f) (p : FormatParams) → set (param_in f x) p ≡ put_field f (Some x) p
 set_put (field.Key key.Apt) x p = refl
 set_put f x p = refl
 
-param_put_get : (f : Field) (p : FormatParams) → put f (get f p) p ≡ p
+param_put_get : (f : Field) (p : FormatParams) → put_field f (get f p) p ≡ p
 param_put_get (field.Key key.Apt) p = refl
 param_put_get f p = refl
 
@@ -31,19 +31,19 @@ none_from_test o e = grind arith
 -- the format p, with these fields of q
 abbrev pub fields_filled : List Field → FormatParams → FormatParams → FormatParams
 fields_filled [] q p = p
-fields_filled (f ∷ fs) q p = fields_filled fs q (put f (get f q) p)
+fields_filled (f ∷ fs) q p = fields_filled fs q (put_field f (get f q) p)
 
 -- none of these fields is given when its turn comes
 abbrev pub are_fields_fresh : List Field → FormatParams → FormatParams → Bool
 are_fields_fresh [] q p = true
-are_fields_fresh (f ∷ fs) q p = is_none (get f p) && are_fields_fresh fs q (put f (get f q) p)
+are_fields_fresh (f ∷ fs) q p = is_none (get f p) && are_fields_fresh fs q (put_field f (get f q) p)
 
 set_next : (f : Field) (q p : FormatParams) (rest : List FormatParam) → is_none (get f p) ≡ true
-    → set_all p (cons_option (param_at f q) rest) ≡ set_all (put f (get f q) p) rest
+    → set_all p (cons_option (param_at f q) rest) ≡ set_all (put_field f (get f q) p) rest
 set_next f q p rest none = ap (λ o. set_all p (cons_option o rest)) (param_is f q) ∙ go (get f q)
   where
-    go : (o : Option (FieldContent f)) → set_all p (cons_option (option_map (param_in f) o) rest) ≡ set_all (put f o p) rest
-    go None = ap (λ p. set_all p rest) (sym (ap (λ o. put f o p) (sym (none_from_test (get f p) none)) ∙ param_put_get f p))
+    go : (o : Option (FieldContent f)) → set_all p (cons_option (option_map (param_in f) o) rest) ≡ set_all (put_field f o p) rest
+    go None = ap (λ p. set_all p rest) (sym (ap (λ o. put_field f o p) (sym (none_from_test (get f p) none)) ∙ param_put_get f p))
     go (Some x) = ap (λ p. set_all p rest) (set_put f x p)
 
 pub set_each : (fs : List Field) (q p : FormatParams) → are_fields_fresh fs q p ≡ true

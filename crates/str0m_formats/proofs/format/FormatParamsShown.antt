@@ -6,7 +6,7 @@ use Rattle.str0m_formats.proofs.Common.{cons_option, join_with_byte, list_all, f
 use Rattle.str0m_formats.proofs.Common.{decimal_is_IsNumeral, digits_is_IsNumeral, ProfileTierLevel, zero, suc}
 use Rattle.str0m_formats.proofs.format.FormatParamAgain.{param_is_kind_small, key_small, limit_small, modes_filled, key_reads}
 use Rattle.str0m_formats.proofs.format.FormatParamsSet.{param_is}
-use Rattle.str0m_formats.proofs.format.PairsRows.{Slots, given}
+use Rattle.str0m_formats.proofs.format.PairsRows.{PairSlots, given_slots}
 use Rattle.str0m_formats.proofs.format.PairsSolid.{IsSolid, is_solid, solid_from, solid_append, digits_solid, passes_below, passes_below_at}
 use Rattle.str0m_formats.proofs.format.PairsTripleLaws.{AreBytes, h265_small, h266_small}
 use Rattle.str0m_formats.specs.declared.format.format_key.FormatKey.{FormatKey}
@@ -21,7 +21,7 @@ use Rattle.str0m_formats.specs.declared.format.format_params.FormatParams.{Forma
 use Rattle.str0m_formats.specs.format.FormatKey.{key_text}
 use Rattle.str0m_formats.specs.format.FormatParam.{Kind, flag, number, hex, modes, exactly, anything, HeldValue, kind, keyed, entry}
 use Rattle.str0m_formats.specs.format.FormatParam.{InRange}
-use Rattle.str0m_formats.specs.format.FormatParam.{value_text, entry_text, six_digits, mode_list, triple_text, param_text}
+use Rattle.str0m_formats.specs.format.FormatParam.{param_value_text, entry_text, six_digits, mode_list, triple_text, param_text}
 use Rattle.str0m_formats.specs.format.FormatParamReading.{param_of}
 use Rattle.str0m_formats.specs.format.FormatParams.{get, param_in, param_at, IsFieldWithin}
 use Rattle.str0m_formats.specs.format.PairsReading.{Tables, h265_tables, h266_tables}
@@ -42,15 +42,15 @@ modes_solid : passes_below (λ mask. list_all is_solid (mode_list mask)) 512 ≡
 unfolding passes_below digits
 modes_solid = refl
 
-value_solid : (k : Kind) (x : HeldValue k) → param_is_kind_small k ≡ true → InRange k x → IsSolid (value_text k x)
-value_solid flag true small h = solid_from (codes "1") refl
-value_solid flag false small h = solid_from (codes "0") refl
-value_solid (number limit) n small h = decimal_solid n (limit_small limit n small h)
-value_solid hex n small h = six_solid n h
-value_solid modes mask small h = solid_from (mode_list mask)
+shown_value_solid : (k : Kind) (x : HeldValue k) → param_is_kind_small k ≡ true → InRange k x → IsSolid (param_value_text k x)
+shown_value_solid flag true small h = solid_from (codes "1") refl
+shown_value_solid flag false small h = solid_from (codes "0") refl
+shown_value_solid (number limit) n small h = decimal_solid n (limit_small limit n small h)
+shown_value_solid hex n small h = six_solid n h
+shown_value_solid modes mask small h = solid_from (mode_list mask)
     (passes_below_at (λ mask. list_all is_solid (mode_list mask)) 512 mask modes_solid (omega (arith, h.1)))
-value_solid (exactly own) x small h = absurd h
-value_solid anything x small h = absurd h
+shown_value_solid (exactly own) x small h = absurd h
+shown_value_solid anything x small h = absurd h
 
 key_solid : (k : FormatKey) → list_all is_solid (key_text k) ≡ true
 key_solid k = grind arith
@@ -63,14 +63,14 @@ key_filled k = grind arith
 decimal_filled : (n : ℕ) → n ≤ 4294967295 → IsRest (decimal n)
 decimal_filled n small = (decimal_is_IsNumeral n (omega arith)).0.0
 
-value_filled : (k : Kind) (x : HeldValue k) → param_is_kind_small k ≡ true → InRange k x → IsRest (value_text k x)
-value_filled flag true small h = lit< tt
-value_filled flag false small h = lit< tt
-value_filled (number limit) n small h = decimal_filled n (limit_small limit n small h)
-value_filled hex n small h = grind (arith, digits_is_IsNumeral, length-append)
-value_filled modes mask small h = modes_filled mask h
-value_filled (exactly own) x small h = absurd h
-value_filled anything x small h = absurd h
+shown_value_filled : (k : Kind) (x : HeldValue k) → param_is_kind_small k ≡ true → InRange k x → IsRest (param_value_text k x)
+shown_value_filled flag true small h = lit< tt
+shown_value_filled flag false small h = lit< tt
+shown_value_filled (number limit) n small h = decimal_filled n (limit_small limit n small h)
+shown_value_filled hex n small h = grind (arith, digits_is_IsNumeral, length-append)
+shown_value_filled modes mask small h = modes_filled mask h
+shown_value_filled (exactly own) x small h = absurd h
+shown_value_filled anything x small h = absurd h
 
 -- ---- keys with their values
 
@@ -88,41 +88,41 @@ abbrev pub HasRange : Entry → Type 0
 HasRange e = InRange (kind e.0) e.1
 
 abbrev pub pair_of_entry : Entry → List ℕ × List ℕ
-pair_of_entry e = (key_text e.0, value_text (kind e.0) e.1)
+pair_of_entry e = (key_text e.0, param_value_text (kind e.0) e.1)
 
 pub pair_solid : (e : Entry) → HasRange e → IsSolidPair (pair_of_entry e)
-pair_solid e h = grind (arith, solid_from, key_solid, value_solid, key_small, key_filled, value_filled)
+pair_solid e h = grind (arith, solid_from, key_solid, shown_value_solid, key_small, key_filled, shown_value_filled)
 
 entry_joined : (e : Entry) → entry_text (Some e) ≡ joined_pair (pair_of_entry e)
 entry_joined e = simp append_assoc
 
 -- what a parameter of the table prints
-pub text_of : (param : FormatParam) (e : Entry) → entry param ≡ Some e → param_text param ≡ joined_pair (pair_of_entry e)
-text_of (H265ProfileTierLevel t) e is = absurd (none-some e is)
-text_of (H266ProfileTierLevel t) e is = absurd (none-some e is)
-text_of (TelephoneEvents n) e is = absurd (none-some e is)
-text_of (BareRange n) e is = absurd (none-some e is)
-text_of (BarePtList pt) e is = absurd (none-some e is)
-text_of (Red pt) e is = absurd (none-some e is)
-text_of param e is = ap entry_text is ∙ entry_joined e
+pub shown_entry_text_of : (param : FormatParam) (e : Entry) → entry param ≡ Some e → param_text param ≡ joined_pair (pair_of_entry e)
+shown_entry_text_of (H265ProfileTierLevel t) e is = absurd (none-some e is)
+shown_entry_text_of (H266ProfileTierLevel t) e is = absurd (none-some e is)
+shown_entry_text_of (TelephoneEvents n) e is = absurd (none-some e is)
+shown_entry_text_of (BareRange n) e is = absurd (none-some e is)
+shown_entry_text_of (BarePtList pt) e is = absurd (none-some e is)
+shown_entry_text_of (Red pt) e is = absurd (none-some e is)
+shown_entry_text_of param e is = ap entry_text is ∙ entry_joined e
 
 -- ---- keys with what may stand for them
 
-abbrev pub slot : (k : FormatKey) → Option (HeldValue (kind k)) → Slots
-slot k o = (key_text k, option_map (value_text (kind k)) o) ∷ []
+abbrev pub shown_key_slot : (k : FormatKey) → Option (HeldValue (kind k)) → PairSlots
+shown_key_slot k o = (key_text k, option_map (param_value_text (kind k)) o) ∷ []
 
-abbrev pub triple_slots : {P T L : Type 0} → Tables P T L → Option (ProfileTierLevel P T L) → Slots
+abbrev pub triple_slots : {P T L : Type 0} → Tables P T L → Option (ProfileTierLevel P T L) → PairSlots
 triple_slots tables o =
     (PROFILE_ID.now, option_map (λ t. decimal (tables.profile_id t.profile)) o)
     ∷ (TIER_FLAG.now, option_map (λ t. decimal (tables.tier_flag t.tier)) o)
     ∷ (LEVEL_ID.now, option_map (λ t. decimal (tables.level_id t.level)) o) ∷ []
 
 -- the keys of a field, with their values
-abbrev pub slots_at : Field → FormatParams → Slots
-slots_at (field.Key k) p = slot k (get (field.Key k) p)
-slots_at field.H265ProfileTierLevel p = triple_slots h265_tables p.h265_profile_tier_level
-slots_at field.H266ProfileTierLevel p = triple_slots h266_tables p.h266_profile_tier_level
-slots_at field.TelephoneEvents p = []
+abbrev pub shown_slots_at : Field → FormatParams → PairSlots
+shown_slots_at (field.Key k) p = shown_key_slot k (get (field.Key k) p)
+shown_slots_at field.H265ProfileTierLevel p = triple_slots h265_tables p.h265_profile_tier_level
+shown_slots_at field.H266ProfileTierLevel p = triple_slots h266_tables p.h266_profile_tier_level
+shown_slots_at field.TelephoneEvents p = []
 
 -- the texts of a field that have no key
 abbrev pub bares_at : Field → FormatParams → List (List ℕ)
@@ -130,8 +130,8 @@ bares_at field.TelephoneEvents p = cons_option (option_map (λ n. codes "0-" ++ 
 bares_at f p = []
 
 -- the pieces that a field prints
-abbrev pub pieces_at : Field → FormatParams → List (List ℕ)
-pieces_at f p = map joined_pair (given (slots_at f p)) ++ bares_at f p
+abbrev pub shown_pieces_at : Field → FormatParams → List (List ℕ)
+shown_pieces_at f p = map joined_pair (given_slots (shown_slots_at f p)) ++ bares_at f p
 
 -- the text of one field: nothing, or its pieces joined
 abbrev pub IsShown : Option FormatParam → List (List ℕ) → Type 0
@@ -140,13 +140,13 @@ IsShown (Some param) pieces = (first : List ℕ) × (more : List (List ℕ)) × 
     × (param_text param ≡ join_with_byte 59 (first ∷ more))
 
 pub record ShowsField (f : Field) (p : FormatParams) : Type 0 where
-  pub shown : IsShown (param_at f p) (pieces_at f p)
-  pub plain : AllByRecursion IsSolidPair (given (slots_at f p))
+  pub shown : IsShown (param_at f p) (shown_pieces_at f p)
+  pub plain : AllByRecursion IsSolidPair (given_slots (shown_slots_at f p))
   pub bare : AllByRecursion IsSolid (bares_at f p)
 
 -- the pairs of a field read as its parameter
 abbrev pub ReadsField : Field → FormatParams → Type 0
-ReadsField f p = map param_of (given (slots_at f p)) ≡ cons_option (param_at f p) []
+ReadsField f p = map param_of (given_slots (shown_slots_at f p)) ≡ cons_option (param_at f p) []
 
 -- what holds of each value holds of one that may be there
 pub each_some : {A : Type 0} (P : A → Type 0) (o : Option A) → ((x : A) → P x) → IfSome o P
@@ -162,17 +162,17 @@ entry_at key.Interleaving p = tt
 entry_at k p = each_some (λ x. entry (keyed k x) ≡ Some (k, x)) (get (field.Key k) p) (λ x. refl)
 
 key_shown : (k : FormatKey) (o : Option (HeldValue (kind k))) → IfSome o (λ x. entry (keyed k x) ≡ Some (k, x))
-    → IsShown (option_map (keyed k) o) (map joined_pair (given (slot k o)) ++ [])
+    → IsShown (option_map (keyed k) o) (map joined_pair (given_slots (shown_key_slot k o)) ++ [])
 key_shown k None is = refl
-key_shown k (Some x) is = (joined_pair (pair_of_entry (k, x)), [], refl, text_of (keyed k x) (k, x) is)
+key_shown k (Some x) is = (joined_pair (pair_of_entry (k, x)), [], refl, shown_entry_text_of (keyed k x) (k, x) is)
 
 pairs_solid : (k : FormatKey) (o : Option (HeldValue (kind k))) → IfSome o (InRange (kind k))
-    → AllByRecursion IsSolidPair (given (slot k o))
+    → AllByRecursion IsSolidPair (given_slots (shown_key_slot k o))
 pairs_solid k None h = tt
 pairs_solid k (Some x) h = (pair_solid (k, x) h, tt)
 
 slot_reads : (k : FormatKey) (o : Option (HeldValue (kind k))) → IfSome o (InRange (kind k))
-    → map param_of (given (slot k o)) ≡ cons_option (option_map (keyed k) o) []
+    → map param_of (given_slots (shown_key_slot k o)) ≡ cons_option (option_map (keyed k) o) []
 slot_reads k o h = grind (arith, key_reads)
 
 triple_parts : (a b c : List ℕ) → codes "profile-id=" ++ (a ++ (codes ";tier-flag=" ++ (b ++ (codes ";level-id=" ++ c))))
@@ -184,7 +184,8 @@ module _ {P T L : Type 0} (tables : Tables P T L) (make : ProfileTierLevel P T L
     → AreBytes tables t)
     (text : (t : ProfileTierLevel P T L)
     → param_text (make t) ≡ triple_text (tables.profile_id t.profile) (tables.tier_flag t.tier) (tables.level_id t.level)) where
-  triple_shown : (o : Option (ProfileTierLevel P T L)) → IsShown (option_map make o) (map joined_pair (given (triple_slots tables o)) ++ [])
+  triple_shown : (o : Option (ProfileTierLevel P T L))
+      → IsShown (option_map make o) (map joined_pair (given_slots (triple_slots tables o)) ++ [])
   triple_shown None = refl
   triple_shown (Some t) =
       let profile = decimal (tables.profile_id t.profile) in
@@ -197,7 +198,7 @@ module _ {P T L : Type 0} (tables : Tables P T L) (make : ProfileTierLevel P T L
             ∙ triple_parts profile tier level,
       )
 
-  triple_solid : (o : Option (ProfileTierLevel P T L)) → AllByRecursion IsSolidPair (given (triple_slots tables o))
+  triple_solid : (o : Option (ProfileTierLevel P T L)) → AllByRecursion IsSolidPair (given_slots (triple_slots tables o))
   triple_solid None = tt
   triple_solid (Some t) =
       let k = small t in (
@@ -234,7 +235,7 @@ events_solid : (o : Option ℕ) → IfSome o (λ n. n ≤ 255)
     → AllByRecursion IsSolid (cons_option (option_map (λ n. codes "0-" ++ decimal n) o) [])
 events_solid o h = grind (arith, solid_append, solid_from, decimal_solid)
 
-shown_at : (f : Field) (p : FormatParams) → IsShown (option_map (param_in f) (get f p)) (pieces_at f p)
+shown_at : (f : Field) (p : FormatParams) → IsShown (option_map (param_in f) (get f p)) (shown_pieces_at f p)
 shown_at (field.Key k) p = key_shown k (get (field.Key k) p) (entry_at k p)
 shown_at field.H265ProfileTierLevel p = triple_shown h265_tables (λ t. H265ProfileTierLevel t) h265_small (λ t. refl)
     p.h265_profile_tier_level
@@ -242,20 +243,21 @@ shown_at field.H266ProfileTierLevel p = triple_shown h266_tables (λ t. H266Prof
     p.h266_profile_tier_level
 shown_at field.TelephoneEvents p = events_shown p.telephone_event_max
 
-solid_at : (f : Field) (p : FormatParams) → IfSome (get f p) (IsFieldWithin f) → AllByRecursion IsSolidPair (given (slots_at f p))
-solid_at (field.Key k) p h = pairs_solid k (get (field.Key k) p) h
-solid_at field.H265ProfileTierLevel p h = triple_solid h265_tables (λ t. H265ProfileTierLevel t) h265_small (λ t. refl)
+shown_solid_at : (f : Field) (p : FormatParams) → IfSome (get f p) (IsFieldWithin f)
+    → AllByRecursion IsSolidPair (given_slots (shown_slots_at f p))
+shown_solid_at (field.Key k) p h = pairs_solid k (get (field.Key k) p) h
+shown_solid_at field.H265ProfileTierLevel p h = triple_solid h265_tables (λ t. H265ProfileTierLevel t) h265_small (λ t. refl)
     p.h265_profile_tier_level
-solid_at field.H266ProfileTierLevel p h = triple_solid h266_tables (λ t. H266ProfileTierLevel t) h266_small (λ t. refl)
+shown_solid_at field.H266ProfileTierLevel p h = triple_solid h266_tables (λ t. H266ProfileTierLevel t) h266_small (λ t. refl)
     p.h266_profile_tier_level
-solid_at field.TelephoneEvents p h = tt
+shown_solid_at field.TelephoneEvents p h = tt
 
 bares_solid : (f : Field) (p : FormatParams) → IfSome (get f p) (IsFieldWithin f) → AllByRecursion IsSolid (bares_at f p)
 bares_solid field.TelephoneEvents p h = events_solid p.telephone_event_max h
 bares_solid f p h = tt
 
-pub shows : (f : Field) (p : FormatParams) → IfSome (get f p) (IsFieldWithin f) → ShowsField f p
-shows f p h = grind (arith, param_is, shown_at, solid_at, bares_solid)
+pub field_shows : (f : Field) (p : FormatParams) → IfSome (get f p) (IsFieldWithin f) → ShowsField f p
+field_shows f p h = grind (arith, param_is, shown_at, shown_solid_at, bares_solid)
 
 -- whether the field has one key
 abbrev pub shown_is_single : Field → Bool

@@ -6,7 +6,7 @@ use Rattle.str0m_formats.proofs.Common.{rules, arith, ◌≡◌, ℕ, false, not
 use Rattle.str0m_formats.proofs.Common.{AllByRecursion, keys_of, bytes_eq, str_to_ascii_lowercase, cases_Bool, false_from_ne_true}
 use Rattle.str0m_formats.proofs.Common.{append_assoc, append-nil, IsDistinct-cons, IsDistinct-head, IsDistinct-tail, bytes_eq-Decides}
 use Rattle.str0m_formats.proofs.Common.{insert_entry, insert_all, insert_entry-absent}
-use Rattle.str0m_formats.specs.format.Pairs.{merged, others, is_part}
+use Rattle.str0m_formats.specs.format.Pairs.{merged, other_pairs, is_part}
 
 abbrev pub Pairs : Type 0
 Pairs = List (List ℕ × List ℕ)
@@ -74,19 +74,20 @@ merged_apart pairs = merged_all_inserted [] (lowered pairs) tt tt (lowered_low p
 -- ---- what is no part of a triple
 
 pub merged_others_all : (P : List ℕ → Type 0) (pairs : List (List ℕ × List ℕ)) → AllByRecursion P (keys_of pairs)
-    → AllByRecursion P (keys_of (others pairs))
+    → AllByRecursion P (keys_of (other_pairs pairs))
 merged_others_all P [] all = tt
 merged_others_all P (pair ∷ pairs) all = grind (arith, cases_Bool, merged_others_all P pairs all.1)
 
-pub merged_others_apart : (pairs : List (List ℕ × List ℕ)) → AreKeysApart pairs → AreKeysApart (others pairs)
+pub merged_others_apart : (pairs : List (List ℕ × List ℕ)) → AreKeysApart pairs → AreKeysApart (other_pairs pairs)
 merged_others_apart pairs apart = IsDistinct-keys_filter bytes_eq (λ pair. not (is_part pair.0)) pairs apart
 
-pub merged_others_other : (pairs : List (List ℕ × List ℕ)) → AllByRecursion (λ k. is_part k ≡ false) (keys_of (others pairs))
+pub merged_others_other : (pairs : List (List ℕ × List ℕ)) → AllByRecursion (λ k. is_part k ≡ false) (keys_of (other_pairs pairs))
 merged_others_other [] = tt
 merged_others_other (pair ∷ pairs) = grind (arith, cases_Bool, merged_others_other pairs)
 
 -- pairs none of which is a part stay
-pub merged_others_same : (pairs : List (List ℕ × List ℕ)) → AllByRecursion (λ k. is_part k ≡ false) (keys_of pairs) → others pairs ≡ pairs
+pub merged_others_same : (pairs : List (List ℕ × List ℕ)) → AllByRecursion (λ k. is_part k ≡ false) (keys_of pairs)
+    → other_pairs pairs ≡ pairs
 merged_others_same [] none = refl
 merged_others_same (pair ∷ pairs) none = rw none.0 (ap (λ (ps : List (List ℕ × List ℕ)). pair ∷ ps) (merged_others_same pairs none.1))
 

@@ -124,16 +124,18 @@ index_within key (e ∷ es) zero h = omega arith
 index_within key (e ∷ es) (suc i) h = let below = index_within key es i h.1 in omega (arith, below)
 
 -- the value there, and that there is none
-pub value_there : (key : List ℕ) (entries : List (Bor (List ℕ) × Bor (List ℕ))) (i : ℕ) (d : Bor (List ℕ) × Bor (List ℕ))
+pub merged_key_value_there : (key : List ℕ) (entries : List (Bor (List ℕ) × Bor (List ℕ))) (i : ℕ) (d : Bor (List ℕ) × Bor (List ℕ))
     → IsPlace (bytes_eq key) (pair_texts entries) (Some i)
     → lookup (bytes_eq key) (pair_texts entries) ≡ Some (get_or entries i d).1.now
-value_there key [] i d h = absurd h
-value_there key (e ∷ es) zero d h = ap (λ (b : Bool). cond b (Some e.1.now) (lookup (bytes_eq key) (pair_texts es))) h
-value_there key (e ∷ es) (suc i) d h = grind (arith, value_there key es i d h.1)
+merged_key_value_there key [] i d h = absurd h
+merged_key_value_there key (e ∷ es) zero d h = ap (λ (b : Bool). cond b (Some e.1.now) (lookup (bytes_eq key) (pair_texts es))) h
+merged_key_value_there key (e ∷ es) (suc i) d h = grind (arith, merged_key_value_there key es i d h.1)
 
-pub no_value : (key : List ℕ) (es : List (List ℕ × List ℕ)) → IsPlace (bytes_eq key) es None → lookup (bytes_eq key) es ≡ None
-no_value key [] h = refl
-no_value key (e ∷ es) h = ap (λ (b : Bool). cond b (Some e.1) (lookup (bytes_eq key) es)) h.0 ∙ no_value key es h.1
+pub merged_key_without_value : (key : List ℕ) (es : List (List ℕ × List ℕ)) → IsPlace (bytes_eq key) es None
+    → lookup (bytes_eq key) es ≡ None
+merged_key_without_value key [] h = refl
+merged_key_without_value key (e ∷ es) h = ap (λ (b : Bool). cond b (Some e.1) (lookup (bytes_eq key) es)) h.0
+    ∙ merged_key_without_value key es h.1
 
 -- the place in a list is that in one like it
 pub placed_alike : (key : List ℕ) (slice entries : List (Bor (List ℕ) × Bor (List ℕ))) (answer place : Option ℕ) → slice ≡ entries

@@ -11,13 +11,13 @@ use Rattle.str0m_formats.proofs.format.MergedPairsKeys.{IsLowKey, AreLowKeys, Ar
 use Rattle.str0m_formats.proofs.format.MergedPairsKeys.{merged_others_apart, merged_others_other}
 use Rattle.str0m_formats.proofs.format.MergedPairsKeys.{merged_others_same, merged_same}
 use Rattle.str0m_formats.proofs.format.PairsSolid.{solid_from}
-use Rattle.str0m_formats.proofs.format.PairsTripleLaws.{AreBytes, texts_shown, h265_small, h266_small, h265_again, h266_again}
+use Rattle.str0m_formats.proofs.format.PairsTripleLaws.{AreBytes, triple_texts_shown, h265_small, h266_small, h265_again, h266_again}
 use Rattle.str0m_formats.specs.declared.format.format_key.TheConstants.{PROFILE_ID, TIER_FLAG, LEVEL_ID}
 use Rattle.str0m_formats.specs.declared.format.format_param.FormatParam.{FormatParam}
 use Rattle.str0m_formats.specs.declared.format.format_param.FormatParam.TheVariants.{H265ProfileTierLevel, H266ProfileTierLevel}
 use Rattle.str0m_formats.specs.format.FormatParam.{IsParsed, AreParsed, triple_text, param_text}
 use Rattle.str0m_formats.specs.format.FormatParamReading.{param_of}
-use Rattle.str0m_formats.specs.format.Pairs.{has_triple_mark, merged, others, is_part, AreJoinedPairs, AreRead}
+use Rattle.str0m_formats.specs.format.Pairs.{has_triple_mark, merged, other_pairs, is_part, AreJoinedPairs, AreRead}
 use Rattle.str0m_formats.specs.format.PairsReading.{Tables, h265_tables, h266_tables, params_read, triple_read}
 
 -- the parameters print as pairs that are read as them
@@ -114,10 +114,11 @@ pairs_whole_triple_marked : (a b c : List ℕ) (pairs : List (List ℕ × List �
 unfolding has_triple_mark
 pairs_whole_triple_marked a b c pairs = refl
 
-whole_text : (q : FormatParam) (a b c : List ℕ) (params : List FormatParam) → AreKeyed params → param_text q ≡ triple_joined a b c
+pairs_whole_triple_text : (q : FormatParam) (a b c : List ℕ) (params : List FormatParam) → AreKeyed params
+    → param_text q ≡ triple_joined a b c
     → join_with_byte 59 (map param_text (q ∷ params)) ≡ join_with_byte 59 (map joined_pair (triple_pairs a b c ++ map pair_of params))
-whole_text q a b c [] keyed e = e
-whole_text q a b c (param ∷ params) keyed e =
+pairs_whole_triple_text q a b c [] keyed e = e
+pairs_whole_triple_text q a b c (param ∷ params) keyed e =
     ap (λ (t : List ℕ). t ++ (59 ∷ join_with_byte 59 (map param_text (param ∷ params)))) e
     ∙ ap (λ (ts : List (List ℕ)). triple_joined a b c ++ (59 ∷ join_with_byte 59 ts)) (keyed_texts (param ∷ params) keyed)
     ∙ simp append_assoc
@@ -128,7 +129,7 @@ triple_line : (q : FormatParam) (a b c : List ℕ) (params : List FormatParam) �
 triple_line q a b c params text plain read h = record {
   pairs = pairs;
   plain = (plain.0, (plain.1.0, (plain.1.1.0, keyed_pairs params h.keyed)));
-  text = whole_text q a b c params h.keyed text;
+  text = pairs_whole_triple_text q a b c params h.keyed text;
   read =
       marked pairs (pairs_whole_triple_marked a b c (map pair_of params))
       (merged_same pairs (refl, (refl, (refl, h.low))) (pairs_whole_triple_apart a b c params h))
@@ -145,15 +146,15 @@ numbers_solid k m n p q r = grind (arith, solid_from, decimal_solid, decimal_non
 
 shows_triple : {P T L : Type 0} (tables : Tables P T L) (q : FormatParam) (t : ProfileTierLevel P T L) (params : List FormatParam)
     → param_text q ≡ triple_text (tables.profile_id t.profile) (tables.tier_flag t.tier) (tables.level_id t.level)
-    → AreBytes tables t → triple_read (texts_shown tables t) ≡ Some q → AreOtherPairs params → IsPairsLine (q ∷ params)
+    → AreBytes tables t → triple_read (triple_texts_shown tables t) ≡ Some q → AreOtherPairs params → IsPairsLine (q ∷ params)
 shows_triple tables q t params text small read h = grind (arith, triple_line, numbers_solid)
 
 -- ---- all pairs
 
-pairs_others_of : (pairs : List (List ℕ × List ℕ)) (params : List FormatParam) → AreParsed (others (merged pairs)) params
+pairs_others_of : (pairs : List (List ℕ × List ℕ)) (params : List FormatParam) → AreParsed (other_pairs (merged pairs)) params
     → AreOtherPairs (filter prints params)
 pairs_others_of pairs params are =
-    let kept = others (merged pairs) in
+    let kept = other_pairs (merged pairs) in
     let all = merged_apart pairs in
     let low = merged_others_all IsLowKey (merged pairs) all.1 in
     record {
@@ -163,22 +164,22 @@ pairs_others_of pairs params are =
       other = all_keys (λ k. is_part k ≡ false) kept params low are (merged_others_other (merged pairs));
     }
 
-joined_line : (pairs : List (List ℕ × List ℕ)) (params : List FormatParam) → AreJoinedPairs (merged pairs) params
+pairs_joined_line : (pairs : List (List ℕ × List ℕ)) (params : List FormatParam) → AreJoinedPairs (merged pairs) params
     → IsPairsLine (filter prints params)
-joined_line pairs params (triple, rest, inl (t, h265, is), are, joined) =
+pairs_joined_line pairs params (triple, rest, inl (t, h265, is), are, joined) =
     rw (joined, is, lt-ltb 0 (length (param_text (H265ProfileTierLevel t))) (omega arith))
     (shows_triple h265_tables (H265ProfileTierLevel t) t (filter prints rest) refl (h265_small t) (h265_again t)
     (pairs_others_of pairs rest are))
-joined_line pairs params (triple, rest, inr (no_h265, inl (t, h266, is)), are, joined) =
+pairs_joined_line pairs params (triple, rest, inr (no_h265, inl (t, h266, is)), are, joined) =
     rw (joined, is, lt-ltb 0 (length (param_text (H266ProfileTierLevel t))) (omega arith))
     (shows_triple h266_tables (H266ProfileTierLevel t) t (filter prints rest) refl (h266_small t) (h266_again t)
     (pairs_others_of pairs rest are))
-joined_line pairs params (triple, rest, inr (no_h265, inr (no_h266, is)), are, joined) = grind (arith, read_alone)
+pairs_joined_line pairs params (triple, rest, inr (no_h265, inr (no_h266, is)), are, joined) = grind (arith, read_alone)
 
 pub pairs_again : (pairs : List (List ℕ × List ℕ)) (params : List FormatParam) → AreRead pairs params → IsPairsLine (filter prints params)
 pairs_again pairs params read = go (has_triple_mark pairs) read
   where
     go : (marked : Bool) → MatchBool marked (AreJoinedPairs (merged pairs) params) (AreParsed pairs params)
         → IsPairsLine (filter prints params)
-    go true h = joined_line pairs params h
+    go true h = pairs_joined_line pairs params h
     go false h = read_alone pairs params h

@@ -6,20 +6,20 @@ use Rattle.str0m_formats.proofs.format.PairsTripleLaws.{triple_is, triple_only}
 use Rattle.str0m_formats.specs.declared.format.format_param.FormatParam.{FormatParam}
 use Rattle.str0m_formats.specs.format.FormatParam.{AreParsed, pair_texts}
 use Rattle.str0m_formats.specs.format.FormatParamReading.{param_of}
-use Rattle.str0m_formats.specs.format.Pairs.{has_triple_mark, merged, others, texts_of, is_triple_mark, AreJoinedPairs, AreRead}
+use Rattle.str0m_formats.specs.format.Pairs.{has_triple_mark, merged, other_pairs, triple_texts_of, is_triple_mark, AreJoinedPairs, AreRead}
 use Rattle.str0m_formats.specs.format.PairsReading.{triple_read, joined_read, params_read}
 
 joined_pairs_are : (pairs : List (List ℕ × List ℕ)) → AreJoinedPairs pairs (joined_read pairs)
 joined_pairs_are pairs = (
-  triple_read (texts_of pairs),
-  map param_of (others pairs),
-  triple_is (texts_of pairs),
-  all_parsed (others pairs),
+  triple_read (triple_texts_of pairs),
+  map param_of (other_pairs pairs),
+  triple_is (triple_texts_of pairs),
+  all_parsed (other_pairs pairs),
   refl,
 )
 
 joined_pairs_only : (pairs : List (List ℕ × List ℕ)) (params : List FormatParam) → AreJoinedPairs pairs params → params ≡ joined_read pairs
-joined_pairs_only pairs params h = grind (arith, triple_only (texts_of pairs) h.0 h.2, all_parsed_only (others pairs) h.1 h.3)
+joined_pairs_only pairs params h = grind (arith, triple_only (triple_texts_of pairs) h.0 h.2, all_parsed_only (other_pairs pairs) h.1 h.3)
 
 -- what is read of pairs is what they stand for
 pub pairs_read_is : (pairs : List (List ℕ × List ℕ)) → AreRead pairs (params_read pairs)

@@ -4,39 +4,40 @@ use Rattle.str0m_formats.proofs.Common.{arith, ◌≡◌, ◌&&◌, ℕ, Bool, t
 use Rattle.str0m_formats.proofs.Common.{is_some, inl, inr, refl, ap, AllByRecursion, keys_of, list_all, list_any, lookup, bytes_eq}
 use Rattle.str0m_formats.proofs.Common.{str_to_ascii_lowercase, cases_Bool, and_parts, not-true, bytes_eq-Decides, ◌<|>◌}
 use Rattle.str0m_formats.proofs.format.MergedPairsKeys.{AreLowKeys, AreKeysApart, merged_same}
-use Rattle.str0m_formats.specs.format.Pairs.{is_triple_mark, has_triple_mark, merged, is_part, others}
+use Rattle.str0m_formats.specs.format.Pairs.{is_triple_mark, has_triple_mark, merged, is_part, other_pairs}
 
-abbrev pub Slots : Type 0
-Slots = List (List ℕ × Option (List ℕ))
+abbrev pub PairSlots : Type 0
+PairSlots = List (List ℕ × Option (List ℕ))
 
 abbrev pub given_slot : List ℕ → Option (List ℕ) → List (List ℕ × List ℕ) → List (List ℕ × List ℕ)
 given_slot key None pairs = pairs
 given_slot key (Some value) pairs = (key, value) ∷ pairs
 
 -- the keys that have a value
-abbrev pub given : Slots → List (List ℕ × List ℕ)
-given [] = []
-given (row ∷ rows) = given_slot row.0 row.1 (given rows)
+abbrev pub given_slots : PairSlots → List (List ℕ × List ℕ)
+given_slots [] = []
+given_slots (row ∷ rows) = given_slot row.0 row.1 (given_slots rows)
 
-pub given-append : (xs ys : Slots) → given (xs ++ ys) ≡ given xs ++ given ys
-given-append [] ys = refl
-given-append ((own, None) ∷ xs) ys = given-append xs ys
-given-append ((own, Some value) ∷ xs) ys = ap (λ (t : List (List ℕ × List ℕ)). (own, value) ∷ t) (given-append xs ys)
+pub given_slots-append : (xs ys : PairSlots) → given_slots (xs ++ ys) ≡ given_slots xs ++ given_slots ys
+given_slots-append [] ys = refl
+given_slots-append ((own, None) ∷ xs) ys = given_slots-append xs ys
+given_slots-append ((own, Some value) ∷ xs) ys = ap (λ (t : List (List ℕ × List ℕ)). (own, value) ∷ t) (given_slots-append xs ys)
 
 -- ---- looking up
 
-abbrev pub slot_look : List ℕ → Slots → Option (List ℕ)
+abbrev pub slot_look : List ℕ → PairSlots → Option (List ℕ)
 slot_look key [] = None
 slot_look key (row ∷ rows) = cond (bytes_eq key row.0) (row.1 <|> slot_look key rows) (slot_look key rows)
 
-pub slot_look_given : (key : List ℕ) (rows : Slots) → lookup (bytes_eq key) (given rows) ≡ slot_look key rows
+pub slot_look_given : (key : List ℕ) (rows : PairSlots) → lookup (bytes_eq key) (given_slots rows) ≡ slot_look key rows
 slot_look_given key [] = refl
 slot_look_given key ((own, None) ∷ rows) = grind (arith, cases_Bool, slot_look_given key rows)
 slot_look_given key ((own, Some value) ∷ rows) = grind (arith, cases_Bool, slot_look_given key rows)
 
 -- ---- marks
 
-pub mark_given_slots : (rows : Slots) → has_triple_mark (given rows) ≡ list_any (λ row. is_triple_mark row.0 && is_some row.1) rows
+pub mark_given_slots : (rows : PairSlots) → has_triple_mark (given_slots rows)
+    ≡ list_any (λ row. is_triple_mark row.0 && is_some row.1) rows
 unfolding has_triple_mark
 mark_given_slots [] = refl
 mark_given_slots ((own, None) ∷ rows) = grind (arith, cases_Bool, mark_given_slots rows)
@@ -45,7 +46,7 @@ mark_given_slots ((own, Some value) ∷ rows) = elim (cases_Bool (is_triple_mark
 
 -- ---- what is no part of a triple
 
-pub others_given_slots : (rows : Slots) → others (given rows) ≡ given (filter (λ row. not (is_part row.0)) rows)
+pub others_given_slots : (rows : PairSlots) → other_pairs (given_slots rows) ≡ given_slots (filter (λ row. not (is_part row.0)) rows)
 others_given_slots [] = refl
 others_given_slots ((own, None) ∷ rows) = grind (arith, cases_Bool, others_given_slots rows)
 others_given_slots ((own, Some value) ∷ rows) = grind (arith, cases_Bool, others_given_slots rows)
@@ -53,19 +54,19 @@ others_given_slots ((own, Some value) ∷ rows) = grind (arith, cases_Bool, othe
 -- ---- merging
 
 -- each key is in lower case, and none stands twice
-abbrev pub are_slots_apart : Slots → Bool
+abbrev pub are_slots_apart : PairSlots → Bool
 are_slots_apart [] = true
 are_slots_apart (row ∷ rows) = (bytes_eq (str_to_ascii_lowercase row.0) row.0 && list_all (λ d. not (bytes_eq row.0 d.0)) rows)
     && are_slots_apart rows
 
-key_not_in_slots : (key : List ℕ) (rows : Slots) → list_all (λ d. not (bytes_eq key d.0)) rows ≡ true
-    → AllByRecursion (λ k. bytes_eq key k ≡ false) (keys_of (given rows))
+key_not_in_slots : (key : List ℕ) (rows : PairSlots) → list_all (λ d. not (bytes_eq key d.0)) rows ≡ true
+    → AllByRecursion (λ k. bytes_eq key k ≡ false) (keys_of (given_slots rows))
 key_not_in_slots key [] e = tt
 key_not_in_slots key ((own, None) ∷ rows) e = key_not_in_slots key rows
     (and_parts (not (bytes_eq key own)) (list_all (λ d. not (bytes_eq key d.0)) rows) e).1
 key_not_in_slots key ((own, Some value) ∷ rows) e = grind (arith, and_parts, not-true, key_not_in_slots key rows)
 
-given_slots_apart : (rows : Slots) → are_slots_apart rows ≡ true → AreLowKeys (given rows) × AreKeysApart (given rows)
+given_slots_apart : (rows : PairSlots) → are_slots_apart rows ≡ true → AreLowKeys (given_slots rows) × AreKeysApart (given_slots rows)
 unfolding IsDistinct
 given_slots_apart [] e = (tt, tt)
 given_slots_apart ((own, None) ∷ rows) e = given_slots_apart rows
@@ -76,5 +77,5 @@ given_slots_apart ((own, Some value) ∷ rows) e =
     let rest = given_slots_apart rows p.1 in
     (((bytes_eq-Decides (str_to_ascii_lowercase own) own).0 q.0, rest.0), (key_not_in_slots own rows q.1, rest.1))
 
-pub merged_given : (rows : Slots) → are_slots_apart rows ≡ true → merged (given rows) ≡ given rows
-merged_given rows e = let k = given_slots_apart rows e in merged_same (given rows) k.0 k.1
+pub merged_given : (rows : PairSlots) → are_slots_apart rows ≡ true → merged (given_slots rows) ≡ given_slots rows
+merged_given rows e = let k = given_slots_apart rows e in merged_same (given_slots rows) k.0 k.1

@@ -82,9 +82,9 @@ solid_not_skipped : (text : List ℕ) → IsSolid text → skip_leading_whitespa
 solid_not_skipped [] h = refl
 solid_not_skipped (b ∷ bs) h = rw (solid_is_dark_at b h.0) refl
 
-dropped : (text : List ℕ) → IsSolid text → drop_trailing_whitespace text ≡ text
-dropped [] h = refl
-dropped (b ∷ bs) h = rw (solid_is_dark_at b h.0) (ap (λ (t : List ℕ). b ∷ t) (dropped bs h.1))
+solid_not_dropped : (text : List ℕ) → IsSolid text → drop_trailing_whitespace text ≡ text
+solid_not_dropped [] h = refl
+solid_not_dropped (b ∷ bs) h = rw (solid_is_dark_at b h.0) (ap (λ (t : List ℕ). b ∷ t) (solid_not_dropped bs h.1))
 
 start_solid : (text : List ℕ) → IsSolid text → trim_start text ≡ text
 unfolding trim_start
@@ -92,7 +92,7 @@ start_solid text h = grind (arith, solid_ascii, chars-IsAscii, solid_not_skipped
 
 end_solid : (text : List ℕ) → IsSolid text → trim_end text ≡ text
 unfolding trim_end
-end_solid text h = grind (arith, solid_ascii, chars-IsAscii, dropped, encodes-IsAscii)
+end_solid text h = grind (arith, solid_ascii, chars-IsAscii, solid_not_dropped, encodes-IsAscii)
 
 pub trim_solid : (text : List ℕ) → IsSolid text → trim text ≡ text
 trim_solid text h = ap trim_end (start_solid text h) ∙ end_solid text h

@@ -8,7 +8,7 @@ use Rattle.str0m_formats.proofs.row.PayloadParamsSets.{has-append, locked_types-
 use Rattle.str0m_formats.specs.declared.round.negotiation_error.NegotiationError.{NegotiationError}
 use Rattle.str0m_formats.specs.declared.round.negotiation_error.NegotiationError.TheVariants.{ClaimedTwice}
 use Rattle.str0m_formats.specs.declared.row.payload_params.PayloadParams.{PayloadParams}
-use Rattle.str0m_formats.specs.round.Claimed.{TypeSet, has, with_type, either, type_times, AllTypesDistinct}
+use Rattle.str0m_formats.specs.round.Claimed.{TypeSet, has, with_type, either_set, type_times, AllTypesDistinct}
 use Rattle.str0m_formats.specs.round.Claims.{claim_each}
 use Rattle.str0m_formats.specs.round.Rounds.{then_in_round, IsFirstRepeat}
 use Rattle.str0m_formats.specs.row.PayloadParams.{types_of, types, locked_types, open_types}
@@ -52,7 +52,7 @@ pub unlocked_locked : (rows : List PayloadParams) (i : ℕ) (row : PayloadParams
 unlocked_locked rows i row set h e l k = k ∙ ap has (sym (claim_open_more rows i row true h e l ∙ append-nil (open_types (take i rows))))
 
 pub unlocked_open : (rows : List PayloadParams) (i : ℕ) (row : PayloadParams) (set new : TypeSet) → i < length rows
-    → row ≡ get_or rows i row → row.locked ≡ false → set ≡ has (open_types (take i rows)) → new ≡ either set (has (types_of row))
+    → row ≡ get_or rows i row → row.locked ≡ false → set ≡ has (open_types (take i rows)) → new ≡ either_set set (has (types_of row))
     → new ≡ has (open_types (take (i + 1) rows))
 unlocked_open rows i row set new h e l k n =
     grind (arith, claim_open_more rows i row false h e l, has-append (open_types (take i rows)) (types_of row))

@@ -29,17 +29,17 @@ type_times-some (x ∷ xs) t h = go (x == t) refl h (type_times-some xs t) where
   go false e k rest = let one = rest k in omega (arith, type_times-cons x xs t, one)
 
 -- the test that no number stands in the list twice
-abbrev pub all_apart : List ℕ → Bool
-all_apart [] = true
-all_apart (x ∷ xs) = not (has xs x) && all_apart xs
+abbrev pub all_claimed_apart : List ℕ → Bool
+all_claimed_apart [] = true
+all_claimed_apart (x ∷ xs) = not (has xs x) && all_claimed_apart xs
 
 -- numbers that all pass a test, none of them twice: each stands there once at most, and not at all where it doesn't pass
-pub once_within : (own : ℕ → Bool) (xs : List ℕ) → list_all own xs ≡ true → all_apart xs ≡ true → (t : ℕ)
+pub once_within : (own : ℕ → Bool) (xs : List ℕ) → list_all own xs ≡ true → all_claimed_apart xs ≡ true → (t : ℕ)
     → type_times xs t ≤ cond {A = ℕ} (own t) 1 0
 once_within own [] h d t = omega arith
 once_within own (x ∷ xs) h d t =
     let h' = and_parts (own x) (list_all own xs) h in
-    let d' = and_parts (not (has xs x)) (all_apart xs) d in
+    let d' = and_parts (not (has xs x)) (all_claimed_apart xs) d in
     go (x == t) refl h'.0 d'.0 (once_within own xs h'.1 d'.1 t)
   where
     go : (b : Bool) → (x == t) ≡ b → own x ≡ true → not (has xs x) ≡ true → type_times xs t ≤ cond {A = ℕ} (own t) 1 0

@@ -5,12 +5,12 @@ use Rattle.str0m_formats.proofs.Common.{IfSome, IfErr, refl, sym, ap, ◌∙◌,
 use Rattle.str0m_formats.proofs.Common.{take_more_set, drop-set-lt, length-set, length-take-le, length_push, drop_more_same, false≢true}
 use Rattle.str0m_formats.proofs.Common.{set}
 use Rattle.str0m_formats.proofs.round.RoundsPasses.{EachPlace, pass_at_split, pass_each_push, pass_get_from_rest}
-use Rattle.str0m_formats.proofs.row.PayloadParamsSets.{has-append, either-covered, locked_types-push, locked_types-at}
+use Rattle.str0m_formats.proofs.row.PayloadParamsSets.{has-append, either_set-covered, locked_types-push, locked_types-at}
 use Rattle.str0m_formats.specs.codec.Codec.{content}
 use Rattle.str0m_formats.specs.declared.round.negotiation_error.NegotiationError.{NegotiationError}
 use Rattle.str0m_formats.specs.declared.row.payload_params.PayloadParams.{PayloadParams}
 use Rattle.str0m_formats.specs.round.Choices.{IsChoice, points_for}
-use Rattle.str0m_formats.specs.round.Claimed.{TypeSet, has, with_type, with_option, either}
+use Rattle.str0m_formats.specs.round.Claimed.{TypeSet, has, with_type, claimed_with_option, either_set}
 use Rattle.str0m_formats.specs.round.Narrowing.{narrowed}
 use Rattle.str0m_formats.specs.round.Rounds.{types_taken_by, placed, locked_to, then_in_round, role_type, rtx_type, red_type, only_audio}
 use Rattle.str0m_formats.specs.round.Rounds.{Becomes}
@@ -44,8 +44,8 @@ pub then_in_round-ok : {A B : Type 0} (r : Result A NegotiationError) (f : A →
     → (x : A) × (r ≡ Ok x) × (f x ≡ Ok y)
 then_in_round-ok r f y h = grind arith
 
-pub same_Ok : {A : Type 0} (x y : A) → ◌≡◌ {A = Result A NegotiationError} (Ok x) (Ok y) → x ≡ y
-same_Ok x y h = cc
+pub same_row_Ok : {A : Type 0} (x y : A) → ◌≡◌ {A = Result A NegotiationError} (Ok x) (Ok y) → x ≡ y
+same_row_Ok x y h = cc
 
 pub same_Err : {A : Type 0} (x y : NegotiationError) → ◌≡◌ {A = Result A NegotiationError} (Err x) (Err y) → x ≡ y
 same_Err x y h = cc
@@ -64,7 +64,7 @@ placed-open_row taken unlocked receives row choice l = rw l refl
 pub placed-no_choice : (taken unlocked : TypeSet) (receives : Bool) (row new : PayloadParams)
     → placed taken unlocked receives row None ≡ Ok new → row ≡ new
 unfolding placed
-placed-no_choice taken unlocked receives row new h = same_Ok row new h
+placed-no_choice taken unlocked receives row new h = same_row_Ok row new h
 
 -- the types of a row that is locked
 pub record LockedParts (taken unlocked : TypeSet) (receives : Bool) (row choice new : PayloadParams) : Type 0 where
@@ -75,7 +75,8 @@ pub record LockedParts (taken unlocked : TypeSet) (receives : Bool) (row choice 
   pub all : record row {
     pt = pt;
     resend = resend;
-    red = only_audio (content row.spec.codec) (red_type (with_option (with_type taken pt) resend) unlocked receives choice.red row.red);
+    red = only_audio (content row.spec.codec)
+        (red_type (claimed_with_option (with_type taken pt) resend) unlocked receives choice.red row.red);
     spec = narrowed row.spec choice.spec;
     fb_transport_cc = row.fb_transport_cc && choice.fb_transport_cc;
     locked = true;
@@ -84,7 +85,7 @@ pub record LockedParts (taken unlocked : TypeSet) (receives : Bool) (row choice 
 pub locked_parts : (taken unlocked : TypeSet) (receives : Bool) (row choice new : PayloadParams)
     → locked_to taken unlocked receives row choice ≡ Ok new → LockedParts taken unlocked receives row choice new
 unfolding locked_to
-locked_parts taken unlocked receives row choice new h = grind (arith, then_in_round-ok, same_Ok)
+locked_parts taken unlocked receives row choice new h = grind (arith, then_in_round-ok, same_row_Ok)
 
 pub locked_to-locks : (taken unlocked : TypeSet) (receives : Bool) (row choice new : PayloadParams)
     → locked_to taken unlocked receives row choice ≡ Ok new → new.locked ≡ true
@@ -94,7 +95,7 @@ locked_to-locks taken unlocked receives row choice new h = grind (arith, locked_
 pub placed-locked : (taken unlocked : TypeSet) (receives : Bool) (row new : PayloadParams) (choice : Option PayloadParams)
     → placed taken unlocked receives row choice ≡ Ok new → row.locked ≡ true → (new.locked ≡ true) × (types_of new ≡ types_of row)
 placed-locked taken unlocked receives row new None h l = grind (arith, placed-no_choice)
-placed-locked taken unlocked receives row new (Some c) h l = grind (arith, same_Ok, placed-locked_row)
+placed-locked taken unlocked receives row new (Some c) h l = grind (arith, same_row_Ok, placed-locked_row)
 
 pub placed-open : (taken unlocked : TypeSet) (receives : Bool) (row new : PayloadParams) (choice : Option PayloadParams)
     → placed taken unlocked receives row choice ≡ Ok new → row.locked ≡ false → (new ≡ row) ⊎ (new.locked ≡ true)
@@ -104,7 +105,7 @@ placed-open taken unlocked receives row new (Some c) h l = grind (arith, locked_
 -- what a row adds to the types that are taken
 pub claimed-taken-push : (taken unlocked : TypeSet) (receives : Bool) (before done : List PayloadParams) (i : ℕ) (row new : PayloadParams)
     (choice : Option PayloadParams) → slice_get before i ≡ Some row → placed taken unlocked receives row choice ≡ Ok new
-    → (if new.locked && not row.locked then either (types_taken_by before done) (has (types_of new)) else types_taken_by before done)
+    → (if new.locked && not row.locked then either_set (types_taken_by before done) (has (types_of new)) else types_taken_by before done)
     ≡ types_taken_by before (done ++ new ∷ [])
 claimed-taken-push taken unlocked receives before done i row new choice at_row h = go row.locked new.locked covered ∙ sym all where
   longer : locked_types before ++ locked_types (done ++ new ∷ []) ≡ (locked_types before ++ locked_types done)
@@ -112,21 +113,21 @@ claimed-taken-push taken unlocked receives before done i row new choice at_row h
   longer = ap (λ ts. locked_types before ++ ts) (locked_types-push done new)
       ∙ sym (append_assoc (locked_types before) (locked_types done) (cond new.locked (types_of new) []))
 
-  all : types_taken_by before (done ++ new ∷ []) ≡ either (types_taken_by before done) (has (cond new.locked (types_of new) []))
+  all : types_taken_by before (done ++ new ∷ []) ≡ either_set (types_taken_by before done) (has (cond new.locked (types_of new) []))
   all = ap has longer ∙ has-append (locked_types before ++ locked_types done) (cond new.locked (types_of new) [])
 
-  covered : row.locked ≡ true → either (types_taken_by before done) (has (types_of new)) ≡ types_taken_by before done
+  covered : row.locked ≡ true → either_set (types_taken_by before done) (has (types_of new)) ≡ types_taken_by before done
   covered l =
-      either-covered (types_taken_by before done) (types_of new)
+      either_set-covered (types_taken_by before done) (types_of new)
       (λ t ht. ap (λ f. f t) (has-append (locked_types before) (locked_types done))
       ∙ ap (λ x. x || has (locked_types done) t)
       (locked_types-at before i row t at_row l (ap (λ ts. has ts t) (sym (placed-locked taken unlocked receives row new choice h l).1)
       ∙ ht)))
 
-  go : (b n : Bool) → (b ≡ true → either (types_taken_by before done) (has (types_of new)) ≡ types_taken_by before done)
-      → (if n && not b then either (types_taken_by before done) (has (types_of new)) else types_taken_by before done)
-      ≡ either (types_taken_by before done) (has (cond n (types_of new) []))
-  go b false h = sym (either-covered (types_taken_by before done) [] (λ t f. absurd (false≢true f)))
+  go : (b n : Bool) → (b ≡ true → either_set (types_taken_by before done) (has (types_of new)) ≡ types_taken_by before done)
+      → (if n && not b then either_set (types_taken_by before done) (has (types_of new)) else types_taken_by before done)
+      ≡ either_set (types_taken_by before done) (has (cond n (types_of new) []))
+  go b false h = sym (either_set-covered (types_taken_by before done) [] (λ t f. absurd (false≢true f)))
   go false true h = refl
   go true true h = sym (h refl)
 
@@ -157,7 +158,7 @@ pub first_step : (before remote : List PayloadParams) (receives : Bool) (rows : 
     (claimed unlocked claimed' unlocked' : TypeSet) (row new : PayloadParams) (choice : Option PayloadParams)
     → FirstState before remote receives rows i claimed unlocked → i < length rows → row ≡ get_or rows i row
     → IsChoice (points_for claimed receives row) remote choice → placed claimed unlocked receives row choice ≡ Ok new
-    → claimed' ≡ (if new.locked && not row.locked then either claimed (has (types_of new)) else claimed) → unlocked' ≡ unlocked
+    → claimed' ≡ (if new.locked && not row.locked then either_set claimed (has (types_of new)) else claimed) → unlocked' ≡ unlocked
     → FirstState before remote receives (set rows i new) (i + 1) claimed' unlocked'
 first_step before remote receives rows i claimed unlocked claimed' unlocked' row new choice s h e c p k u =
     let at_row = next_row before remote receives rows i claimed unlocked row s h e in
@@ -178,7 +179,7 @@ first_step before remote receives rows i claimed unlocked claimed' unlocked' row
       rest = drop-set-lt (i + 1) rows i new (omega arith) ∙ drop_more_same rows before i s.rest;
       whole = length-set rows i new ∙ s.whole;
       claimed_is =
-          k ∙ ap (λ t. cond (new.locked && not row.locked) (either t (has (types_of new))) t) s.claimed_is
+          k ∙ ap (λ t. cond (new.locked && not row.locked) (either_set t (has (types_of new))) t) s.claimed_is
           ∙ claimed-taken-push claimed unlocked receives before (take i rows) i row new choice at_row p ∙ ap (types_taken_by before) front;
       unlocked_is = u ∙ s.unlocked_is;
     }

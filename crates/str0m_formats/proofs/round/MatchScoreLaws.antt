@@ -24,23 +24,23 @@ number_flips score m n = ap (λ t. when t score) (numbers_flip m n)
 given_numbers : (a b : Option ℕ) → same_number a b ≡ same_number b a
 given_numbers a b = (options_equiv nat_eq_equiv).symm a b
 
-given_flags : (a b : Option Bool) → same_option a b ≡ same_option b a
-given_flags a b = (options_equiv bool_eq_equiv).symm a b
+score_given_flags_flip : (a b : Option Bool) → same_option a b ≡ same_option b a
+score_given_flags_flip a b = (options_equiv bool_eq_equiv).symm a b
 
-flags : (a b : Option Bool) → same_flag a b ≡ same_flag b a
-flags a b = bool_eq_equiv.symm (unwrap_or a false) (unwrap_or b false)
+score_flags_flip : (a b : Option Bool) → same_flag a b ≡ same_flag b a
+score_flags_flip a b = bool_eq_equiv.symm (unwrap_or a false) (unwrap_or b false)
 
 numbers_or : (n : ℕ) (a b : Option ℕ) → same_number_or n a b ≡ same_number_or n b a
 numbers_or n a b = numbers_flip (unwrap_or a n) (unwrap_or b n)
 
 opus_flips : (a b : FormatParams) → opus_score a b ≡ opus_score b a
-opus_flips a b = grind (arith, given_numbers, given_flags, flags)
+opus_flips a b = grind (arith, given_numbers, score_given_flags_flip, score_flags_flip)
 
 modes_flip : (m n : Option ℕ) → mode_score m n ≡ mode_score n m
 modes_flip m n = grind arith
 
 amr_wb_flips : (a b : CodecSpec) → amr_wb_score a b ≡ amr_wb_score b a
-amr_wb_flips a b = grind (arith, is_mono, and_comm, flags, modes_flip)
+amr_wb_flips a b = grind (arith, is_mono, and_comm, score_flags_flip, modes_flip)
 
 h264_levels_flip : (x y : Option H264ProfileLevel) → h264_level_score x y ≡ h264_level_score y x
 h264_levels_flip x y = grind arith

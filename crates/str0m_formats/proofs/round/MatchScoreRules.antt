@@ -21,8 +21,8 @@ of_channels : (c : Codec) (a b : CodecSpec) → same_number a.channels b.channel
 of_channels c a b e t m = grind arith
 
 module _ (a b : CodecSpec) where
-  differ : (a ≡ b → ⊥) → same_spec a b ≡ false
-  differ n = fails (same_spec a b) (spec_Decides a b) n
+  specs_differ : (a ≡ b → ⊥) → same_spec a b ≡ false
+  specs_differ n = fails (same_spec a b) (spec_Decides a b) n
 
   not_same_codec : (a.codec ≡ b.codec → ⊥) → same_codec a.codec b.codec ≡ false
   not_same_codec n = fails (same_codec a.codec b.codec) (codec_Decides a.codec b.codec) n
@@ -38,19 +38,19 @@ module _ (a b : CodecSpec) where
       let r = (unsigned_Decides a.clock_rate b.clock_rate).1 k in
       elim (test_either_way (same_spec a b) (spec_Decides a b)) [
         | inl p ↦ let m = (codec_Decides a.codec AmrWb).1 (same p) in rw (m, and-false, c, r) refl
-        | inr n ↦ let s = differ n in rw (s, c, r) refl
+        | inr n ↦ let s = specs_differ n in rw (s, c, r) refl
       ]
 
   pub score_rules : IsScore a b (score a b)
   unfolding score
   score_rules = record {
     equal = λ e n. let s = (spec_Decides a b).1 e in let m = not_amr_wb n in rw (s, m) refl;
-    codecs_differ = λ n. let s = differ (λ e. n (ap (λ (x : CodecSpec). x.codec) e)) in let c = not_same_codec n in rw (s, c) refl;
-    unknown = λ n u. let s = differ n in let own = score_of_unknown a.codec a b u in rw (s, own) (nothing_both _);
-    clock_rates_differ = λ n. let s = differ (λ e. n (ap (λ (x : CodecSpec). x.clock_rate) e)) in
+    codecs_differ = λ n. let s = specs_differ (λ e. n (ap (λ (x : CodecSpec). x.codec) e)) in let c = not_same_codec n in rw (s, c) refl;
+    unknown = λ n u. let s = specs_differ n in let own = score_of_unknown a.codec a b u in rw (s, own) (nothing_both _);
+    clock_rates_differ = λ n. let s = specs_differ (λ e. n (ap (λ (x : CodecSpec). x.clock_rate) e)) in
         let r = fails (a.clock_rate == b.clock_rate) (unsigned_Decides a.clock_rate b.clock_rate) n in
         rw (s, r, and-false) refl;
-    channels_differ = λ n t m. let s = differ (λ e. n (ap (λ (x : CodecSpec). x.channels) e)) in
+    channels_differ = λ n t m. let s = specs_differ (λ e. n (ap (λ (x : CodecSpec). x.channels) e)) in
         let own = of_channels a.codec a b (fails (same_number a.channels b.channels) (options_decided a.channels b.channels) n) t m in
         rw (s, own) (nothing_both _);
     alike = codec_own_score;

@@ -16,8 +16,8 @@ use Rattle.str0m_values.specs.H264.{named, level_ordinal, lower_level_of, lower_
 -- ---- formats that fit name one profile
 
 -- what holds only under a test
-if_not_none : {A : Type 0} (t : Bool) (o : Option A) → (if t then o else None) ≢ None → o ≢ None
-if_not_none t o h = grind arith
+level_if_not_none : {A : Type 0} (t : Bool) (o : Option A) → (if t then o else None) ≢ None → o ≢ None
+level_if_not_none t o h = grind arith
 
 levels-profile : (x y : H264ProfileLevel) → h264_level_score (Some x) (Some y) ≢ None → x.profile ≡ y.profile
 levels-profile x y = grind arith
@@ -43,8 +43,8 @@ same_profiles a b is some x y at_x at_y = elim (fit_rule a b some) [
       ap (λ (l : H264ProfileLevel). l.profile) (same_Some x y (sym at_x ∙ ap (λ spec. named (id spec)) e ∙ at_y))
   | inr own ↦
       let Fits : _ → Type 0 = λ codec. codec_score codec a b ≢ None in
-      let modes = if_not_none (same_number a.channels b.channels) _ (subst Fits is own) in
-      let levels = if_not_none (same_number_or 0 a.format.packetization_mode b.format.packetization_mode) _ modes in
+      let modes = level_if_not_none (same_number a.channels b.channels) _ (subst Fits is own) in
+      let levels = level_if_not_none (same_number_or 0 a.format.packetization_mode b.format.packetization_mode) _ modes in
       levels-profile x y (λ none. levels ((λ i. h264_level_score (at_x i) (at_y i)) ∙ none))
 ]
 

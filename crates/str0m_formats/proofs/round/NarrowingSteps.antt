@@ -1,6 +1,6 @@
 -- What a round makes of a row's spec: it stays, or is narrowed by one that it fits.
 use Rattle.str0m_formats.proofs.Common.{◌≡◌, ◌≢◌, Bool, true, false, List, Option, Some, None, Ok, refl, sym, ap, ◌∙◌, subst}
-use Rattle.str0m_formats.proofs.round.FirstPass.{same_Ok, placed-locked_row, placed-open_row, placed-no_choice, locked_parts}
+use Rattle.str0m_formats.proofs.round.FirstPass.{same_row_Ok, placed-locked_row, placed-open_row, placed-no_choice, locked_parts}
 use Rattle.str0m_formats.proofs.round.RoundsMatched.{some_score}
 use Rattle.str0m_formats.proofs.round.RoundsRowSteps.{row_steps}
 use Rattle.str0m_formats.proofs.round.SettlingPass.{settled_parts, settled-same}
@@ -36,7 +36,7 @@ module _ (Holds : CodecSpec → CodecSpec → Type 0) (same : (spec : CodecSpec)
     go : (b : Bool) → row.locked ≡ b → Holds row.spec new.spec
     go true l =
         let same = sym (placed-locked_row taken unlocked receives row c l) ∙ h in
-        let all = same_Ok (record row { spec = narrowed row.spec c.spec }) new same in
+        let all = same_row_Ok (record row { spec = narrowed row.spec c.spec }) new same in
         subst (Holds row.spec) (ap (λ r. r.spec) all) narrows
     go false l =
         let parts = locked_parts taken unlocked receives row c new (sym (placed-open_row taken unlocked receives row c l) ∙ h) in

@@ -5,7 +5,7 @@ use Rattle.str0m_formats.proofs.Common.{ap, ◌∙◌, arith, slice_get, option_
 use Rattle.str0m_formats.proofs.Common.{length-append, false≢true, and_parts, not-true, or_cases, or_left, or_right, or-false, cases_Bool}
 use Rattle.str0m_formats.proofs.Common.{eqb-true, eq-eqb, IfErr-at_err, fun_ext}
 use Rattle.str0m_formats.proofs.round.ClaimedSets.{type-is, two-are}
-use Rattle.str0m_formats.proofs.round.ClaimedTimes.{all_apart}
+use Rattle.str0m_formats.proofs.round.ClaimedTimes.{all_claimed_apart}
 use Rattle.str0m_formats.proofs.round.RoundsOutcome.{HasLarge, HasRepeat, RefusalCases, refusal_cases_of}
 use Rattle.str0m_formats.proofs.round.RoundsRowCounts.{length-split}
 use Rattle.str0m_formats.proofs.round.RoundsRowSteps.{role_cases, then_err}
@@ -14,7 +14,7 @@ use Rattle.str0m_formats.proofs.row.PayloadParamsSets.{has-append}
 use Rattle.str0m_formats.specs.declared.round.negotiation_error.NegotiationError.{NegotiationError}
 use Rattle.str0m_formats.specs.declared.round.negotiation_error.NegotiationError.TheVariants.{Exhausted, ClaimedTwice}
 use Rattle.str0m_formats.specs.declared.row.payload_params.PayloadParams.{PayloadParams}
-use Rattle.str0m_formats.specs.round.Claimed.{TypeSet, has, with_type, with_option, either, free, free_order}
+use Rattle.str0m_formats.specs.round.Claimed.{TypeSet, has, with_type, claimed_with_option, either_set, free, free_order}
 use Rattle.str0m_formats.specs.round.Narrowing.{narrowed}
 use Rattle.str0m_formats.specs.round.Rounds.{then_in_round, role_type, rtx_type, locked_to, placed, types_taken_by, types_taken_after}
 use Rattle.str0m_formats.specs.round.Rounds.{settled_row}
@@ -37,7 +37,7 @@ unfolding types_without_one
 types-has-without x t [] ne h = h
 types-has-without x t (y ∷ ys) ne h = grind (arith, types-has-without x t ys ne, or_cases, eqb-true, or_left, or_right)
 
-pub pigeons : (xs ys : List ℕ) → all_apart xs ≡ true → ((t : ℕ) → has xs t ≡ true → has ys t ≡ true) → length xs ≤ length ys
+pub pigeons : (xs ys : List ℕ) → all_claimed_apart xs ≡ true → ((t : ℕ) → has xs t ≡ true → has ys t ≡ true) → length xs ≤ length ys
 pigeons [] ys d h = omega arith
 pigeons (x ∷ xs) ys d h =
     grind (
@@ -59,7 +59,7 @@ all_used : (used : TypeSet) (xs : List ℕ) → find (λ t. not (used t)) xs ≡
 all_used used [] h t k = absurd (false≢true k)
 all_used used (x ∷ xs) h t k = grind (arith, all_used used xs, or_cases, none-some, eqb-true)
 
-preferred_apart : all_apart free_order ≡ true
+preferred_apart : all_claimed_apart free_order ≡ true
 unfolding free_order
 preferred_apart = refl
 
@@ -90,22 +90,22 @@ abbrev pub Demands : Bool → NegotiationError → Type 0
 Demands receives cause = (t : ℕ) × (receives ≡ true) × (cause ≡ ClaimedTwice t)
 
 abbrev Fails : TypeSet → TypeSet → Bool → NegotiationError → Type 0
-Fails taken unlocked receives cause = (free (either taken unlocked) ≡ None) ⊎ Demands receives cause
+Fails taken unlocked receives cause = (free (either_set taken unlocked) ≡ None) ⊎ Demands receives cause
 
 -- so it is beside what is taken and at most two types more
 abbrev RowFails : TypeSet → TypeSet → Bool → NegotiationError → Type 0
-RowFails taken unlocked receives cause = (more : List ℕ) × (length more ≤ 2) × Fails (either taken (has more)) unlocked receives cause
+RowFails taken unlocked receives cause = (more : List ℕ) × (length more ≤ 2) × Fails (either_set taken (has more)) unlocked receives cause
 
 none-fails : (taken unlocked : TypeSet) (receives : Bool)
-    → IfErr (ok_or (free (either taken unlocked)) Exhausted) (Fails taken unlocked receives)
+    → IfErr (ok_or (free (either_set taken unlocked)) Exhausted) (Fails taken unlocked receives)
 none-fails taken unlocked receives = grind arith
 
 fails_beside : {A : Type 0} (r : Result A NegotiationError) (taken set unlocked : TypeSet) (receives : Bool) (more : List ℕ)
-    → set ≡ either taken (has more) → length more ≤ 2
+    → set ≡ either_set taken (has more) → length more ≤ 2
     → IfErr r (Fails set unlocked receives) → IfErr r (RowFails taken unlocked receives)
 fails_beside r taken set unlocked receives more is few = grind arith
 
-either_types_no_more : (taken : TypeSet) → taken ≡ either taken (has [])
+either_types_no_more : (taken : TypeSet) → taken ≡ either_set taken (has [])
 either_types_no_more taken = fun_ext (λ t. sym (or-false (taken t)))
 
 -- ---- the first pass
@@ -143,10 +143,10 @@ placed-fails taken unlocked receives row (Some c) = go row.locked where
 
 -- fewer than 87 types leave a free one
 free_beside : (held more others : List ℕ) → length held + length more + length others < 87
-    → free (either (either (has held) (has more)) (has others)) ≡ None → ⊥
+    → free (either_set (either_set (has held) (has more)) (has others)) ≡ None → ⊥
 free_beside held more others room e =
     some_free ((held ++ more) ++ others) (omega (arith, room, length-append (held ++ more) others, length-append held more))
-    (ap free (has-append (held ++ more) others ∙ ap (λ (s : TypeSet). either s (has others)) (has-append held more)) ∙ e)
+    (ap free (has-append (held ++ more) others ∙ ap (λ (s : TypeSet). either_set s (has others)) (has-append held more)) ∙ e)
 
 -- with at most fourteen rows no row lacks a type in the first pass
 first_demands : (before remote : List PayloadParams) (receives : Bool) (cause : NegotiationError) → length before ≤ 14
@@ -205,9 +205,9 @@ second_room (m ∷ mid) (d ∷ done) row same next is_open =
           ap (λ b. length (types (cond (not b) (d ∷ filter (λ x. not x.locked) done) (filter (λ x. not x.locked) done)))) (f ∙ e) in
           omega (arith, rec, l, o, length-append (types_of d) (open_types done), length-types_of d)
 
-kept-fails : (locked taken unlocked : TypeSet) (receives : Bool) (t : ℕ)
+line_without_event_ranges-fails : (locked taken unlocked : TypeSet) (receives : Bool) (t : ℕ)
     → IfErr (ok_or (kept_or_free locked taken unlocked t) Exhausted) (Fails taken unlocked receives)
-kept-fails locked taken unlocked receives t = grind arith
+line_without_event_ranges-fails locked taken unlocked receives t = grind arith
 
 kept_rtx-fails : (locked taken unlocked : TypeSet) (receives : Bool) (own : Option ℕ)
     → IfErr (kept_rtx locked taken unlocked own) (Fails taken unlocked receives)
@@ -218,7 +218,8 @@ settled-fails : (locked taken unlocked : TypeSet) (receives : Bool) (row : Paylo
 unfolding settled_row
 settled-fails locked taken unlocked receives row = go row.locked where
   go : (b : Bool) → IfErr (cond b (Ok row) (then_in_round (ok_or (kept_or_free locked taken unlocked row.pt) Exhausted) (λ pt.
-      then_in_round (kept_rtx locked (with_option (with_type taken pt) (kept_red locked (with_type taken pt) unlocked row.red)) unlocked
+      then_in_round (kept_rtx locked (claimed_with_option (with_type taken pt) (kept_red locked (with_type taken pt) unlocked row.red))
+      unlocked
       row.resend) (λ resend.
       Ok (record row { pt = pt; resend = resend; red = kept_red locked (with_type taken pt) unlocked row.red })))))
       (RowFails taken unlocked receives)
@@ -227,10 +228,10 @@ settled-fails locked taken unlocked receives row = go row.locked where
       then_err (ok_or (kept_or_free locked taken unlocked row.pt) Exhausted) _ (RowFails taken unlocked receives)
       (fails_beside (ok_or (kept_or_free locked taken unlocked row.pt) Exhausted) taken taken unlocked receives []
       (either_types_no_more taken)
-      (omega arith) (kept-fails locked taken unlocked receives row.pt))
+      (omega arith) (line_without_event_ranges-fails locked taken unlocked receives row.pt))
       (λ pt.
       let red = kept_red locked (with_type taken pt) unlocked row.red in
-      let two = with_option (with_type taken pt) red in
+      let two = claimed_with_option (with_type taken pt) red in
       then_err (kept_rtx locked two unlocked row.resend) _ (RowFails taken unlocked receives)
       (fails_beside (kept_rtx locked two unlocked row.resend) taken two unlocked receives (pt ∷ option_to_list red) (two-are taken pt red)
       (omega (arith, short red)) (kept_rtx-fails locked two unlocked receives row.resend))

@@ -5,13 +5,14 @@ use Rattle.str0m_formats.proofs.Common.{not-true, take_all}
 use Rattle.str0m_formats.proofs.round.ClaimedTimes.{type_times-append, type_times-nil, type_times-none}
 use Rattle.str0m_formats.proofs.round.RoundsInvariants.{locked_alone}
 use Rattle.str0m_formats.proofs.round.RoundsPasses.{pass_none_within}
-use Rattle.str0m_formats.proofs.round.RoundsRowCounts.{drop_suc, times_where-cons, times_where-drop, times_where-fewer, type_times-split}
+use Rattle.str0m_formats.proofs.round.RoundsRowCounts.{rows_drop_suc, times_where-cons, times_where-drop, times_where-fewer}
+use Rattle.str0m_formats.proofs.round.RoundsRowCounts.{type_times-split}
 use Rattle.str0m_formats.proofs.round.RoundsRowCounts.{StandingTimes, standing_step}
 use Rattle.str0m_formats.proofs.round.RoundsWhole.{row_before, round_begun_open}
 use Rattle.str0m_formats.proofs.round.SettlingPass.{settled-locked, SettledParts, settled_parts, settled-same}
 use Rattle.str0m_formats.proofs.round.SettlingRows.{row-held, row-once}
 use Rattle.str0m_formats.specs.declared.row.payload_params.PayloadParams.{PayloadParams}
-use Rattle.str0m_formats.specs.round.Claimed.{has, either, type_times, AllTypesDistinct}
+use Rattle.str0m_formats.specs.round.Claimed.{has, either_set, type_times, AllTypesDistinct}
 use Rattle.str0m_formats.specs.round.Rounds.{types_taken_after, AllRoundsBegun, Settled, RoundLeaves}
 use Rattle.str0m_formats.specs.row.PayloadParams.{types_of, types, locked_types, open_types}
 
@@ -30,7 +31,7 @@ times_at_place : (rows : List PayloadParams) (i t : ℕ) (row : PayloadParams) �
 times_at_place rows i t row at_row l =
     grind (
       arith,
-      drop_suc rows i row at_row,
+      rows_drop_suc rows i row at_row,
       times_where-cons distinct_is_open row (drop (suc i) rows) t,
       times_where-drop distinct_is_open rows i t,
     )
@@ -42,7 +43,7 @@ module _ (before remote : List PayloadParams) (receives : Bool) (mid after : Lis
   distinct_open_step : (i : ℕ) (row new : PayloadParams) → slice_get mid i ≡ Some row → slice_get after i ≡ Some new → row.locked ≡ false
       → StandingTimes distinct_is_open mid after i t ≤ 1 → StandingTimes distinct_is_open mid after (suc i) t ≤ 1
   distinct_open_step i row new at_row at_new l rec = go
-      (cases_Bool (either (types_taken_after mid (take i after)) (has (open_types before)) t)) where
+      (cases_Bool (either_set (types_taken_after mid (take i after)) (has (open_types before)) t)) where
         parts : SettledParts (has (locked_types mid)) (types_taken_after mid (take i after)) (has (open_types before)) row new
         parts = settled_parts _ _ _ row new (second.each i row new at_row at_new) l
 
@@ -54,8 +55,8 @@ module _ (before remote : List PayloadParams) (receives : Bool) (mid after : Lis
             (settled-locked _ _ _ row new (second.each i row new at_row at_new) ∙ l) in
             omega (arith, standing_step distinct_is_open mid after i t row new at_row at_new, old_open, new_open)
 
-        go : (either (types_taken_after mid (take i after)) (has (open_types before)) t ≡ true) ⊎
-            (either (types_taken_after mid (take i after)) (has (open_types before)) t ≡ false)
+        go : (either_set (types_taken_after mid (take i after)) (has (open_types before)) t ≡ true) ⊎
+            (either_set (types_taken_after mid (take i after)) (has (open_types before)) t ≡ false)
             → StandingTimes distinct_is_open mid after (suc i) t ≤ 1
         go (inl h) = omega (arith, changed, rec, row-held _ _ _ row new parts t h)
         go (inr h) =

@@ -16,7 +16,7 @@ use Rattle.str0m_formats.proofs.round.SettlingRows.{row-apart}
 use Rattle.str0m_formats.proofs.row.PayloadParamsSets.{has-append}
 use Rattle.str0m_formats.specs.codec.Codec.{Content, audio, content}
 use Rattle.str0m_formats.specs.declared.row.payload_params.PayloadParams.{PayloadParams}
-use Rattle.str0m_formats.specs.round.Claimed.{TypeSet, has, with_type, with_option, either, free, type_times, AllTypesDistinct}
+use Rattle.str0m_formats.specs.round.Claimed.{TypeSet, has, with_type, claimed_with_option, either_set, free, type_times, AllTypesDistinct}
 use Rattle.str0m_formats.specs.round.Rounds.{red_type, only_audio, locked_to, placed, types_taken_by, types_taken_after, AllRoundsBegun}
 use Rattle.str0m_formats.specs.round.Rounds.{RoundLeaves}
 use Rattle.str0m_formats.specs.round.RoundsPromises.{LockedStandAlone}
@@ -27,8 +27,8 @@ use Rattle.str0m_formats.specs.row.PayloadParams.{types_of, types, locked_types,
 abbrev IsUntaken : TypeSet → ℕ → Type 0
 IsUntaken taken t = taken t ≡ false
 
-free-new : (taken unlocked : TypeSet) (t : ℕ) → free (either taken unlocked) ≡ Some t → IsUntaken taken t
-free-new taken unlocked t e = (or_parts (taken t) (unlocked t) (free-small (either taken unlocked) t e).1).0
+free-new : (taken unlocked : TypeSet) (t : ℕ) → free (either_set taken unlocked) ≡ Some t → IsUntaken taken t
+free-new taken unlocked t e = (or_parts (taken t) (unlocked t) (free-small (either_set taken unlocked) t e).1).0
 
 untaken_itself : (taken : TypeSet) (o : Option ℕ) → IfSome o (λ t. taken t ≡ false → IsUntaken taken t)
 untaken_itself taken o = grind arith
@@ -37,7 +37,7 @@ untaken_itself taken o = grind arith
 abbrev NewTypes : TypeSet → List ℕ → Type 0
 NewTypes taken new = AllTypesDistinct new × ((t : ℕ) → taken t ≡ true → type_times new t ≡ 0)
 
-round_new_push : (taken : TypeSet) (ls : List ℕ) (x : ℕ) → NewTypes taken ls → IsUntaken (either taken (has ls)) x
+round_new_push : (taken : TypeSet) (ls : List ℕ) (x : ℕ) → NewTypes taken ls → IsUntaken (either_set taken (has ls)) x
     → NewTypes taken (ls ++ x ∷ [])
 round_new_push taken ls x n fresh =
     let parts = or_parts (taken x) (has ls x) fresh in
@@ -48,17 +48,18 @@ round_new_push taken ls x n fresh =
           let none : cond {A = ℕ} (x == t) 1 0 ≡ 0 = ap (λ b. cond {A = ℕ} b 1 0) e in
           omega (arith, type_times-append ls (x ∷ []) t, type_times-cons x [] t, type_times-nil t, none, n.1 t h)
 
-new_option : (taken set : TypeSet) (ls : List ℕ) (o : Option ℕ) → NewTypes taken ls → set ≡ either taken (has ls) → IfSome o (IsUntaken set)
+claim_new_option : (taken set : TypeSet) (ls : List ℕ) (o : Option ℕ) → NewTypes taken ls → set ≡ either_set taken (has ls)
+    → IfSome o (IsUntaken set)
     → NewTypes taken (ls ++ option_to_list o)
-new_option taken set ls None n is h = subst (NewTypes taken) (sym (append-nil ls)) n
-new_option taken set ls (Some x) n is h = round_new_push taken ls x n (ap (λ s. s x) (sym is) ∙ h)
+claim_new_option taken set ls None n is h = subst (NewTypes taken) (sym (append-nil ls)) n
+claim_new_option taken set ls (Some x) n is h = round_new_push taken ls x n (ap (λ s. s x) (sym is) ∙ h)
 
 pub locked_to-new : (taken unlocked : TypeSet) (receives : Bool) (row choice new : PayloadParams)
     → locked_to taken unlocked receives row choice ≡ Ok new → NewTypes taken (types_of new)
 locked_to-new taken unlocked receives row choice new h =
     let parts = locked_parts taken unlocked receives row choice new h in
     let one = with_type taken parts.pt in
-    let two = with_option one parts.resend in
+    let two = claimed_with_option one parts.resend in
     let pt : IsUntaken taken parts.pt =
     IfOk-at_ok (IsUntaken taken) parts.pt_is
     (role-given (IsUntaken taken) taken unlocked (free-new taken unlocked) receives choice.pt (Some row.pt) (λ new. new) (λ new. new))
@@ -73,8 +74,8 @@ locked_to-new taken unlocked receives row choice new h =
     let primary : NewTypes taken (parts.pt ∷ []) =
     round_new_push taken [] parts.pt ((λ t. omega (arith, type_times-nil t)), (λ t k. refl)) (or-false (taken parts.pt) ∙ pt) in
     let pair : NewTypes taken (parts.pt ∷ option_to_list parts.resend) =
-    new_option taken one (parts.pt ∷ []) parts.resend primary (type-is taken parts.pt) resend in
-    subst New parts.all (new_option taken two (parts.pt ∷ option_to_list parts.resend) _ pair (two-are taken parts.pt parts.resend)
+    claim_new_option taken one (parts.pt ∷ []) parts.resend primary (type-is taken parts.pt) resend in
+    subst New parts.all (claim_new_option taken two (parts.pt ∷ option_to_list parts.resend) _ pair (two-are taken parts.pt parts.resend)
     (kept two _ red (content row.spec.codec))) where
       kept : (set : TypeSet) (o : Option ℕ) → IfSome o (IsUntaken set) → (c : Content) → IfSome (only_audio c o) (IsUntaken set)
       kept set o f audio = f

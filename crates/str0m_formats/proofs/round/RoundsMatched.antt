@@ -1,7 +1,7 @@
 -- Which rows a round locks, and at which types.
 use Rattle.str0m_formats.proofs.Common.{arith, ◌≡◌, ◌≢◌, ℕ, Bool, true, false, not, ◌&&◌, List, Option, Some, None, Ok, refl, sym, ap, ◌∙◌}
 use Rattle.str0m_formats.proofs.Common.{subst, fun_ext, Contains}
-use Rattle.str0m_formats.proofs.round.FirstPass.{then_in_round-ok, same_Ok, locked_to-locks, placed-open_row, placed-no_choice}
+use Rattle.str0m_formats.proofs.round.FirstPass.{then_in_round-ok, same_row_Ok, locked_to-locks, placed-open_row, placed-no_choice}
 use Rattle.str0m_formats.proofs.round.FirstPass.{locked_parts}
 use Rattle.str0m_formats.proofs.round.RoundsLocked.{locked_stay}
 use Rattle.str0m_formats.proofs.round.RoundsPasses.{pass_split_has}
@@ -66,7 +66,7 @@ role-received taken unlocked asked own t h = grind arith
 
 rtx-received : (taken unlocked : TypeSet) (asked own new : Option ℕ) → rtx_type taken unlocked true asked own ≡ Ok new → asked ≡ new
 unfolding rtx_type
-rtx-received taken unlocked asked own new h = grind (arith, same_Ok, then_in_round-ok, role-received)
+rtx-received taken unlocked asked own new h = grind (arith, same_row_Ok, then_in_round-ok, role-received)
 
 -- what is said of a newly locked row
 abbrev AtBest : List PayloadParams → PayloadParams → PayloadParams → Type 0

@@ -3,7 +3,7 @@ use Rattle.str0m_formats.proofs.Common.{rules, ◌≡◌, ℕ, ◌<◌, ◌≤�
 use Rattle.str0m_formats.proofs.Common.{Option, Some, None, Result, Ok, Err, IfSome, All, refl, sym, ap, ◌∙◌, subst, arith, slice_get}
 use Rattle.str0m_formats.proofs.Common.{slice_get_within, none-some, same_Some, All-contains, take_all, cases_order, eq-eqb}
 use Rattle.str0m_formats.proofs.round.ClaimedTimes.{type_times-append, type_times-cons, type_times-some}
-use Rattle.str0m_formats.proofs.round.FirstPass.{same_Ok, same_Err}
+use Rattle.str0m_formats.proofs.round.FirstPass.{same_row_Ok, same_Err}
 use Rattle.str0m_formats.proofs.round.RoundsPasses.{EachPlace, pass_split_has, pass_each_same, pass_none_within}
 use Rattle.str0m_formats.specs.declared.round.negotiation_error.NegotiationError.{NegotiationError}
 use Rattle.str0m_formats.specs.declared.round.negotiation_error.NegotiationError.TheVariants.{TypeTooLarge, ClaimedTwice}
@@ -76,7 +76,8 @@ same_so_far : {A : Type 0} (O : List A → A → Result A NegotiationError → T
     → EachPlace (λ d r n. O d r (Ok n)) rows xs → EachPlace (λ d r n. O d r (Ok n)) rows ys → length xs ≤ length rows
     → length xs ≤ length ys → take (length xs) ys ≡ xs
 same_so_far O one rows xs ys ex ey l h =
-    sym (pass_each_same (λ d r n. O d r (Ok n)) rows xs ys (λ d r a b ha hb. same_Ok a b (one d r (Ok a) (Ok b) ha hb)) ex ey l (length xs)
+    sym (pass_each_same (λ d r n. O d r (Ok n)) rows xs ys (λ d r a b ha hb. same_row_Ok a b (one d r (Ok a) (Ok b) ha hb)) ex ey l
+    (length xs)
     (omega arith) h) ∙ take_all (length xs) xs (omega arith)
 
 pub whole_unique : {A : Type 0} (O : List A → A → Result A NegotiationError → Type 0)
@@ -165,8 +166,8 @@ round_unique before remote receives x y hx hy =
     (hy.whole ∙ ap length (sym same))
 
 -- a list without repeats has no first repeat, and a list has one at most
-twice_there : (seen rest : List ℕ) (t : ℕ) → has seen t ≡ true → 2 ≤ type_times (seen ++ t ∷ rest) t
-twice_there seen rest t h = grind (
+type_twice_there : (seen rest : List ℕ) (t : ℕ) → has seen t ≡ true → 2 ≤ type_times (seen ++ t ∷ rest) t
+type_twice_there seen rest t h = grind (
   arith,
   eq-eqb t t,
   type_times-append seen (t ∷ rest) t,
@@ -177,7 +178,7 @@ twice_there seen rest t h = grind (
 pub repeat_not_once : (xs : List ℕ) (t : ℕ) → AllTypesDistinct xs → IsFirstRepeat xs t → ⊥
 repeat_not_once xs t d r =
     let At : List ℕ → Type 0 = λ ys. 2 ≤ type_times ys t in
-    let again : 2 ≤ type_times xs t = subst At (sym r.split) (twice_there r.seen r.rest t r.again) in omega (arith, d t, again)
+    let again : 2 ≤ type_times xs t = subst At (sym r.split) (type_twice_there r.seen r.rest t r.again) in omega (arith, d t, again)
 
 repeat_unique : (xs : List ℕ) (s t : ℕ) → IsFirstRepeat xs s → IsFirstRepeat xs t → s ≡ t
 repeat_unique xs s t hs ht =

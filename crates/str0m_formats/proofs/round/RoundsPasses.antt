@@ -25,8 +25,8 @@ pass_split_has {A} zs xs y ys e = let Has : List A → Type 0 = λ l. Contains l
 pub at_place : {A : Type 0} (P : A → Type 0) (xs : List A) (i : ℕ) (x : A) → All P xs → slice_get xs i ≡ Some x → P x
 at_place P xs i x all e = subst P (get_or_from_slice_get xs i x x e) (all i x (slice_get_within xs i x e))
 
-pub from_places : {A : Type 0} (P : A → Type 0) (xs : List A) → ((i : ℕ) (x : A) → slice_get xs i ≡ Some x → P x) → All P xs
-from_places P xs h i d lt = h i (get_or xs i d) (slice_get-get_or xs i d lt)
+pub pass_from_places : {A : Type 0} (P : A → Type 0) (xs : List A) → ((i : ℕ) (x : A) → slice_get xs i ≡ Some x → P x) → All P xs
+pass_from_places P xs h i d lt = h i (get_or xs i d) (slice_get-get_or xs i d lt)
 
 -- a pass goes on by one row
 pub pass_each_push : {A : Type 0} (R : List A → A → A → Type 0) (rows done : List A) (row new : A) → EachPlace R rows done

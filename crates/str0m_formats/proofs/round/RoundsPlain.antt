@@ -1,9 +1,9 @@
 -- Plain rows stay plain through a round against rows whose numbers keep to their ranges.
 use Rattle.str0m_formats.proofs.Common.{arith, ◌≡◌, ◌≢◌, ℕ, Bool, true, false, List, Option, Some, None, Ok, IfSome, All, take, refl, sym}
 use Rattle.str0m_formats.proofs.Common.{ap, ◌∙◌, subst, slice_get, All-contains}
-use Rattle.str0m_formats.proofs.round.FirstPass.{row_types_small_at, same_Ok, placed-locked_row, placed-open_row, placed-no_choice}
+use Rattle.str0m_formats.proofs.round.FirstPass.{row_types_small_at, same_row_Ok, placed-locked_row, placed-open_row, placed-no_choice}
 use Rattle.str0m_formats.proofs.round.FirstPass.{locked_parts}
-use Rattle.str0m_formats.proofs.round.RoundsPasses.{at_place, pass_split_has, from_places}
+use Rattle.str0m_formats.proofs.round.RoundsPasses.{at_place, pass_split_has, pass_from_places}
 use Rattle.str0m_formats.proofs.round.RoundsRowSteps.{row_steps}
 use Rattle.str0m_formats.proofs.round.RoundsSmallTypes.{small_after}
 use Rattle.str0m_formats.proofs.round.RoundsWhole.{row_before}
@@ -99,7 +99,7 @@ placed-plain taken unlocked receives row new (Some c) h b p = go row.locked refl
   go : (b : Bool) → row.locked ≡ b → PlainBeside new
   go true l =
       let same = sym (placed-locked_row taken unlocked receives row c l) ∙ h in
-      subst PlainBeside (same_Ok (record row { spec = narrowed row.spec c.spec }) new same) (record {
+      subst PlainBeside (same_row_Ok (record row { spec = narrowed row.spec c.spec }) new same) (record {
         spec = spec-narrowed row.spec c.spec p.spec b.modes b.distance;
         as_video = λ e. let f = as_video e in record { nack = f.nack; pli = f.pli; fir = f.fir; remb = f.remb };
         redundant = λ some. carries ∙ p.redundant some;
@@ -155,4 +155,5 @@ plain_at_each before remote receives after r all bounded i new at_new =
 pub plain_stay : (before remote : List PayloadParams) (receives : Bool) (after : List PayloadParams)
     → RoundLeaves before remote receives after
     → All IsPlain before → All IsBounded remote → All IsPlain after
-plain_stay before remote receives after r all bounded = from_places IsPlain after (plain_at_each before remote receives after r all bounded)
+plain_stay before remote receives after r all bounded = pass_from_places IsPlain after
+    (plain_at_each before remote receives after r all bounded)

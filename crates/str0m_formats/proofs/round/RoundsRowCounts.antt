@@ -8,10 +8,10 @@ use Rattle.str0m_formats.specs.declared.row.payload_params.PayloadParams.{Payloa
 use Rattle.str0m_formats.specs.round.Claimed.{type_times}
 use Rattle.str0m_formats.specs.row.PayloadParams.{types_of, types, locked_types, open_types}
 
-pub drop_suc : {A : Type 0} (xs : List A) (i : ℕ) (x : A) → slice_get xs i ≡ Some x → drop i xs ≡ x ∷ drop (suc i) xs
-drop_suc [] i x e = absurd (cc)
-drop_suc (y ∷ xs) zero x e = ap (λ z. z ∷ xs) (same_Some y x e)
-drop_suc (y ∷ xs) (suc i) x e = drop_suc xs i x e
+pub rows_drop_suc : {A : Type 0} (xs : List A) (i : ℕ) (x : A) → slice_get xs i ≡ Some x → drop i xs ≡ x ∷ drop (suc i) xs
+rows_drop_suc [] i x e = absurd (cc)
+rows_drop_suc (y ∷ xs) zero x e = ap (λ z. z ∷ xs) (same_Some y x e)
+rows_drop_suc (y ∷ xs) (suc i) x e = rows_drop_suc xs i x e
 
 -- with one row more, first or last
 pub times_where-cons : (test : PayloadParams → Bool) (row : PayloadParams) (rows : List PayloadParams) (t : ℕ)
@@ -46,7 +46,7 @@ standing_step test rows done i t old new at_old at_new =
     ap (λ xs. type_times (types (filter test xs)) t) (take_suc done i new at_new) ∙ times_where-push test (take i done) new t in
     let back : type_times (types (filter test (drop i rows))) t ≡ type_times (cond (test old) (types_of old) []) t
     + type_times (types (filter test (drop (suc i) rows))) t =
-    ap (λ xs. type_times (types (filter test xs)) t) (drop_suc rows i old at_old) ∙ times_where-cons test old (drop (suc i) rows) t in
+    ap (λ xs. type_times (types (filter test xs)) t) (rows_drop_suc rows i old at_old) ∙ times_where-cons test old (drop (suc i) rows) t in
     omega (arith, front, back)
 
 -- a list whose passing rows stand in another at their places has no more

@@ -5,7 +5,7 @@ use Rattle.str0m_formats.proofs.round.RoundsWhole.{row_before}
 use Rattle.str0m_formats.specs.declared.round.negotiation_error.NegotiationError.{NegotiationError}
 use Rattle.str0m_formats.specs.declared.round.negotiation_error.NegotiationError.TheVariants.{Exhausted, ClaimedTwice}
 use Rattle.str0m_formats.specs.declared.row.payload_params.PayloadParams.{PayloadParams}
-use Rattle.str0m_formats.specs.round.Claimed.{TypeSet, has, either, free}
+use Rattle.str0m_formats.specs.round.Claimed.{TypeSet, has, either_set, free}
 use Rattle.str0m_formats.specs.round.Rounds.{then_in_round, role_type, rtx_type, red_type, types_taken_by, types_taken_after, settled_row}
 use Rattle.str0m_formats.specs.round.Rounds.{kept_red, Becomes}
 use Rattle.str0m_formats.specs.round.Rounds.{RoundLeaves}
@@ -29,21 +29,21 @@ free_cases P used some none = grind arith
 -- a role has the type that is asked for, its own or a free one, or is refused what is demanded
 pub role_cases : (P : Result ℕ NegotiationError → Type 0) (taken unlocked : TypeSet) (receives : Bool) (asked : ℕ) (own : Option ℕ)
     → (taken asked ≡ false → P (Ok asked)) → (receives ≡ true → P (Err (ClaimedTwice asked))) → IfSome own (λ t. taken t ≡ false → P (Ok t))
-    → P (ok_or (free (either taken unlocked)) Exhausted)
+    → P (ok_or (free (either_set taken unlocked)) Exhausted)
     → P (role_type taken unlocked receives asked own)
 unfolding role_type
 role_cases P taken unlocked receives asked own is_asked demanded is_own is_free = grind arith
 
 -- what holds of a free type, and of each that may be kept, holds of the types that roles are given
-module _ (Q : ℕ → Type 0) (taken unlocked : TypeSet) (given : (t : ℕ) → free (either taken unlocked) ≡ Some t → Q t) where
-  free_given : (o : Option ℕ) → free (either taken unlocked) ≡ o → IfSome o Q
+module _ (Q : ℕ → Type 0) (taken unlocked : TypeSet) (given : (t : ℕ) → free (either_set taken unlocked) ≡ Some t → Q t) where
+  free_given : (o : Option ℕ) → free (either_set taken unlocked) ≡ o → IfSome o Q
   free_given o e = grind arith
 
   pub role-given : (receives : Bool) (asked : ℕ) (own : Option ℕ) → (taken asked ≡ false → Q asked)
       → IfSome own (λ t. taken t ≡ false → Q t) → IfOk (role_type taken unlocked receives asked own) Q
   role-given receives asked own is_asked is_own =
       role_cases (λ r. IfOk r Q) taken unlocked receives asked own is_asked (λ _. tt) is_own
-      (free_cases (λ r. IfOk r Q) (either taken unlocked) given (λ _. tt))
+      (free_cases (λ r. IfOk r Q) (either_set taken unlocked) given (λ _. tt))
 
   pub rtx-given : (receives : Bool) (asked own : Option ℕ) → IfSome asked (λ t. taken t ≡ false → Q t)
       → IfSome own (λ t. taken t ≡ false → Q t) → IfOk (rtx_type taken unlocked receives asked own) (λ o. IfSome o Q)
@@ -58,9 +58,9 @@ module _ (Q : ℕ → Type 0) (taken unlocked : TypeSet) (given : (t : ℕ) → 
   unfolding red_type
   red-given receives asked own is_asked = grind arith
 
-  pub kept-given : (locked : TypeSet) (own : Option ℕ) → IfSome own (λ t. locked t ≡ false → Q t)
+  pub line_without_event_ranges-given : (locked : TypeSet) (own : Option ℕ) → IfSome own (λ t. locked t ≡ false → Q t)
       → IfSome (kept_red locked taken unlocked own) Q
-  kept-given locked own is_own = grind arith
+  line_without_event_ranges-given locked own is_own = grind arith
 
 -- the row between the passes, and what each pass does
 pub record RowSteps (before remote : List PayloadParams) (receives : Bool) (mid after : List PayloadParams) (i : ℕ)

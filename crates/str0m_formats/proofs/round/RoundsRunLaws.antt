@@ -4,7 +4,7 @@ use Rattle.str0m_formats.proofs.Common.{arith, same_Some, All-nil, All-cons, All
 use Rattle.str0m_formats.proofs.round.NarrowingLevels.{NarrowsLevels, narrows_levels-same, narrows_levels-then}
 use Rattle.str0m_formats.proofs.round.NarrowingTelephone.{Narrows, narrows-same, narrows-then}
 use Rattle.str0m_formats.proofs.round.RoundsCounting.{never_exhausted}
-use Rattle.str0m_formats.proofs.round.RoundsLocked.{stays-same, stays-then}
+use Rattle.str0m_formats.proofs.round.RoundsLocked.{locked-stays-same, locked-stays-then}
 use Rattle.str0m_formats.proofs.round.RoundsMemory.{only_for_memory}
 use Rattle.str0m_formats.proofs.round.RoundsPromised.{promised}
 use Rattle.str0m_formats.proofs.round.RoundsSmallTypes.{small-append, type_bounds_kept}
@@ -144,7 +144,7 @@ pub run_promised : (before : List PayloadParams) (rounds : List Round) (outcomes
 run_promised before rounds outcomes after r = record {
   each = promised_each before rounds outcomes after r;
   rows = over (λ a b. length b ≡ length a) (λ rows. refl) (λ a b c first second. second ∙ first) (λ a round b p. p.rows);
-  stay = in_places (λ old new. old.locked ≡ true → StaysLocked old new) stays-same stays-then (λ a round b p. p.stay);
+  stay = in_places (λ old new. old.locked ≡ true → StaysLocked old new) locked-stays-same locked-stays-then (λ a round b p. p.stay);
   distinct = over (λ a b. AllTypesDistinct (types a) → AllTypesDistinct (types b)) (λ rows d. d) (λ a b c first second d. second (first d))
       (λ a round b p. p.distinct);
   telephone = in_places (λ old new. Narrows old.spec new.spec) (λ row. narrows-same row.spec) (λ a b c. narrows-then a.spec b.spec c.spec)

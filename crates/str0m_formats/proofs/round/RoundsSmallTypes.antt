@@ -7,13 +7,13 @@ use Rattle.str0m_formats.proofs.round.FirstPass.{none-parts, row_types_small_at,
 use Rattle.str0m_formats.proofs.round.FirstPass.{placed-no_choice}
 use Rattle.str0m_formats.proofs.round.FirstPass.{locked_parts}
 use Rattle.str0m_formats.proofs.round.RoundsInvariants.{locked_once}
-use Rattle.str0m_formats.proofs.round.RoundsRowSteps.{row_steps, role-given, rtx-given, red-given, kept-given}
+use Rattle.str0m_formats.proofs.round.RoundsRowSteps.{row_steps, role-given, rtx-given, red-given, line_without_event_ranges-given}
 use Rattle.str0m_formats.proofs.round.RoundsWhole.{row_before}
 use Rattle.str0m_formats.proofs.round.SettlingPass.{settled_parts, new_red, new_resend, with_red, settled-same}
 use Rattle.str0m_formats.specs.codec.Codec.{Content, content}
 use Rattle.str0m_formats.specs.declared.row.payload_params.PayloadParams.{PayloadParams}
 use Rattle.str0m_formats.specs.round.Choices.{points_for}
-use Rattle.str0m_formats.specs.round.Claimed.{TypeSet, with_type, with_option, either, free, AllTypesDistinct}
+use Rattle.str0m_formats.specs.round.Claimed.{TypeSet, with_type, claimed_with_option, either_set, free, AllTypesDistinct}
 use Rattle.str0m_formats.specs.round.Rounds.{red_type, only_audio, placed, settled_row, RoundLeaves}
 use Rattle.str0m_formats.specs.row.PayloadParams.{AllTypesSmall, types_of, types, locked_types}
 
@@ -45,8 +45,8 @@ roles_of row h = grind arith
 of_roles : (p : ℕ) (x r : Option ℕ) → Small p → IfSome x Small → IfSome r Small → AllTypesSmall (p ∷ (option_to_list x ++ option_to_list r))
 of_roles p x r hp hx hr = grind arith
 
-free-fits : (taken unlocked : TypeSet) (t : ℕ) → free (either taken unlocked) ≡ Some t → Small t
-free-fits taken unlocked t e = ap (λ b. cond {A = Option ℕ} b (Some t) None) (le-ltb 127 t (free-small (either taken unlocked) t e).0)
+free-fits : (taken unlocked : TypeSet) (t : ℕ) → free (either_set taken unlocked) ≡ Some t → Small t
+free-fits taken unlocked t e = ap (λ b. cond {A = Option ℕ} b (Some t) None) (le-ltb 127 t (free-small (either_set taken unlocked) t e).0)
 
 -- whether it is in a set or not
 anyway : (set : TypeSet) (o : Option ℕ) → IfSome o Small → IfSome o (λ t. set t ≡ false → Small t)
@@ -69,7 +69,7 @@ placed-small taken unlocked receives row new (Some c) h s k = go row.locked refl
       let own = roles_of row s in
       let asked = roles_of c k in
       let one = with_type taken parts.pt in
-      let two = with_option one parts.resend in
+      let two = claimed_with_option one parts.resend in
       let red = red_type two unlocked receives c.red row.red in
       ap (λ r. find (nat_lt 127) (types_of r)) (sym parts.all)
       ∙ of_roles parts.pt parts.resend (only_audio (content row.spec.codec) red)
@@ -96,9 +96,10 @@ settled-small locked taken unlocked row new h s = go row.locked refl where
       let Fits : Option ℕ → Type 0 = λ o. IfSome o Small in
       ap (λ r. find (nat_lt 127) (types_of r)) (sym parts.all)
       ∙ of_roles parts.pt (new_resend locked taken unlocked row parts.pt) (new_red locked taken unlocked row parts.pt)
-      (subst Fits parts.pt_is (kept-given Small taken unlocked (free-fits taken unlocked) locked (Some row.pt) (λ _. own.0)))
-      (kept-given Small two unlocked (free-fits two unlocked) locked row.resend (anyway locked row.resend own.1))
-      (kept-given Small one unlocked (free-fits one unlocked) locked row.red (anyway locked row.red own.2))
+      (subst Fits parts.pt_is (line_without_event_ranges-given Small taken unlocked (free-fits taken unlocked) locked (Some row.pt)
+      (λ _. own.0)))
+      (line_without_event_ranges-given Small two unlocked (free-fits two unlocked) locked row.resend (anyway locked row.resend own.1))
+      (line_without_event_ranges-given Small one unlocked (free-fits one unlocked) locked row.red (anyway locked row.red own.2))
 
 -- ---- a round
 

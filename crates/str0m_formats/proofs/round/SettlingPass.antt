@@ -4,13 +4,13 @@ use Rattle.str0m_formats.proofs.Common.{take, drop, get_or, Option, Some, None, 
 use Rattle.str0m_formats.proofs.Common.{slice_get, ok_or, append_assoc, append-nil, take_more_set, drop-set-lt, length-set, length-take-le}
 use Rattle.str0m_formats.proofs.Common.{length_push, drop_more_same, true≢false, eqb-true, or_parts, or-false, fun_ext, set}
 use Rattle.str0m_formats.proofs.round.ClaimedSets.{free-small, claimed_or_turned}
-use Rattle.str0m_formats.proofs.round.FirstPass.{then_in_round-ok, same_Ok}
+use Rattle.str0m_formats.proofs.round.FirstPass.{then_in_round-ok, same_row_Ok}
 use Rattle.str0m_formats.proofs.round.RoundsPasses.{EachPlace, pass_each_push, pass_get_from_rest}
 use Rattle.str0m_formats.proofs.row.PayloadParamsSets.{has-append, open_types-push}
 use Rattle.str0m_formats.specs.declared.round.negotiation_error.NegotiationError.{NegotiationError}
 use Rattle.str0m_formats.specs.declared.round.negotiation_error.NegotiationError.TheVariants.{Exhausted}
 use Rattle.str0m_formats.specs.declared.row.payload_params.PayloadParams.{PayloadParams}
-use Rattle.str0m_formats.specs.round.Claimed.{TypeSet, has, with_type, with_option, either, free}
+use Rattle.str0m_formats.specs.round.Claimed.{TypeSet, has, with_type, claimed_with_option, either_set, free}
 use Rattle.str0m_formats.specs.round.Claims.{ClaimsServe}
 use Rattle.str0m_formats.specs.round.Rounds.{settled_row, then_in_round, kept_or_free, kept_red, kept_rtx, types_taken_after, Settled}
 use Rattle.str0m_formats.specs.round.Rounds.{StopsSettling}
@@ -23,7 +23,7 @@ settling_not_ok e = cc
 
 pub settling_ok_or_found : (o : Option ℕ) (x : ℕ) → ok_or o Exhausted ≡ Ok x → o ≡ Some x
 settling_ok_or_found None x e = absurd (settling_not_ok e)
-settling_ok_or_found (Some y) x e = ap (λ z. Some z) (same_Ok y x e)
+settling_ok_or_found (Some y) x e = ap (λ z. Some z) (same_row_Ok y x e)
 
 -- the RED of a row that stays open, and then its RTX, once its primary type is settled
 abbrev pub new_red : TypeSet → TypeSet → TypeSet → PayloadParams → ℕ → Option ℕ
@@ -31,7 +31,7 @@ new_red locked taken unlocked row pt = kept_red locked (with_type taken pt) unlo
 
 -- what is taken once its RED is settled, too
 abbrev pub with_red : TypeSet → TypeSet → TypeSet → PayloadParams → ℕ → TypeSet
-with_red locked taken unlocked row pt = with_option (with_type taken pt) (new_red locked taken unlocked row pt)
+with_red locked taken unlocked row pt = claimed_with_option (with_type taken pt) (new_red locked taken unlocked row pt)
 
 abbrev pub new_resend : TypeSet → TypeSet → TypeSet → PayloadParams → ℕ → Option ℕ
 new_resend locked taken unlocked row pt = kept_red locked (with_red locked taken unlocked row pt) unlocked row.resend
@@ -44,7 +44,8 @@ settled_if_locked locked taken unlocked row l = rw l refl
 
 -- what is left to do once the primary type is found, and once the RED is
 abbrev from_red : TypeSet → TypeSet → TypeSet → PayloadParams → ℕ → Option ℕ → Result PayloadParams NegotiationError
-from_red locked taken unlocked row pt red = then_in_round (kept_rtx locked (with_option (with_type taken pt) red) unlocked row.resend)
+from_red locked taken unlocked row pt red = then_in_round
+    (kept_rtx locked (claimed_with_option (with_type taken pt) red) unlocked row.resend)
     (λ resend. Ok (record row { pt = pt; resend = resend; red = red }))
 
 abbrev from_pt : TypeSet → TypeSet → TypeSet → PayloadParams → ℕ → Result PayloadParams NegotiationError
@@ -58,7 +59,7 @@ settled_if_open locked taken unlocked row l = rw l refl
 
 pub settled-same : (locked taken unlocked : TypeSet) (row new : PayloadParams) → settled_row locked taken unlocked row ≡ Ok new
     → row.locked ≡ true → new ≡ row
-settled-same locked taken unlocked row new h l = sym (same_Ok row new (settled_if_locked locked taken unlocked row l ∙ h))
+settled-same locked taken unlocked row new h l = sym (same_row_Ok row new (settled_if_locked locked taken unlocked row l ∙ h))
 
 -- what a row that stays open becomes
 pub record SettledParts (locked taken unlocked : TypeSet) (row new : PayloadParams) : Type 0 where
@@ -68,12 +69,12 @@ pub record SettledParts (locked taken unlocked : TypeSet) (row new : PayloadPara
 
 kept_rtx-is_kept_red : (locked taken unlocked : TypeSet) (own new : Option ℕ) → kept_rtx locked taken unlocked own ≡ Ok new
     → kept_red locked taken unlocked own ≡ new
-kept_rtx-is_kept_red locked taken unlocked None new h = same_Ok None new h
-kept_rtx-is_kept_red locked taken unlocked (Some t) new h = grind (arith, then_in_round-ok, settling_ok_or_found, same_Ok)
+kept_rtx-is_kept_red locked taken unlocked None new h = same_row_Ok None new h
+kept_rtx-is_kept_red locked taken unlocked (Some t) new h = grind (arith, then_in_round-ok, settling_ok_or_found, same_row_Ok)
 
 pub settled_parts : (locked taken unlocked : TypeSet) (row new : PayloadParams) → settled_row locked taken unlocked row ≡ Ok new
     → row.locked ≡ false → SettledParts locked taken unlocked row new
-settled_parts locked taken unlocked row new h l = grind (arith, then_in_round-ok, settled_if_open, kept_rtx-is_kept_red, same_Ok)
+settled_parts locked taken unlocked row new h l = grind (arith, then_in_round-ok, settled_if_open, kept_rtx-is_kept_red, same_row_Ok)
 
 -- a row stays locked or open
 pub settled-locked : (locked taken unlocked : TypeSet) (row new : PayloadParams) → settled_row locked taken unlocked row ≡ Ok new
@@ -85,14 +86,14 @@ settled-locked locked taken unlocked row new h = go row.locked refl where
 
 -- what a row adds to the types that are taken
 pub types_taken_after-push : (mid done : List PayloadParams) (row new : PayloadParams) → new.locked ≡ row.locked
-    → cond row.locked (types_taken_after mid done) (either (types_taken_after mid done) (has (types_of new)))
+    → cond row.locked (types_taken_after mid done) (either_set (types_taken_after mid done) (has (types_of new)))
     ≡ types_taken_after mid (done ++ new ∷ [])
 types_taken_after-push mid done row new e = go row.locked (sym e) where
   longer : locked_types mid ++ open_types (done ++ new ∷ []) ≡ (locked_types mid ++ open_types done) ++ cond new.locked [] (types_of new)
   longer = ap (λ ts. locked_types mid ++ ts) (open_types-push done new)
       ∙ sym (append_assoc (locked_types mid) (open_types done) (cond new.locked [] (types_of new)))
 
-  go : (b : Bool) → b ≡ new.locked → cond b (types_taken_after mid done) (either (types_taken_after mid done) (has (types_of new)))
+  go : (b : Bool) → b ≡ new.locked → cond b (types_taken_after mid done) (either_set (types_taken_after mid done) (has (types_of new)))
       ≡ types_taken_after mid (done ++ new ∷ [])
   go true l = ap has (sym (longer ∙ ap (λ b. (locked_types mid ++ open_types done) ++ cond b [] (types_of new)) (sym l)
       ∙ append-nil (locked_types mid ++ open_types done)))
@@ -116,8 +117,8 @@ settling_kept_serves claimed unlocked locked taken pt s open_before = record {
 
 -- a free type is claimed, and wasn't open before
 pub settling_given_serves : (claimed unlocked locked taken new : TypeSet) (result : Option ℕ) → ClaimsServe claimed unlocked locked taken
-    → result ≡ free (either claimed unlocked) → new ≡ with_option claimed result
-    → ClaimsServe new unlocked locked (with_option taken result)
+    → result ≡ free (either_set claimed unlocked) → new ≡ claimed_with_option claimed result
+    → ClaimsServe new unlocked locked (claimed_with_option taken result)
 settling_given_serves claimed unlocked locked taken new None s found e = grind arith
 settling_given_serves claimed unlocked locked taken new (Some y) s found e =
     let P : TypeSet → Type 0 = λ set. ClaimsServe set unlocked locked (with_type taken y) in
@@ -127,7 +128,7 @@ settling_given_serves claimed unlocked locked taken new (Some y) s found e =
           ∙ sym (claimed_or_turned (taken t) (y == t) (unlocked t)));
     }) where
       not_open : unlocked y ≡ false
-      not_open = (or_parts (claimed y) (unlocked y) (free-small (either claimed unlocked) y (sym found)).1).1
+      not_open = (or_parts (claimed y) (unlocked y) (free-small (either_set claimed unlocked) y (sym found)).1).1
 
       other : (t : ℕ) → unlocked t ≡ true → (b : Bool) → (y == t) ≡ b → (y == t) ≡ false
       other t u true h = absurd (true≢false (sym u ∙ ap unlocked (sym (eqb-true y t h)) ∙ not_open))
@@ -137,11 +138,11 @@ settling_given_serves claimed unlocked locked taken new (Some y) s found e =
 pub red_step : (claimed1 claimed2 unlocked unlocked1 unlocked2 locked taken : TypeSet) (red asked : Option ℕ) → unlocked1 ≡ unlocked
     → unlocked2 ≡ unlocked1 → ClaimsServe claimed1 unlocked locked taken
     → ((l t : TypeSet) → ClaimsServe claimed1 unlocked1 l t → red ≡ kept_red l t unlocked1 asked)
-    → ((l t : TypeSet) → ClaimsServe claimed1 unlocked1 l t → ClaimsServe claimed2 unlocked1 l (with_option t red))
-    → (red ≡ kept_red locked taken unlocked asked) × ClaimsServe claimed2 unlocked2 locked (with_option taken red)
+    → ((l t : TypeSet) → ClaimsServe claimed1 unlocked1 l t → ClaimsServe claimed2 unlocked1 l (claimed_with_option t red))
+    → (red ≡ kept_red locked taken unlocked asked) × ClaimsServe claimed2 unlocked2 locked (claimed_with_option taken red)
 red_step claimed1 claimed2 unlocked unlocked1 unlocked2 locked taken red asked same1 same2 s value claimed =
     let In : TypeSet → Type 0 = λ u. ClaimsServe claimed1 u locked taken in
-    let Out : TypeSet → Type 0 = λ u. ClaimsServe claimed2 u locked (with_option taken red) in
+    let Out : TypeSet → Type 0 = λ u. ClaimsServe claimed2 u locked (claimed_with_option taken red) in
     let s1 = subst In (sym same1) s in
     (value locked taken s1 ∙ ap (λ u. kept_red locked taken u asked) same1, subst Out (sym same2) (claimed locked taken s1))
 
@@ -155,7 +156,7 @@ settled_stops locked taken unlocked row pt cause l k e = grind (arith, settled_i
 pub settled_by : (locked taken unlocked : TypeSet) (row : PayloadParams) (pt : ℕ) (red : Option ℕ)
     (resend : Result (Option ℕ) NegotiationError) → row.locked ≡ false → Some pt ≡ kept_or_free locked taken unlocked row.pt
     → red ≡ kept_red locked (with_type taken pt) unlocked row.red
-    → resend ≡ kept_rtx locked (with_option (with_type taken pt) red) unlocked row.resend
+    → resend ≡ kept_rtx locked (claimed_with_option (with_type taken pt) red) unlocked row.resend
     → then_in_round resend (λ new. Ok (record row { pt = pt; resend = new; red = red })) ≡ settled_row locked taken unlocked row
 settled_by locked taken unlocked row pt red resend l k r e = grind (arith, settled_if_open)
 
@@ -182,7 +183,7 @@ pub settling_second_step : (unlocked : TypeSet) (mid rows : List PayloadParams) 
     → SecondState unlocked mid rows i claimed now_unlocked → i < length rows → row ≡ get_or rows i row
     → settled_row (has (locked_types mid)) (types_taken_after mid (take i rows)) now_unlocked row ≡ Ok new
     → ClaimsServe claimed' now_unlocked (has (locked_types mid))
-    (if row.locked then types_taken_after mid (take i rows) else either (types_taken_after mid (take i rows)) (has (types_of new)))
+    (if row.locked then types_taken_after mid (take i rows) else either_set (types_taken_after mid (take i rows)) (has (types_of new)))
     → now_unlocked' ≡ now_unlocked
     → SecondState unlocked mid (set rows i new) (i + 1) claimed' now_unlocked'
 settling_second_step unlocked mid rows i claimed now_unlocked claimed' now_unlocked' row new s h e p k u =
@@ -200,7 +201,7 @@ settling_second_step unlocked mid rows i claimed now_unlocked claimed' now_unloc
     let Taken : TypeSet → Type 0 = λ taken. ClaimsServe claimed' unlocked (has (locked_types mid)) taken in
     let Unlocked : TypeSet → Type 0 =
     λ x. ClaimsServe claimed' x (has (locked_types mid))
-    (cond row.locked (types_taken_after mid (take i rows)) (either (types_taken_after mid (take i rows)) (has (types_of new)))) in
+    (cond row.locked (types_taken_after mid (take i rows)) (either_set (types_taken_after mid (take i rows)) (has (types_of new)))) in
     record {
       done = record {
         within = omega (arith, ap length front, length_push (take i rows) new, there, s.whole);

@@ -6,7 +6,7 @@ use Rattle.str0m_formats.proofs.Common.{◌∙◌, subst, arith, AllByRecursion,
 use Rattle.str0m_formats.proofs.Common.{map-append, All-append, All-filter, All-weaker, All-contains, All-nil, unwrap_or, is_ok, IsOk}
 use Rattle.str0m_formats.proofs.Common.{All-contains_itself, All-from_recursion, recursion_from_All}
 use Rattle.str0m_formats.proofs.format.FormatParamsEqual.{codec_Decides}
-use Rattle.str0m_formats.proofs.round.ClaimedTimes.{one_time_if, type_times-cons, type_times-append, all_apart, once_within}
+use Rattle.str0m_formats.proofs.round.ClaimedTimes.{one_time_if, type_times-cons, type_times-append, all_claimed_apart, once_within}
 use Rattle.str0m_formats.specs.declared.codec.Codec.{Codec}
 use Rattle.str0m_formats.specs.declared.codec.TheConstants.{NAMED}
 use Rattle.str0m_formats.specs.declared.row.codec_config.CodecConfig.{CodecConfig}
@@ -35,14 +35,14 @@ default_at t = find (λ row. row.pt == t) table
 -- what the table shows of a row: its type is the codec's, each type of it is its own, and stands there once
 abbrev KnownDefault : PayloadParams → Type 0
 KnownDefault row = (is_codec row.spec.codec (default_at row.pt) ≡ true) × (list_all (λ t. row.pt == default_owner t) (types_of row) ≡ true)
-    × (all_apart (types_of row) ≡ true)
+    × (all_claimed_apart (types_of row) ≡ true)
 
 abbrev is_known_default : PayloadParams → Bool
 is_known_default row = is_codec row.spec.codec (default_at row.pt)
-    && (list_all (λ t. row.pt == default_owner t) (types_of row) && all_apart (types_of row))
+    && (list_all (λ t. row.pt == default_owner t) (types_of row) && all_claimed_apart (types_of row))
 
-known : (codec : Codec) (use_red : Bool) → list_all is_known_default (default_rows codec use_red) ≡ true
-known codec use_red = grind arith
+default_rows_known : (codec : Codec) (use_red : Bool) → list_all is_known_default (default_rows codec use_red) ≡ true
+default_rows_known codec use_red = grind arith
 
 abbrev primaries : List PayloadParams → List ℕ
 primaries rows = map (λ row. row.pt) rows
@@ -50,7 +50,7 @@ primaries rows = map (λ row. row.pt) rows
 -- the payload types of the rows of a codec are those of the codec, and differ
 once_new : (codec : Codec) (use_red : Bool)
     → (list_all (λ t. is_codec codec (default_at t)) (primaries (default_rows codec use_red)) ≡ true)
-    × (all_apart (primaries (default_rows codec use_red)) ≡ true)
+    × (all_claimed_apart (primaries (default_rows codec use_red)) ≡ true)
 once_new codec use_red = grind arith
 
 rows_known : (rows : List PayloadParams) → list_all is_known_default rows ≡ true → AllByRecursion KnownDefault rows
@@ -59,7 +59,7 @@ rows_known (row ∷ rows) all = grind (arith, and_parts, rows_known rows)
 
 known_default : (row : PayloadParams) → IsDefault row → KnownDefault row
 known_default row d = let rows = default_rows d.0 d.1 in
-    All-contains KnownDefault rows row (All-from_recursion KnownDefault rows (rows_known rows (known d.0 d.1))) d.2
+    All-contains KnownDefault rows row (All-from_recursion KnownDefault rows (rows_known rows (default_rows_known d.0 d.1))) d.2
 
 default_all_known : (rows : List PayloadParams) → All IsDefault rows → AllByRecursion KnownDefault rows
 default_all_known rows d = recursion_from_All KnownDefault rows (All-weaker IsDefault KnownDefault known_default rows d)

@@ -29,13 +29,13 @@ open_row s = record {
   locked = false;
 }
 
-abbrev eq_seen : Equality SeenRow
-eq_seen = hlevel (spec, equality)
+abbrev eq_seen_row : Equality SeenRow
+eq_seen_row = hlevel (spec, equality)
 
 pub row_Decides : (a b : PayloadParams) → Decides (row.eq-value.it a b) (SameRow a b)
 row_Decides a b =
     Decides-like _ (λ (e : as_seen a ≡ as_seen b). ap open_row e) (λ (e : SameRow a b). ap as_seen e)
-    (eq_seen.decides (as_seen a) (as_seen b))
+    (eq_seen_row.decides (as_seen a) (as_seen b))
 
 pub row_equivalence : IsEquivalence row.eq-value.it
 row_equivalence = equiv (record { symm = symmetric; trans = transitive }) (λ a. (row_Decides a a).1 refl)

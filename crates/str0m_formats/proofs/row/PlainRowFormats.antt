@@ -9,15 +9,16 @@ use Rattle.str0m_formats.specs.format.FormatParams.{get, IsFieldWithin, CanBeRea
 use Rattle.str0m_formats.specs.row.PlainRow.{IsPlain}
 use Rattle.str0m_formats.specs.row.PlainRowBounds.{HoldsRowNumbers}
 
-values : (row : PayloadParams) → IsPlain row → HoldsRowNumbers row → (f : Field) → IfSome (get f row.spec.format) (IsFieldWithin f)
-values row p h (field.Key key.SpropMaxDonDiff) = p.bounded.distance
-values row p h (field.Key key.ModeSet) = p.bounded.modes
-values row p h (field.Key k) = h.format.keys k
-values row p h field.TelephoneEvents = h.format.telephone_event_max
-values row p h f = each_some (IsFieldWithin f) (get f row.spec.format) (λ x. tt)
+plain_row_values : (row : PayloadParams) → IsPlain row → HoldsRowNumbers row → (f : Field)
+    → IfSome (get f row.spec.format) (IsFieldWithin f)
+plain_row_values row p h (field.Key key.SpropMaxDonDiff) = p.bounded.distance
+plain_row_values row p h (field.Key key.ModeSet) = p.bounded.modes
+plain_row_values row p h (field.Key k) = h.format.keys k
+plain_row_values row p h field.TelephoneEvents = h.format.telephone_event_max
+plain_row_values row p h f = each_some (IsFieldWithin f) (get f row.spec.format) (λ x. tt)
 
 none_or_some : {A : Type 0} (o : Option A) → (o ≡ None) ⊎ (o ≢ None)
 none_or_some o = grind arith
 
 pub can_be_read_back : (row : PayloadParams) → IsPlain row → HoldsRowNumbers row → CanBeReadBack row.spec.format
-can_be_read_back row p h = grind (arith, none_or_some, values)
+can_be_read_back row p h = grind (arith, none_or_some, plain_row_values)

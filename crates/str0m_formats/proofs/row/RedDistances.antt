@@ -8,19 +8,24 @@ use Rattle.str0m_formats.proofs.Common.{[], ◌∷◌, ◌++◌, filter, All, le
 use Rattle.str0m_formats.proofs.Common.{or_cases, or_left, or_right, and_parts, eqb-true, eq-eqb, append-nil, take_more_set, All-filter}
 use Rattle.str0m_formats.proofs.Common.{filter-append, add-one, set, nat_eq_equiv, and-false, and_from}
 use Rattle.str0m_formats.proofs.format.ParamTextPrinted.{range_push}
-use Rattle.str0m_formats.specs.row.RedDistances.{IsDistanceKept, AreDistancesKept, AreDistances, keeps, distances_kept_to}
+use Rattle.str0m_formats.specs.row.RedDistances.{IsDistanceKept, AreDistancesKept, AreDistances, keeps_distance, distances_kept_to}
 
 -- one number more
 pub distances_kept_more : (given : List ℕ) (n : ℕ) → distances_kept_to (n + 1) given ≡ distances_kept_to n given
-    ++ cond (keeps given (n + 1)) ((n + 1) ∷ []) []
+    ++ cond (keeps_distance given (n + 1)) ((n + 1) ∷ []) []
 unfolding distances_kept_to
-distances_kept_more given n = grind (arith, add-one, range_push 1 n, filter-append (keeps given) (range_with_len 1 n) ((1 + n) ∷ []))
+distances_kept_more given n = grind (
+  arith,
+  add-one,
+  range_push 1 n,
+  filter-append (keeps_distance given) (range_with_len 1 n) ((1 + n) ∷ []),
+)
 
-pub distances_kept_taken : (given levels : List ℕ) (n count : ℕ) → keeps given (n + 1) ≡ true → count < length levels
+pub distances_kept_taken : (given levels : List ℕ) (n count : ℕ) → keeps_distance given (n + 1) ≡ true → count < length levels
     → take count levels ≡ distances_kept_to n given → take (count + 1) (set levels count (n + 1)) ≡ distances_kept_to (n + 1) given
 distances_kept_taken given levels n count e l h = grind (arith, take_more_set, distances_kept_more)
 
-pub distances_kept_skipped : (given levels : List ℕ) (n count : ℕ) → keeps given (n + 1) ≡ false
+pub distances_kept_skipped : (given levels : List ℕ) (n count : ℕ) → keeps_distance given (n + 1) ≡ false
     → take count levels ≡ distances_kept_to n given
     → take count levels ≡ distances_kept_to (n + 1) given
 distances_kept_skipped given levels n count e h = grind (arith, distances_kept_more, append-nil)
@@ -38,9 +43,9 @@ range_bounded = search (rules, length-range_with_len, get_or-range_with_len)
 pub kept_distances : (given : List ℕ) → AreDistances (distances_kept_to 16 given)
 unfolding distances_kept_to
 kept_distances given = record {
-  first = (filter (keeps given) (range_with_len 2 15), refl);
-  increasing = IsStrictlyIncreasing-filter (keeps given) (range_with_len 1 16) (increasing 16);
-  bounded = All-filter (keeps given) (λ d. d ≤ 16) (range_with_len 1 16) range_bounded;
+  first = (filter (keeps_distance given) (range_with_len 2 15), refl);
+  increasing = IsStrictlyIncreasing-filter (keeps_distance given) (range_with_len 1 16) (increasing 16);
+  bounded = All-filter (keeps_distance given) (λ d. d ≤ 16) (range_with_len 1 16) range_bounded;
 }
 
 -- ---- which numbers stand there
@@ -65,13 +70,13 @@ of_range : (d : ℕ) → Contains (range_with_len 1 16) d → (1 ≤ d) × (d �
 of_range d c = search (rules, length-range_with_len, get_or-range_with_len)
 
 -- a number that passes was given, or is 1
-passed_distance_kept : (given : List ℕ) (d : ℕ) → keeps given d ≡ true → (1 ≤ d) × (d ≤ 16) → IsDistanceKept given d
+passed_distance_kept : (given : List ℕ) (d : ℕ) → keeps_distance given d ≡ true → (1 ≤ d) × (d ≤ 16) → IsDistanceKept given d
 passed_distance_kept given d e r = go (or_cases (d == 1) (list_any (λ g. d == g) given) e) where
   go : ((d == 1) ≡ true) ⊎ (list_any (λ g. d == g) given ≡ true) → IsDistanceKept given d
   go (inl h) = inl (eqb-true d 1 h)
   go (inr h) = inr (Contains-from_any (λ x y i. eqb-true x y i) d given h, r.0, r.1)
 
-kept_distance_passes : (given : List ℕ) (d : ℕ) → IsDistanceKept given d → (keeps given d ≡ true) × (1 ≤ d) × (d ≤ 16)
+kept_distance_passes : (given : List ℕ) (d : ℕ) → IsDistanceKept given d → (keeps_distance given d ≡ true) × (1 ≤ d) × (d ≤ 16)
 kept_distance_passes given d (inl h) = (or_left (d == 1) (list_any (λ g. d == g) given) (eq-eqb d 1 h), omega arith, omega arith)
 kept_distance_passes given d (inr h) = (
   or_right (d == 1) (list_any (λ g. d == g) given) (list_any-from_Contains nat_eq_equiv d given h.0),
@@ -83,9 +88,10 @@ pub are_distances_kept : (given : List ℕ) → AreDistancesKept given (distance
 unfolding distances_kept_to
 are_distances_kept given = record {
   each = λ d. (
-    λ c. let k = (contains_kept_distance (keeps given) d (range_with_len 1 16)).0 c in passed_distance_kept given d k.0 (of_range d k.1),
+    λ c. let k = (contains_kept_distance (keeps_distance given) d (range_with_len 1 16)).0 c in
+        passed_distance_kept given d k.0 (of_range d k.1),
     λ k. let p = kept_distance_passes given d k in
-        (contains_kept_distance (keeps given) d (range_with_len 1 16)).1 (p.0, range_has d p.1 p.2),
+        (contains_kept_distance (keeps_distance given) d (range_with_len 1 16)).1 (p.0, range_has d p.1 p.2),
   );
-  increasing = IsStrictlyIncreasing-filter (keeps given) (range_with_len 1 16) (increasing 16);
+  increasing = IsStrictlyIncreasing-filter (keeps_distance given) (range_with_len 1 16) (increasing 16);
 }

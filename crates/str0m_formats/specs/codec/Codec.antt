@@ -77,14 +77,14 @@ media_kind events = Audio
 media_kind other = Video
 
 -- the texts are equal without regard to the case of ASCII letters
-abbrev pub IsSameText : List ℕ → List ℕ → Type 0
-IsSameText s t = map to_ascii_lowercase s ≡ map to_ascii_lowercase t
+abbrev pub IsSameCodecText : List ℕ → List ℕ → Type 0
+IsSameCodecText s t = map to_ascii_lowercase s ≡ map to_ascii_lowercase t
 
 -- a codec other than Null is read where its own text stands, and only there; Null is never read, and a text of no
 -- codec reads as Unknown
 pub record IsReadAs (text : List ℕ) (codec : Codec) : Type 0 where
-  pub named : (c : Codec) → c ≢ Null → IsSameText text (codec_text c) → codec ≡ c
-  pub only : codec ≢ Unknown → (codec ≢ Null) × IsSameText text (codec_text codec)
+  pub named : (c : Codec) → c ≢ Null → IsSameCodecText text (codec_text c) → codec ≡ c
+  pub only : codec ≢ Unknown → (codec ≢ Null) × IsSameCodecText text (codec_text codec)
 
 -- what a codec's own text reads as
 abbrev pub printed_and_read : Codec → Codec

@@ -15,13 +15,13 @@ IsStatic pt spec = (static_entry spec.codec ≡ Some (pt, spec.clock_rate)) × (
 abbrev pub spec_at : Codec → ℕ → CodecSpec
 spec_at codec rate = record { codec = codec; clock_rate = rate; channels = None; format = empty }
 
-abbrev pub is_at : ℕ → Option (ℕ × ℕ) → Bool
-is_at pt None = false
-is_at pt (Some static) = static.0 == pt
+abbrev pub is_spec_at : ℕ → Option (ℕ × ℕ) → Bool
+is_spec_at pt None = false
+is_spec_at pt (Some static) = static.0 == pt
 
 -- the codec that a payload type stands for without a mapping, and its spec
 abbrev pub static_codec : ℕ → Option Codec
-static_codec pt = find (λ codec. is_at pt (static_entry codec)) NAMED
+static_codec pt = find (λ codec. is_spec_at pt (static_entry codec)) NAMED
 
 unfoldable pub static_spec : ℕ → Option CodecSpec
 static_spec pt = static_codec pt >>= λ codec. option_map (λ static. spec_at codec static.1) (static_entry codec)

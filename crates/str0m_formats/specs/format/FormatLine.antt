@@ -70,13 +70,13 @@ events_end ((param ∷ []) ∷ []) = range_end param
 events_end _ = None
 
 -- the values without ranges of events
-abbrev pub kept : List FormatParam → List FormatParam
-kept params = filter (λ param. not (is_event param)) params
+abbrev pub line_without_event_ranges : List FormatParam → List FormatParam
+line_without_event_ranges params = filter (λ param. not (is_event param)) params
 
 -- the values of all lines, without ranges of events
-abbrev pub values_of : List (List FormatParam) → List FormatParam
-values_of [] = []
-values_of (line ∷ lines) = kept line ++ values_of lines
+abbrev pub values_of_lines : List (List FormatParam) → List FormatParam
+values_of_lines [] = []
+values_of_lines (line ∷ lines) = line_without_event_ranges line ++ values_of_lines lines
 
 -- whether a line of AMR-WB asks for what isn't there
 unfoldable pub line_asks_absent : Codec → List (List FormatParam) → Bool
@@ -85,7 +85,7 @@ line_asks_absent codec lines = is_amr_wb codec && list_any (λ line. list_any is
 -- the format that the lines say of the codec, where they don't ask for what isn't there
 abbrev pub format_of_fmtp : Codec → List (List FormatParam) → Option FormatParams
 format_of_fmtp Tele lines = option_map (λ max. record empty { telephone_event_max = Some max }) (events_end lines)
-format_of_fmtp codec lines = if line_asks_absent codec lines then None else Some (set_all empty (values_of lines))
+format_of_fmtp codec lines = if line_asks_absent codec lines then None else Some (set_all empty (values_of_lines lines))
 
 -- lines without where they lie in memory
 abbrev pub line_values : List (Bor (List FormatParam)) → List (List FormatParam)

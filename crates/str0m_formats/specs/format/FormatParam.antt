@@ -6,7 +6,7 @@ use Rattle.std.specs.Prelude.{◌≡◌, ◌↔◌, ◌≤◌, ◌<◌, ◌^◌,
 use Rattle.std.specs.Str.{trim}
 use Rattle.std.specs.Str.Parse.{IsNumeral, digits_value}
 use Rattle.str0m_formats.specs.Prelude.{FirstFit, IsNum, IsNumber}
-use Rattle.str0m_formats.specs.codec.Codec.{IsSameText}
+use Rattle.str0m_formats.specs.codec.Codec.{IsSameCodecText}
 use Rattle.str0m_formats.specs.declared.format.format_key.FormatKey.{FormatKey}
 use Rattle.str0m_formats.specs.declared.format.format_key.FormatKey.TheVariants as key
 use Rattle.str0m_formats.specs.declared.format.format_param.FormatParam.{FormatParam}
@@ -111,12 +111,12 @@ ReadsKind (exactly own) text x = text ≡ own
 ReadsKind anything text x = Unit {0}
 
 -- the value after the key spells the parameter
-abbrev pub HoldsValue : FormatKey → List ℕ → FormatParam → Type 0
-HoldsValue key text param = (x : HeldValue (kind key)) × (param ≡ keyed key x) × ReadsKind (kind key) text x
+abbrev pub ParamHoldsValue : FormatKey → List ℕ → FormatParam → Type 0
+ParamHoldsValue key text param = (x : HeldValue (kind key)) × (param ≡ keyed key x) × ReadsKind (kind key) text x
 
 -- the key and the value spell the parameter
 abbrev pub Spells : List ℕ × List ℕ → FormatParam → Type 0
-Spells pair param = (key : FormatKey) × IsSameText pair.0 (key_text key) × HoldsValue key pair.1 param
+Spells pair param = (key : FormatKey) × IsSameCodecText pair.0 (key_text key) × ParamHoldsValue key pair.1 param
 
 abbrev pub IsUnknownParam : {A : Type 0} → A → FormatParam → Type 0
 IsUnknownParam text param = param ≡ Unknown
@@ -151,9 +151,9 @@ IsBare = FirstFit IsEvents IsUnknownParam
 
 -- ---- how parameters print
 
-abbrev pub flag_text : Bool → List ℕ
-flag_text true = codes "1"
-flag_text false = codes "0"
+abbrev pub param_flag_text : Bool → List ℕ
+param_flag_text true = codes "1"
+param_flag_text false = codes "0"
 
 -- lower-case hexadecimal, with zeros in front up to six digits
 abbrev pub six_digits : ℕ → List ℕ
@@ -169,12 +169,12 @@ abbrev pub mode_list : ℕ → List ℕ
 mode_list mask = join_with_byte 44 (map decimal (filter (λ mode. not (bit_and mask (2 ^ mode) == 0)) (range_with_len 0 9)))
 
 -- how each value prints
-abbrev pub value_text : (kind : Kind) → HeldValue kind → List ℕ
-value_text flag b = flag_text b
-value_text (number limit) n = decimal n
-value_text hex n = six_digits n
-value_text modes mask = mode_list mask
-value_text kind x = []
+abbrev pub param_value_text : (kind : Kind) → HeldValue kind → List ℕ
+param_value_text flag b = param_flag_text b
+param_value_text (number limit) n = decimal n
+param_value_text hex n = six_digits n
+param_value_text modes mask = mode_list mask
+param_value_text kind x = []
 
 -- which values read back as they print
 abbrev pub InRange : (kind : Kind) → HeldValue kind → Type 0
@@ -187,14 +187,14 @@ InRange kind x = ⊥
 -- the key and the value are what the parameter prints
 abbrev pub IsPrinted : FormatParam → List ℕ × List ℕ → Type 0
 IsPrinted param pair =
-    MatchOption (entry param) ⊥ (λ e. (pair.0 ≡ key_text e.0) × (pair.1 ≡ value_text (kind e.0) e.1) × InRange (kind e.0) e.1)
+    MatchOption (entry param) ⊥ (λ e. (pair.0 ≡ key_text e.0) × (pair.1 ≡ param_value_text (kind e.0) e.1) × InRange (kind e.0) e.1)
 
 abbrev pub triple_text : ℕ → ℕ → ℕ → List ℕ
 triple_text profile tier level = codes "profile-id=" ++ (decimal profile ++ (codes ";tier-flag=" ++ (decimal tier ++ (codes ";level-id=" ++ decimal level))))
 
 abbrev pub entry_text : Option ((key : FormatKey) × HeldValue (kind key)) → List ℕ
 entry_text None = []
-entry_text (Some e) = key_text e.0 ++ codes "=" ++ value_text (kind e.0) e.1
+entry_text (Some e) = key_text e.0 ++ codes "=" ++ param_value_text (kind e.0) e.1
 
 -- what a parameter prints: `key=value` where the table has it
 abbrev pub param_text : FormatParam → List ℕ

@@ -43,26 +43,26 @@ get field.TelephoneEvents p = p.telephone_event_max
 get f p = None
 
 -- the format with this in the field
-abbrev pub put : (field : Field) → Option (FieldContent field) → FormatParams → FormatParams
-put (field.Key key.MinPTime) o p = record p { min_p_time = o }
-put (field.Key key.Stereo) o p = record p { stereo = o }
-put (field.Key key.SpropStereo) o p = record p { sprop_stereo = o }
-put (field.Key key.UseInbandFec) o p = record p { use_inband_fec = o }
-put (field.Key key.UseDtx) o p = record p { use_dtx = o }
-put (field.Key key.LevelAsymmetryAllowed) o p = record p { level_asymmetry_allowed = o }
-put (field.Key key.PacketizationMode) o p = record p { packetization_mode = o }
-put (field.Key key.ProfileLevelId) o p = record p { profile_level_id = o }
-put (field.Key key.ProfileId) o p = record p { profile_id = o }
-put (field.Key key.Profile) o p = record p { profile = o }
-put (field.Key key.LevelIdx) o p = record p { level_idx = o }
-put (field.Key key.Tier) o p = record p { tier = o }
-put (field.Key key.SpropMaxDonDiff) o p = record p { sprop_max_don_diff = o }
-put (field.Key key.OctetAlign) o p = record p { octet_align = o }
-put (field.Key key.ModeSet) o p = record p { mode_set = o }
-put field.H265ProfileTierLevel o p = record p { h265_profile_tier_level = o }
-put field.H266ProfileTierLevel o p = record p { h266_profile_tier_level = o }
-put field.TelephoneEvents o p = record p { telephone_event_max = o }
-put f o p = p
+abbrev pub put_field : (field : Field) → Option (FieldContent field) → FormatParams → FormatParams
+put_field (field.Key key.MinPTime) o p = record p { min_p_time = o }
+put_field (field.Key key.Stereo) o p = record p { stereo = o }
+put_field (field.Key key.SpropStereo) o p = record p { sprop_stereo = o }
+put_field (field.Key key.UseInbandFec) o p = record p { use_inband_fec = o }
+put_field (field.Key key.UseDtx) o p = record p { use_dtx = o }
+put_field (field.Key key.LevelAsymmetryAllowed) o p = record p { level_asymmetry_allowed = o }
+put_field (field.Key key.PacketizationMode) o p = record p { packetization_mode = o }
+put_field (field.Key key.ProfileLevelId) o p = record p { profile_level_id = o }
+put_field (field.Key key.ProfileId) o p = record p { profile_id = o }
+put_field (field.Key key.Profile) o p = record p { profile = o }
+put_field (field.Key key.LevelIdx) o p = record p { level_idx = o }
+put_field (field.Key key.Tier) o p = record p { tier = o }
+put_field (field.Key key.SpropMaxDonDiff) o p = record p { sprop_max_don_diff = o }
+put_field (field.Key key.OctetAlign) o p = record p { octet_align = o }
+put_field (field.Key key.ModeSet) o p = record p { mode_set = o }
+put_field field.H265ProfileTierLevel o p = record p { h265_profile_tier_level = o }
+put_field field.H266ProfileTierLevel o p = record p { h266_profile_tier_level = o }
+put_field field.TelephoneEvents o p = record p { telephone_event_max = o }
+put_field f o p = p
 
 -- the parameter of what the field holds
 abbrev pub param_in : (field : Field) → FieldContent field → FormatParam
@@ -73,13 +73,13 @@ param_in field.TelephoneEvents n = TelephoneEvents n
 
 abbrev put_entry : Option ((key : FormatKey) × HeldValue (kind key)) → FormatParams → FormatParams
 put_entry None p = p
-put_entry (Some e) p = put (field.Key e.0) (Some e.1) p
+put_entry (Some e) p = put_field (field.Key e.0) (Some e.1) p
 
 -- the format, with the value of the parameter in its field; a parameter without a field changes nothing
 abbrev pub set : FormatParam → FormatParams → FormatParams
-set (H265ProfileTierLevel t) p = put field.H265ProfileTierLevel (Some t) p
-set (H266ProfileTierLevel t) p = put field.H266ProfileTierLevel (Some t) p
-set (TelephoneEvents n) p = put field.TelephoneEvents (Some n) p
+set (H265ProfileTierLevel t) p = put_field field.H265ProfileTierLevel (Some t) p
+set (H266ProfileTierLevel t) p = put_field field.H266ProfileTierLevel (Some t) p
+set (TelephoneEvents n) p = put_field field.TelephoneEvents (Some n) p
 set param p = put_entry (entry param) p
 
 -- the format, with the values of the parameters in their fields, one after another

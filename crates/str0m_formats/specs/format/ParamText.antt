@@ -4,10 +4,10 @@ use Rattle.str0m_formats.specs.declared.format.format_key.FormatKey.{FormatKey}
 use Rattle.str0m_formats.specs.declared.format.param_text.Value.{Value}
 use Rattle.str0m_formats.specs.declared.format.param_text.Value.TheVariants.{Flag, Number, SixDigits, Modes}
 use Rattle.str0m_formats.specs.format.FormatKey.{key_text}
-use Rattle.str0m_formats.specs.format.FormatParam.{flag_text, six_digits, mode_list}
+use Rattle.str0m_formats.specs.format.FormatParam.{param_flag_text, six_digits, mode_list}
 
 abbrev pub shown_value : Value → List ℕ
-shown_value (Flag b) = flag_text b
+shown_value (Flag b) = param_flag_text b
 shown_value (Number n) = decimal n
 shown_value (SixDigits n) = six_digits n
 shown_value (Modes mask) = mode_list mask

@@ -5,7 +5,7 @@ use Rattle.str0m_formats.specs.declared.round.negotiation_error.NegotiationError
 use Rattle.str0m_formats.specs.declared.round.negotiation_error.NegotiationError.TheVariants.{TypeTooLarge, ClaimedTwice, Exhausted}
 use Rattle.str0m_formats.specs.declared.row.payload_params.PayloadParams.{PayloadParams}
 use Rattle.str0m_formats.specs.round.Choices.{IsChoice, points_for}
-use Rattle.str0m_formats.specs.round.Claimed.{TypeSet, has, with_type, with_option, either, free, AllTypesDistinct}
+use Rattle.str0m_formats.specs.round.Claimed.{TypeSet, has, with_type, claimed_with_option, either_set, free, AllTypesDistinct}
 use Rattle.str0m_formats.specs.round.Narrowing.{narrowed}
 use Rattle.str0m_formats.specs.row.PayloadParams.{AllTypesSmall, types, locked_types, open_types}
 
@@ -18,8 +18,8 @@ then_in_round (Err cause) f = Err cause
 
 -- its own type where that is not taken, else the first free one
 abbrev pub own_or_free : TypeSet → TypeSet → Option ℕ → Result ℕ NegotiationError
-own_or_free taken unlocked None = ok_or (free (either taken unlocked)) Exhausted
-own_or_free taken unlocked (Some own) = if taken own then ok_or (free (either taken unlocked)) Exhausted else Ok own
+own_or_free taken unlocked None = ok_or (free (either_set taken unlocked)) Exhausted
+own_or_free taken unlocked (Some own) = if taken own then ok_or (free (either_set taken unlocked)) Exhausted else Ok own
 
 -- the type of a role: the one asked for where that is not taken. Where the remote receives there is no other
 unfoldable pub role_type : TypeSet → TypeSet → Bool → ℕ → Option ℕ → Result ℕ NegotiationError
@@ -34,7 +34,7 @@ rtx_type taken unlocked receives (Some asked) own = then_in_round (role_type tak
 -- the RED type: only where both sides have one, and never a cause
 unfoldable pub red_type : TypeSet → TypeSet → Bool → Option ℕ → Option ℕ → Option ℕ
 red_type taken unlocked receives (Some asked) (Some own) =
-    if taken asked then (if receives then None else free (either taken unlocked)) else Some asked
+    if taken asked then (if receives then None else free (either_set taken unlocked)) else Some asked
 red_type taken unlocked receives _ _ = None
 
 -- a RED goes with audio alone (RFC 2198)
@@ -48,7 +48,7 @@ locked_to taken unlocked receives row choice =
     then_in_round (role_type taken unlocked receives choice.pt (Some row.pt)) (λ pt.
     let taken1 = with_type taken pt in
     then_in_round (rtx_type taken1 unlocked receives choice.resend row.resend) (λ resend.
-    let taken2 = with_option taken1 resend in
+    let taken2 = claimed_with_option taken1 resend in
     Ok (record row {
       pt = pt;
       resend = resend;
@@ -84,7 +84,7 @@ pub record RoundBegun (before remote : List PayloadParams) (receives : Bool) (do
 
 -- a type is kept where no locked row has it; else it becomes the first free one
 abbrev pub kept_or_free : TypeSet → TypeSet → TypeSet → ℕ → Option ℕ
-kept_or_free locked taken unlocked t = if locked t then free (either taken unlocked) else Some t
+kept_or_free locked taken unlocked t = if locked t then free (either_set taken unlocked) else Some t
 
 abbrev pub kept_red : TypeSet → TypeSet → TypeSet → Option ℕ → Option ℕ
 kept_red locked taken unlocked None = None
@@ -101,7 +101,7 @@ settled_row locked taken unlocked row =
     then_in_round (ok_or (kept_or_free locked taken unlocked row.pt) Exhausted) (λ pt.
     let taken1 = with_type taken pt in
     let red = kept_red locked taken1 unlocked row.red in
-    let taken2 = with_option taken1 red in
+    let taken2 = claimed_with_option taken1 red in
     then_in_round (kept_rtx locked taken2 unlocked row.resend) (λ resend.
     Ok (record row { pt = pt; resend = resend; red = red })))
 

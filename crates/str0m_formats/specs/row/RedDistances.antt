@@ -19,8 +19,8 @@ pub record AreDistances (distances : List ℕ) : Type 0 where
   pub bounded : All (λ d. d ≤ 16) distances
 
 -- the test of what is kept, and the kept ones of 1 to n
-abbrev pub keeps : List ℕ → ℕ → Bool
-keeps given d = d == 1 || list_any (λ g. d == g) given
+abbrev pub keeps_distance : List ℕ → ℕ → Bool
+keeps_distance given d = d == 1 || list_any (λ g. d == g) given
 
 unfoldable pub distances_kept_to : ℕ → List ℕ → List ℕ
-distances_kept_to n given = filter (keeps given) (range_with_len 1 n)
+distances_kept_to n given = filter (keeps_distance given) (range_with_len 1 n)

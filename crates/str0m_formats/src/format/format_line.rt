@@ -3,7 +3,7 @@ ghost use Rattle.std.specs.List.{list_any};
 ghost use Rattle.std.specs.Prelude.{◌≡◌, ◌∷◌, [], IfOk, option_map};
 ghost use Rattle.str0m_formats.specs.declared.codec.Codec.TheVariants.{AmrWb};
 ghost use Rattle.str0m_formats.specs.declared.format.format_params.FormatParams.{FormatParams};
-ghost use Rattle.str0m_formats.specs.format.FormatLine.{pieces, pair_in, bare_in, pairs_in, IsFormatOfLine, IsFormatOfBares, is_event, is_unsupported, events_end, line_asks_absent, kept, values_of, format_of_fmtp, line_values};
+ghost use Rattle.str0m_formats.specs.format.FormatLine.{pieces, pair_in, bare_in, pairs_in, IsFormatOfLine, IsFormatOfBares, is_event, is_unsupported, events_end, line_asks_absent, line_without_event_ranges, values_of_lines, format_of_fmtp, line_values};
 ghost use Rattle.str0m_formats.specs.format.FormatParam.{pair_texts};
 ghost use Rattle.str0m_formats.specs.format.FormatParams.{empty, set_all, params_text, CanBeReadBack};
 ghost use Rattle.str0m_formats.specs.round.Narrowing.{telephone_max};
@@ -81,7 +81,7 @@ impl FormatParams {
 
     /// Takes over the values of an fmtp line, but for ranges of events.
     fn set_values(&mut self, line: &[FormatParam])
-        ensures { self.new ≡ set_all self.old (kept line.now) }
+        ensures { self.new ≡ set_all self.old (line_without_event_ranges line.now) }
     {
         for param in line {
             if !is_event(*param) {
@@ -137,7 +137,7 @@ impl FormatParams {
                 ..FormatParams::default()
             }),
             Codec::AmrWb => amr_wb(lines),
-            _ => Some(from_values(lines)),
+            _ => Some(format_of_values(lines)),
         }
     }
 }
@@ -169,7 +169,7 @@ fn any_unsupported(lines: &[&[FormatParam]]) -> bool
 }
 
 /// Whether a line asks for what isn't there of AMR-WB.
-#[tactic(auto, using(crate::proofs::format::FormatLineLaws::asks))]
+#[tactic(auto, using(crate::proofs::format::FormatLineLaws::asks_absent_answer))]
 fn asks_unsupported(lines: &[&[FormatParam]]) -> bool
     ensures { result ≡ line_asks_absent AmrWb (line_values lines.now) }
 {
@@ -183,7 +183,7 @@ fn amr_wb(lines: &[&[FormatParam]]) -> Option<FormatParams>
     if asks_unsupported(lines) {
         return None;
     }
-    Some(from_values(lines))
+    Some(format_of_values(lines))
 }
 
 /// The highest event of the lines of telephone events.
@@ -207,8 +207,8 @@ fn range_end(line: &[FormatParam]) -> Option<u8>
     }
 }
 
-fn from_values(lines: &[&[FormatParam]]) -> FormatParams
-    ensures { result ≡ set_all empty (values_of (line_values lines.now)) }
+fn format_of_values(lines: &[&[FormatParam]]) -> FormatParams
+    ensures { result ≡ set_all empty (values_of_lines (line_values lines.now)) }
 {
     let mut format = FormatParams::default();
     for line in lines {

@@ -74,7 +74,7 @@ pub enum FormatParam {
     Unknown,
 }
 
-fn is_text(text: &str, other: &str) -> bool
+fn is_key_text(text: &str, other: &str) -> bool
     ensures { result ≡ bytes_eq text.now other.now }
 {
     text == other
@@ -83,7 +83,7 @@ fn is_text(text: &str, other: &str) -> bool
 fn is_flag_one(value: &str) -> bool
     ensures { result ≡ bytes_eq value.now (codes "1") }
 {
-    is_text(value, "1")
+    is_key_text(value, "1")
 }
 
 #[tactic(auto, using(crate::proofs::format::FormatParamReadingLaws::hex_is))]
@@ -169,7 +169,7 @@ impl FormatKey {
             FormatKey::Apt => Some(FormatParam::Apt(Pt::new_with_value(num_u8(value, 255)?))),
             FormatKey::Crc => unsupported(is_flag_one(value)),
             FormatKey::RobustSorting => unsupported(is_flag_one(value)),
-            FormatKey::ModeChangePeriod => unsupported(is_text(value, "2")),
+            FormatKey::ModeChangePeriod => unsupported(is_key_text(value, "2")),
             FormatKey::Interleaving => Some(FormatParam::AmrWbUnsupported),
         }
     }

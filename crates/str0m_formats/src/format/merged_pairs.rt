@@ -15,7 +15,7 @@ use std::collections::BTreeMap;
 /// of browsers have fewer.
 const FEW: usize = 16;
 
-fn lower(alloc: Global, text: &str) -> Result<String, AllocError>
+fn lower_key(alloc: Global, text: &str) -> Result<String, AllocError>
     ensures { IfOk result (λ lowered. string_bytes lowered ≡ str_to_ascii_lowercase text.now) }
 {
     let mut lowered = String::from_str(alloc, text)?;
@@ -32,7 +32,7 @@ pub(crate) fn lowered<'a>(
 {
     let mut lowered = Vec::with_capacity(alloc, pairs.len())?;
     for (key, value) in pairs {
-        let key = lower(alloc, key)?;
+        let key = lower_key(alloc, key)?;
         lowered.push((key, *value))?;
     }
     Ok(lowered)

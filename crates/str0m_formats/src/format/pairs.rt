@@ -3,7 +3,7 @@ ghost use Rattle.std.specs.List.{list_any};
 ghost use Rattle.std.specs.Prelude.{◌≡◌, IfOk, map};
 ghost use Rattle.str0m_formats.specs.format.FormatParam.{pair_texts};
 ghost use Rattle.str0m_formats.specs.format.FormatParamReading.{param_of};
-ghost use Rattle.str0m_formats.specs.format.Pairs.{is_triple_mark, has_triple_mark, value_of, is_part};
+ghost use Rattle.str0m_formats.specs.format.Pairs.{is_triple_mark, has_triple_mark, value_of_key, is_part};
 ghost use Rattle.str0m_formats.specs.format.PairsReading.{lay, triple_read, joined_read, params_read};
 
 use crate::format::format_key::{LEVEL_ID, PROFILE_ID, TIER_FLAG};
@@ -34,8 +34,8 @@ fn has_triple_mark(pairs: &[(&str, &str)]) -> bool
 }
 
 /// The value of a key.
-fn value_of<'a>(merged: &[(&str, &'a str)], key: &str) -> Option<&'a str>
-    ensures { lay result ≡ value_of key.now (pair_texts merged.now) }
+fn value_of_key<'a>(merged: &[(&str, &'a str)], key: &str) -> Option<&'a str>
+    ensures { lay result ≡ value_of_key key.now (pair_texts merged.now) }
 {
     match scan(merged, key) {
         Some(place) => Some(merged[place].1),
@@ -65,7 +65,7 @@ fn is_part(key: &str) -> bool
 }
 
 /// The parameter of each pair, in order.
-fn each(alloc: Global, pairs: &[(&str, &str)]) -> Result<Vec<FormatParam>, AllocError>
+fn each_param(alloc: Global, pairs: &[(&str, &str)]) -> Result<Vec<FormatParam>, AllocError>
     ensures { IfOk result (λ params. params.items ≡ map param_of (pair_texts pairs.now)) }
 {
     let mut params = Vec::with_capacity(alloc, pairs.len())?;
@@ -81,9 +81,9 @@ fn joined_params(alloc: Global, merged: &[(&str, &str)]) -> Result<Vec<FormatPar
 {
     let mut params = Vec::new(alloc);
     let triple = triple(
-        value_of(merged, PROFILE_ID),
-        value_of(merged, TIER_FLAG),
-        value_of(merged, LEVEL_ID),
+        value_of_key(merged, PROFILE_ID),
+        value_of_key(merged, TIER_FLAG),
+        value_of_key(merged, LEVEL_ID),
     );
     if let Some(triple) = triple {
         params.push(triple)?;
@@ -102,7 +102,7 @@ pub(crate) fn params(alloc: Global, pairs: &[(&str, &str)]) -> Result<Vec<Format
     ensures { IfOk result (λ params. params.items ≡ params_read (pair_texts pairs.now)) }
 {
     if !has_triple_mark(pairs) {
-        return each(alloc, pairs);
+        return each_param(alloc, pairs);
     }
     let lowered = lowered(alloc, pairs)?;
     let merged = merge(alloc, &lowered)?;

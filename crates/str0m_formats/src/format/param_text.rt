@@ -1,6 +1,6 @@
 //! How parameters of formats print.
 ghost use Rattle.std.specs.Prelude.{◌≡◌, ◌++◌, Some, codes, decimal};
-ghost use Rattle.str0m_formats.specs.format.FormatParam.{entry, entry_text, flag_text, mode_list, param_text, part_if, six_digits, triple_text};
+ghost use Rattle.str0m_formats.specs.format.FormatParam.{entry, entry_text, param_flag_text, mode_list, param_text, part_if, six_digits, triple_text};
 ghost use Rattle.str0m_formats.specs.format.ParamText.{shown_value};
 
 use crate::format::format_param::FormatParam;
@@ -12,7 +12,7 @@ use str0m_values::{Numbered, ProfileTierLevel, Pt};
 struct Flag(bool);
 
 impl fmt::Display for Flag {
-    ghost output = { λ flag. Some (flag_text flag.0) };
+    ghost output = { λ flag. Some (param_flag_text flag.0) };
 
     fn fmt<W: fmt::Write>(&self, f: &mut fmt::Formatter<W>) -> fmt::Result {
         if self.0 {

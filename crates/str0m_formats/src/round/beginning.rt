@@ -1,6 +1,6 @@
 //! What stands before a round: whether it may begin, and what is claimed then.
 ghost use Rattle.std.specs.Prelude.{◌≡◌, ◌≤◌, ℕ, ◌++◌, [], if◌then◌else◌, find, nat_lt, Ok, Err, Some, OnOk, IfOk, IfErr};
-ghost use Rattle.str0m_formats.specs.round.Claimed.{has, with_type, either};
+ghost use Rattle.str0m_formats.specs.round.Claimed.{has, with_type, either_set};
 ghost use Rattle.str0m_formats.specs.round.Claims.{claim_each};
 ghost use Rattle.str0m_formats.specs.row.PayloadParams.{AllTypesSmall, types, types_of, locked_types, open_types};
 
@@ -63,7 +63,7 @@ fn insert_beginning_type<C: Claimed>(set: &mut C, pt: Pt)
 /// Adds each type of a row to a set that may have it.
 fn insert_row<C: Claimed>(set: &mut C, row: &PayloadParams)
     requires { AllTypesSmall (types_of row.now) }
-    ensures { C.holds set.new ≡ either (C.holds set.old) (has (types_of row.now)) }
+    ensures { C.holds set.new ≡ either_set (C.holds set.old) (has (types_of row.now)) }
 {
     insert_beginning_type(set, row.pt);
     if let Some(resend) = row.resend {

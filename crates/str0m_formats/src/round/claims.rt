@@ -3,7 +3,7 @@ ghost use Rattle.std.specs.Bool.{OnTrue, OnFalse};
 ghost use Rattle.std.specs.Prelude.{◌≡◌, ◌≤◌, IfOk, IfSome, not, option_copied};
 ghost use Rattle.str0m_formats.specs.codec.Codec.{content};
 ghost use Rattle.str0m_formats.specs.round.Choices.{points_for, IsChoice};
-ghost use Rattle.str0m_formats.specs.round.Claimed.{with_type, with_option, either, free};
+ghost use Rattle.str0m_formats.specs.round.Claimed.{with_type, claimed_with_option, either_set, free};
 ghost use Rattle.str0m_formats.specs.round.Rounds.{role_type, own_or_free, rtx_type, red_type, only_audio};
 
 use crate::codec::Codec;
@@ -114,8 +114,8 @@ impl<C: Claimed> Claims<C> {
 
     /// Claims the first free type.
     pub(crate) fn take_free(&mut self) -> Option<Pt>
-        ensures value { result ≡ free (either (C.holds self.old.claimed) (C.holds self.old.unlocked)) }
-        ensures claimed { C.holds self.new.claimed ≡ with_option (C.holds self.old.claimed) result }
+        ensures value { result ≡ free (either_set (C.holds self.old.claimed) (C.holds self.old.unlocked)) }
+        ensures claimed { C.holds self.new.claimed ≡ claimed_with_option (C.holds self.old.claimed) result }
         ensures unlocked { self.new.unlocked ≡ self.old.unlocked }
         ensures receives { self.new.receives ≡ self.old.receives }
     {
@@ -135,7 +135,7 @@ impl<C: Claimed> Claims<C> {
         requires own { IfSome own (λ t. t ≤ 127) }
         ensures value { result
             ≡ rtx_type (C.holds self.old.claimed) (C.holds self.old.unlocked) self.old.receives asked own }
-        ensures claimed { IfOk result (λ t. C.holds self.new.claimed ≡ with_option (C.holds self.old.claimed) t) }
+        ensures claimed { IfOk result (λ t. C.holds self.new.claimed ≡ claimed_with_option (C.holds self.old.claimed) t) }
         ensures unlocked { self.new.unlocked ≡ self.old.unlocked }
         ensures receives { self.new.receives ≡ self.old.receives }
     {
@@ -154,7 +154,7 @@ impl<C: Claimed> Claims<C> {
         requires { IfSome asked (λ t. t ≤ 127) }
         ensures value { result
             ≡ red_type (C.holds self.old.claimed) (C.holds self.old.unlocked) self.old.receives asked own }
-        ensures claimed { C.holds self.new.claimed ≡ with_option (C.holds self.old.claimed) result }
+        ensures claimed { C.holds self.new.claimed ≡ claimed_with_option (C.holds self.old.claimed) result }
         ensures unlocked { self.new.unlocked ≡ self.old.unlocked }
         ensures receives { self.new.receives ≡ self.old.receives }
     {
@@ -182,7 +182,7 @@ impl<C: Claimed> Claims<C> {
         requires { IfSome asked (λ t. t ≤ 127) }
         ensures value { result
             ≡ only_audio (content codec) (red_type (C.holds self.old.claimed) (C.holds self.old.unlocked) self.old.receives asked own) }
-        ensures claimed { C.holds self.new.claimed ≡ with_option (C.holds self.old.claimed) result }
+        ensures claimed { C.holds self.new.claimed ≡ claimed_with_option (C.holds self.old.claimed) result }
         ensures unlocked { self.new.unlocked ≡ self.old.unlocked }
         ensures receives { self.new.receives ≡ self.old.receives }
     {

@@ -1,6 +1,6 @@
 //! The first pass of a round: each row that is matched is locked.
 ghost use Rattle.std.specs.Prelude.{◌≡◌, Ok, IfErr, IfSome, OnOk, not, ◌&&◌, if◌then◌else◌, true, option_copied};
-ghost use Rattle.str0m_formats.specs.round.Claimed.{has, either};
+ghost use Rattle.str0m_formats.specs.round.Claimed.{has, either_set};
 ghost use Rattle.str0m_formats.specs.round.Narrowing.{narrowed};
 ghost use Rattle.str0m_formats.specs.round.Rounds.{then_in_round, locked_to, placed, types_taken_by, RoundMayBegin, RoundBegun, StopsFirstPass};
 ghost use Rattle.str0m_formats.specs.row.PayloadParams.{AllTypesSmall, types_of, locked_types, open_types};
@@ -37,7 +37,7 @@ impl<C: Claimed> Claims<C> {
         ensures value { then_in_round result (λ _. Ok row.new)
             ≡ locked_to (C.holds self.old.claimed) (C.holds self.old.unlocked) self.old.receives row.old choice.now }
         ensures claimed { OnOk result
-            (C.holds self.new.claimed ≡ either (C.holds self.old.claimed) (has (types_of row.new))) }
+            (C.holds self.new.claimed ≡ either_set (C.holds self.old.claimed) (has (types_of row.new))) }
         ensures locked { OnOk result (row.new.locked ≡ true) }
         ensures unlocked { self.new.unlocked ≡ self.old.unlocked }
         ensures receives { self.new.receives ≡ self.old.receives }
@@ -65,7 +65,7 @@ impl<C: Claimed> Claims<C> {
         ensures value { then_in_round result (λ _. Ok row.new)
             ≡ placed (C.holds self.old.claimed) (C.holds self.old.unlocked) self.old.receives row.old (option_copied choice.entry) }
         ensures claimed { OnOk result
-            (C.holds self.new.claimed ≡ (if row.new.locked && not row.old.locked then either (C.holds self.old.claimed) (has (types_of row.new)) else C.holds self.old.claimed)) }
+            (C.holds self.new.claimed ≡ (if row.new.locked && not row.old.locked then either_set (C.holds self.old.claimed) (has (types_of row.new)) else C.holds self.old.claimed)) }
         ensures unlocked { self.new.unlocked ≡ self.old.unlocked }
         ensures receives { self.new.receives ≡ self.old.receives }
     {

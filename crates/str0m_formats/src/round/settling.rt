@@ -1,7 +1,7 @@
 //! The second pass of a round: a row that is still open gives up each type that a locked row has.
 ghost use Rattle.std.specs.Prelude.{◌≡◌, ℕ, Ok, IfOk, IfErr, IfSome, OnOk, if◌then◌else◌, true, false, Some, slice_get};
 ghost use Rattle.str0m_formats.specs.declared.row.payload_params.PayloadParams.{PayloadParams};
-ghost use Rattle.str0m_formats.specs.round.Claimed.{TypeSet, has, with_option, either};
+ghost use Rattle.str0m_formats.specs.round.Claimed.{TypeSet, has, claimed_with_option, either_set};
 ghost use Rattle.str0m_formats.specs.round.Claims.{ClaimsServe};
 ghost use Rattle.str0m_formats.specs.round.Rounds.{then_in_round, kept_or_free, kept_red, kept_rtx, settled_row, Settled, StopsSettling};
 ghost use Rattle.str0m_formats.specs.row.PayloadParams.{types_of, locked_types};
@@ -22,7 +22,7 @@ impl<C: Claimed> Claims<C> {
         ensures value { (locked taken : TypeSet) → ClaimsServe (C.holds self.old.claimed) (C.holds self.old.unlocked) locked taken
             → result ≡ kept_or_free locked taken (C.holds self.old.unlocked) pt }
         ensures claimed { (locked taken : TypeSet) → ClaimsServe (C.holds self.old.claimed) (C.holds self.old.unlocked) locked taken
-            → ClaimsServe (C.holds self.new.claimed) (C.holds self.old.unlocked) locked (with_option taken result) }
+            → ClaimsServe (C.holds self.new.claimed) (C.holds self.old.unlocked) locked (claimed_with_option taken result) }
         ensures unlocked { self.new.unlocked ≡ self.old.unlocked }
     {
         if self.claimed.is_claimed(pt) {
@@ -37,7 +37,7 @@ impl<C: Claimed> Claims<C> {
         ensures value { (locked taken : TypeSet) → ClaimsServe (C.holds self.old.claimed) (C.holds self.old.unlocked) locked taken
             → result ≡ kept_red locked taken (C.holds self.old.unlocked) red }
         ensures claimed { (locked taken : TypeSet) → ClaimsServe (C.holds self.old.claimed) (C.holds self.old.unlocked) locked taken
-            → ClaimsServe (C.holds self.new.claimed) (C.holds self.old.unlocked) locked (with_option taken result) }
+            → ClaimsServe (C.holds self.new.claimed) (C.holds self.old.unlocked) locked (claimed_with_option taken result) }
         ensures unlocked { self.new.unlocked ≡ self.old.unlocked }
     {
         match red {
@@ -52,7 +52,7 @@ impl<C: Claimed> Claims<C> {
         ensures value { (locked taken : TypeSet) → ClaimsServe (C.holds self.old.claimed) (C.holds self.old.unlocked) locked taken
             → result ≡ kept_rtx locked taken (C.holds self.old.unlocked) resend }
         ensures claimed { (locked taken : TypeSet) → ClaimsServe (C.holds self.old.claimed) (C.holds self.old.unlocked) locked taken
-            → IfOk result (λ t. ClaimsServe (C.holds self.new.claimed) (C.holds self.old.unlocked) locked (with_option taken t)) }
+            → IfOk result (λ t. ClaimsServe (C.holds self.new.claimed) (C.holds self.old.unlocked) locked (claimed_with_option taken t)) }
         ensures unlocked { self.new.unlocked ≡ self.old.unlocked }
     {
         match resend {
@@ -71,7 +71,7 @@ impl<C: Claimed> Claims<C> {
             → then_in_round result (λ _. Ok row.new) ≡ settled_row locked taken (C.holds self.old.unlocked) row.old }
         ensures claimed { (locked taken : TypeSet) → ClaimsServe (C.holds self.old.claimed) (C.holds self.old.unlocked) locked taken
             → OnOk result (ClaimsServe (C.holds self.new.claimed) (C.holds self.old.unlocked) locked
-            (if row.old.locked then taken else either taken (has (types_of row.new)))) }
+            (if row.old.locked then taken else either_set taken (has (types_of row.new)))) }
         ensures unlocked { self.new.unlocked ≡ self.old.unlocked }
     {
         if row.locked {

@@ -1,7 +1,7 @@
 //! How far back the redundant levels of RED reach (RFC 2198, section 3).
 ghost use Rattle.std.specs.List.{list_any};
 ghost use Rattle.std.specs.Prelude.{◌≡◌, ◌==◌, ◌∷◌, []};
-ghost use Rattle.str0m_formats.specs.row.RedDistances.{AreDistances, keeps, distances_kept_to};
+ghost use Rattle.str0m_formats.specs.row.RedDistances.{AreDistances, keeps_distance, distances_kept_to};
 
 use std::marker::Model;
 
@@ -30,7 +30,7 @@ fn has(given: &[u32], distance: u32) -> bool
 }
 
 fn is_distance_kept(given: &[u32], distance: u32) -> bool
-    ensures { result ≡ keeps given.now distance }
+    ensures { result ≡ keeps_distance given.now distance }
 {
     distance == 1 || has(given, distance)
 }

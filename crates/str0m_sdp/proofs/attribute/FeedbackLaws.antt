@@ -22,9 +22,9 @@ unfolding has_feedback
 feedback_has_same attrs i attr pt words lt is fails = mark_any_same (is_feedback pt words) attrs i attr lt is fails
 
 -- where each value stands or not, feedback is the same
-alike : (xs ys : List MediaAttribute) (pt : ℕ) → ((words : List ℕ) → has_feedback xs pt words ≡ has_feedback ys pt words)
+feedback_alike : (xs ys : List MediaAttribute) (pt : ℕ) → ((words : List ℕ) → has_feedback xs pt words ≡ has_feedback ys pt words)
     → feedback_of xs pt ≡ feedback_of ys pt
-alike xs ys pt same = λ i. feedback_by (λ words. same words i)
+feedback_alike xs ys pt same = λ i. feedback_by (λ words. same words i)
 
 feedback_joined : (xs ys : List MediaAttribute) (pt : ℕ) (value : List ℕ)
     → ((words : List ℕ) → has_feedback ys pt words ≡ (has_feedback xs pt words || bytes_eq value words))
@@ -38,7 +38,7 @@ silent_feedback pt words attr other = grind arith
 -- what is no rtcp-fb line changes nothing
 pub feedback_other : (attrs : List MediaAttribute) (i : ℕ) (attr : MediaAttribute) (pt : ℕ) → i < length attrs → attr ≡ get_or attrs i attr
     → ((n : ℕ) (value : List ℕ) → attr ≡ RtcpFb n value → ⊥) → feedback_of (take (i + 1) attrs) pt ≡ feedback_of (take i attrs) pt
-feedback_other attrs i attr pt lt is other = grind (arith, alike, feedback_has_same, silent_feedback)
+feedback_other attrs i attr pt lt is other = grind (arith, feedback_alike, feedback_has_same, silent_feedback)
 
 own_feedback : (n : ℕ) (value words : List ℕ) → is_feedback n words (RtcpFb n value) ≡ bytes_eq value words
 own_feedback n value words = rw (eq-eqb n n refl) refl
@@ -62,7 +62,7 @@ feedback_named attrs table i n value attr pt read lt row is variant read_is so_f
           ∙ ap (λ (b : Bool). has_feedback (take i attrs) n words || b) (ap (is_feedback n words) variant ∙ own_feedback n value words))))
       | inr ne ↦
           get_or-set_other table n pt (either_feedback read (named_feedback value)) empty_feedback (λ same. ne (sym same)) ∙ so_far
-          ∙ sym (alike (take (i + 1) attrs) (take i attrs) pt
+          ∙ sym (feedback_alike (take (i + 1) attrs) (take i attrs) pt
           (λ words. feedback_has_same attrs i attr pt words lt is (ap (is_feedback pt words) variant ∙ other_feedback n pt value words ne)))
     ]
 

@@ -7,9 +7,10 @@ use Rattle.str0m_sdp.proofs.Common.{type_times-some, line_all_of_both}
 use Rattle.str0m_sdp.proofs.section.MadeSectionFrame.{HasNoTypes, NameNoType, NamesNoType}
 use Rattle.str0m_sdp.proofs.section.MappingsBack.{IsMappingSaid, section, each_type}
 use Rattle.str0m_sdp.proofs.section.RowAttributesQuestions.{lines, attrs_of, apt_is, maps_are}
-use Rattle.str0m_sdp.proofs.section.RowAttributesReads.{each}
+use Rattle.str0m_sdp.proofs.section.RowAttributesReads.{row_lines_each}
 use Rattle.str0m_sdp.proofs.section.SectionRowsAgain.{pt_mapped, rtx_mapped, red_mapped, primary_among}
-use Rattle.str0m_sdp.proofs.section.SectionRowsParts.{always, rows_all_weaker, over_lines, rows_each_among, rows_taken_apart, count-append}
+use Rattle.str0m_sdp.proofs.section.SectionRowsParts.{always, rows_all_weaker, rows_over_lines, rows_each_among, rows_taken_apart}
+use Rattle.str0m_sdp.proofs.section.SectionRowsParts.{count-append}
 use Rattle.str0m_sdp.proofs.section.SectionRowsParts.{rows_none_counted}
 use Rattle.str0m_sdp.specs.declared.attribute.MediaAttribute.{MediaAttribute}
 use Rattle.str0m_sdp.specs.declared.attribute.MediaAttribute.TheVariants.{Fmtp}
@@ -19,7 +20,7 @@ use Rattle.str0m_sdp.specs.section.Consistency.{is_mid, is_setup, is_direction, 
 use Rattle.str0m_sdp.specs.section.Consistency.{Consistent}
 use Rattle.str0m_sdp.specs.section.MadeSection.{is_of_type}
 use Rattle.str0m_sdp.specs.section.Mappings.{mapped, is_mapped_to}
-use Rattle.str0m_sdp.specs.section.SectionRows.{NamesOne, primary_types}
+use Rattle.str0m_sdp.specs.section.SectionRows.{NamesOnePrimary, primary_types}
 
 -- ---- what is counted stands in the frame alone
 
@@ -44,13 +45,13 @@ no_companion c h = grind arith
 pub frame_agrees : (attrs : List MediaAttribute) (attr : MediaAttribute) → is_of_type attr ≡ false → AgreesOnApt attrs attr
 frame_agrees attrs attr h = grind arith
 
-frame_names : (m : MediaLine) (attr : MediaAttribute) → is_of_type attr ≡ false → NamesOne m attr
+frame_names : (m : MediaLine) (attr : MediaAttribute) → is_of_type attr ≡ false → NamesOnePrimary m attr
 frame_names m attr h = grind arith
 
 module _ (values : PayloadParams → List (List FormatParam)) where
   of_types : (rows : List PayloadParams) → AllByRecursion (λ attr. is_of_type attr ≡ true) (flat_map (lines values) rows)
-  of_types rows = over_lines (λ attr. is_of_type attr ≡ true) (lines values) rows (rows_each_among _ rows (λ before row after e.
-      each (λ attr. is_of_type attr ≡ true) row (values row) (λ m. refl) (λ w. refl) (always _ (λ v. refl) (values row))
+  of_types rows = rows_over_lines (λ attr. is_of_type attr ≡ true) (lines values) rows (rows_each_among _ rows (λ before row after e.
+      row_lines_each (λ attr. is_of_type attr ≡ true) row (values row) (λ m. refl) (λ w. refl) (always _ (λ v. refl) (values row))
       (λ n k. (λ m. refl, refl)) (λ n k. (λ m. refl, refl))))
 
   -- what no line of a type passes is counted in the frame alone
@@ -78,7 +79,7 @@ module _ (values : PayloadParams → List (List FormatParam)) where
         All-from_recursion (AgreesOnApt attrs) attrs
         (line_all_of_both (AgreesOnApt attrs) frame.attrs (flat_map (lines values) rows)
         (rows_all_weaker _ (AgreesOnApt attrs) (frame_agrees attrs) frame.attrs bare)
-        (over_lines (AgreesOnApt attrs) (lines values) rows (rows_each_among _ rows one)))
+        (rows_over_lines (AgreesOnApt attrs) (lines values) rows (rows_each_among _ rows one)))
       where
         attrs : List MediaAttribute
         attrs = attrs_of values frame.attrs rows
@@ -91,7 +92,7 @@ module _ (values : PayloadParams → List (List FormatParam)) where
         one : (before : List PayloadParams) (row : PayloadParams) (after : List PayloadParams) → rows ≡ before ++ row ∷ after
             → AllByRecursion (AgreesOnApt attrs) (lines values row)
         one before row after e =
-            each (AgreesOnApt attrs) row (values row) (λ m. tt) (λ w. tt)
+            row_lines_each (AgreesOnApt attrs) row (values row) (λ m. tt) (λ w. tt)
             (format row (values row) (rows_taken_apart (λ r. IsMappingSaid r (values r)) before row after
             (subst (AllByRecursion (λ r. IsMappingSaid r (values r))) e said)).1.silent)
             (λ n is. (
@@ -126,20 +127,20 @@ module _ (values : PayloadParams → List (List FormatParam)) where
       some_types (row ∷ rows) h = λ e. cc
 
     -- each RTX and each RED line names one primary type
-    pub names_one : AllByRecursion IsPlain rows → All (NamesOne (section values frame rows)) (section values frame rows).attrs
+    pub names_one : AllByRecursion IsPlain rows → All (NamesOnePrimary (section values frame rows)) (section values frame rows).attrs
     names_one plain =
-        All-from_recursion (NamesOne m) (attrs_of values frame.attrs rows)
-        (line_all_of_both (NamesOne m) frame.attrs (flat_map (lines values) rows)
-        (rows_all_weaker _ (NamesOne m) (frame_names m) frame.attrs bare)
-        (over_lines (NamesOne m) (lines values) rows (rows_each_among _ rows one)))
+        All-from_recursion (NamesOnePrimary m) (attrs_of values frame.attrs rows)
+        (line_all_of_both (NamesOnePrimary m) frame.attrs (flat_map (lines values) rows)
+        (rows_all_weaker _ (NamesOnePrimary m) (frame_names m) frame.attrs bare)
+        (rows_over_lines (NamesOnePrimary m) (lines values) rows (rows_each_among _ rows one)))
       where
         m : MediaLine
         m = section values frame rows
 
         one : (before : List PayloadParams) (row : PayloadParams) (after : List PayloadParams) → rows ≡ before ++ row ∷ after
-            → AllByRecursion (NamesOne m) (lines values row)
+            → AllByRecursion (NamesOnePrimary m) (lines values row)
         one before row after e =
-            each (NamesOne m) row (values row) (λ m. tt) (λ w. tt) (always _ format (values row))
+            row_lines_each (NamesOnePrimary m) row (values row) (λ m. tt) (λ w. tt) (always _ format (values row))
             (λ n is. (λ m. tt, (λ named. (row.pt, primary, refl), λ named. absurd (true≢false (sym named ∙ of_rtx n is)))))
             (λ n is. (λ m. tt, (λ named. absurd (true≢false (sym named ∙ of_red n is)), λ named. (row.pt, primary, refl))))
           where
@@ -173,7 +174,7 @@ module _ (values : PayloadParams → List (List FormatParam)) where
                 ap (λ xs. is_mapped_to c (mapped (section values frame xs)) row.pt) e
                 ∙ pt_mapped values frame bare before row after plain' d' c ∙ fails
 
-            format : (v : List FormatParam) → NamesOne m (Fmtp row.pt v)
+            format : (v : List FormatParam) → NamesOnePrimary m (Fmtp row.pt v)
             format v = (
               λ named. absurd (true≢false (sym named ∙ of_pt codec.Rtx (no_companion row.spec.codec carried).0)),
               λ named. absurd (true≢false (sym named ∙ of_pt codec.Red (no_companion row.spec.codec carried).1)),

@@ -12,7 +12,7 @@ use Rattle.str0m_sdp.specs.declared.section.media_line.MediaLine.{MediaLine}
 use Rattle.str0m_sdp.specs.section.Consistency.{is_mid, is_setup, is_direction, Consistent}
 use Rattle.str0m_sdp.specs.section.MadeSection.{is_of_type}
 use Rattle.str0m_sdp.specs.section.Mappings.{mapped}
-use Rattle.str0m_sdp.specs.section.SectionRows.{rows as rows_of, NamesOne}
+use Rattle.str0m_sdp.specs.section.SectionRows.{rows as rows_of, NamesOnePrimary}
 
 -- what a frame says beside its types: one mid, one setup at most, one direction over Srtp, and no line of a type
 pub record IsBareFrame (m : MediaLine) (frame : List MediaAttribute) : Type 0 where
@@ -25,7 +25,7 @@ pub record IsBareFrame (m : MediaLine) (frame : List MediaAttribute) : Type 0 wh
 -- describes the rows
 pub record DescribesRows (m : MediaLine) (rows : List PayloadParams) : Type 0 where
   pub consistent : Consistent m
-  pub names_one : All (NamesOne m) m.attrs
+  pub names_one : All (NamesOnePrimary m) m.attrs
   pub types_are : mapped m ≡ flat_map row_entries rows
   pub rows_are : rows_of m ≡ map unlocked rows
   pub same : AllZip SameRow (rows_of m) rows

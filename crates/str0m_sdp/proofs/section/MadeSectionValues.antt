@@ -39,8 +39,8 @@ none_refused : (c : Codec) → line_asks_absent c [] ≡ false
 unfolding line_asks_absent
 none_refused c = grind arith
 
-no_line_said : (c : Codec) → c ≢ codec.Tele → format_of_fmtp c [] ≡ Some empty
-no_line_said c other = grind (arith, none_refused)
+made_no_line_said : (c : Codec) → c ≢ codec.Tele → format_of_fmtp c [] ≡ Some empty
+made_no_line_said c other = grind (arith, none_refused)
 
 no_params : params_read [] ≡ []
 unfolding params_read has_triple_mark
@@ -48,7 +48,7 @@ no_params = refl
 
 line_says : (c : Codec) (format : FormatParams) (pairs : List (List ℕ × List ℕ)) → c ≢ codec.Tele → IsLineOf format pairs
     → format_of_fmtp c (pairs_line_read pairs) ≡ Some format
-line_says c format [] other line = grind (arith, no_line_said, no_params)
+line_says c format [] other line = grind (arith, made_no_line_said, no_params)
 line_says c format (pair ∷ pairs) other line = format_said c format (params_read (pair ∷ pairs)) other line.own line.format
 
 said_of_codec : (row : PayloadParams) (pairs : List (List ℕ × List ℕ)) → IsPlain row → (c : Codec) → row.spec.codec ≡ c
@@ -66,17 +66,17 @@ lines_say row pairs p line = let both = said_of_codec row pairs p row.spec.codec
 abbrev pub values_by : (PayloadParams → List (List ℕ × List ℕ)) → PayloadParams → List (List FormatParam)
 values_by pairs row = values_read row.spec.codec row.spec.format (pairs row)
 
-each_line_said : (pairs : PayloadParams → List (List ℕ × List ℕ)) (rows : List PayloadParams) → All IsPlain rows
+made_each_line_said : (pairs : PayloadParams → List (List ℕ × List ℕ)) (rows : List PayloadParams) → All IsPlain rows
     → All (λ row. row.spec.codec ≢ codec.Tele → IsLineOf row.spec.format (pairs row)) rows
     → All (λ row. IsMappingSaid row (values_by pairs row)) rows
-each_line_said pairs rows plain line = λ k d lt. lines_say (get_or rows k d) (pairs (get_or rows k d)) (plain k d lt) (line k d lt)
+made_each_line_said pairs rows plain line = λ k d lt. lines_say (get_or rows k d) (pairs (get_or rows k d)) (plain k d lt) (line k d lt)
 
 -- a section whose lines are read so describes the rows
 pub describes_printed : (pairs : PayloadParams → List (List ℕ × List ℕ)) (m : MediaLine) (frame : List MediaAttribute)
     (rows : List PayloadParams) → IsBareFrame m frame
     → m.attrs ≡ attrs_of (values_by pairs) frame rows → m.pts ≡ types rows → All IsPlain rows → AllTypesDistinct (types rows)
     → All (λ row. row.spec.codec ≢ codec.Tele → IsLineOf row.spec.format (pairs row)) rows → rows ≢ [] → DescribesRows m rows
-describes_printed pairs m frame rows f attrs pts plain d line some = search (rules, describes, each_line_said)
+describes_printed pairs m frame rows f attrs pts plain d line some = search (rules, describes, made_each_line_said)
 
 -- ---- the pairs that a format prints
 

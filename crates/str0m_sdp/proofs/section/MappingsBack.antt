@@ -7,10 +7,10 @@ use Rattle.str0m_sdp.proofs.Common.{type_times-some, line_all_of_both}
 use Rattle.str0m_sdp.proofs.section.MadeSectionFrame.{HasNoTypes, NameNoType}
 use Rattle.str0m_sdp.proofs.section.RowAttributesAnswers.{NamesItself, row_entries, rtx_entry, red_entry, row_eq_false_flipped}
 use Rattle.str0m_sdp.proofs.section.RowAttributesQuestions.{attrs_of, mappings_are, maps_are}
-use Rattle.str0m_sdp.proofs.section.RowAttributesReads.{quiet}
-use Rattle.str0m_sdp.proofs.section.SectionRowsApart.{LacksType, Roles, unique, self, has_at-append}
+use Rattle.str0m_sdp.proofs.section.RowAttributesReads.{row_lines_quiet}
+use Rattle.str0m_sdp.proofs.section.SectionRowsApart.{LacksType, Roles, unique, row_type_is_itself, has_at-append}
 use Rattle.str0m_sdp.proofs.section.SectionRowsParts.{all-filter, rows_all_weaker, rows_each_among, rows_none_passes, rows_or_false}
-use Rattle.str0m_sdp.proofs.section.SectionRowsParts.{rows_own_holds, AllFail, passes}
+use Rattle.str0m_sdp.proofs.section.SectionRowsParts.{rows_own_holds, AllFail, rows_counted_passes}
 use Rattle.str0m_sdp.specs.Common.{distinct}
 use Rattle.str0m_sdp.specs.declared.attribute.MediaAttribute.{MediaAttribute}
 use Rattle.str0m_sdp.specs.declared.section.media_line.MediaLine.{MediaLine}
@@ -37,13 +37,13 @@ module _ (c : Codec) (t : ℕ) (row : PayloadParams) where
   entries_apart h = grind arith
 
   pub entry_pt : Roles row → t ≡ row.pt → list_any (stands_for_codec c t) (row_entries row) ≡ same_codec row.spec.codec c
-  entry_pt r same = grind (arith, rows_none_passes, line_all_of_both, rtx_fails, red_fails, self, rows_or_false)
+  entry_pt r same = grind (arith, rows_none_passes, line_all_of_both, rtx_fails, red_fails, row_type_is_itself, rows_or_false)
 
   pub entry_rtx : Roles row → row.resend ≡ Some t → list_any (stands_for_codec c t) (row_entries row) ≡ same_codec codec.Rtx c
-  entry_rtx r is = grind (arith, row_eq_false_flipped, list_any-append, rows_none_passes, red_fails, rows_or_false, self)
+  entry_rtx r is = grind (arith, row_eq_false_flipped, list_any-append, rows_none_passes, red_fails, rows_or_false, row_type_is_itself)
 
   pub entry_red : Roles row → row.red ≡ Some t → list_any (stands_for_codec c t) (row_entries row) ≡ same_codec codec.Red c
-  entry_red r is = grind (arith, row_eq_false_flipped, list_any-append, rows_none_passes, rtx_fails, self, rows_or_false)
+  entry_red r is = grind (arith, row_eq_false_flipped, list_any-append, rows_none_passes, rtx_fails, row_type_is_itself, rows_or_false)
 
 -- among the types of all rows a type stands for what its own row says
 pub mapped_among : (c : Codec) (t : ℕ) (before : List PayloadParams) (row : PayloadParams) (after : List PayloadParams)
@@ -75,18 +75,28 @@ module _ (values : PayloadParams → List (List FormatParam)) where
   section frame rows = record frame { pts = types rows; attrs = attrs_of values frame.attrs rows }
 
   pub each_type : (rows : List PayloadParams) → AllByRecursion (λ t. has (types rows) t ≡ true) (types rows)
-  each_type rows = grind (arith, rows_each_among, has_at-append, or_right, or_left, self)
+  each_type rows = grind (arith, rows_each_among, has_at-append, or_right, or_left, row_type_is_itself)
 
   pub is_said_mapped : (frame : List MediaAttribute) (rows : List PayloadParams) → HasNoTypes frame → (t : ℕ)
       → has (types rows) t ≡ true → list_any (maps t) (attrs_of values frame rows) ≡ true
   is_said_mapped frame rows bare t h =
       let one = type_times-some (types rows) t h in
       let same = maps_are values frame rows bare t in
-      passes (maps t) (attrs_of values frame rows) (omega (arith, one, same))
+      rows_counted_passes (maps t) (attrs_of values frame rows) (omega (arith, one, same))
 
   -- the types that it maps: each row's in order, and none that needs no line
   pub mapped_is : (frame : MediaLine) (rows : List PayloadParams) → HasNoTypes frame.attrs → AllByRecursion IsPlain rows
       → mapped (section frame rows) ≡ flat_map row_entries rows
   unfolding mapped
   mapped_is frame rows bare plain =
-      grind (arith, mappings_are, rows_all_weaker, names_itself, quiet, mappings_of_distinct, each_type, append-nil, is_said_mapped)
+      grind (
+        arith,
+        mappings_are,
+        rows_all_weaker,
+        names_itself,
+        row_lines_quiet,
+        mappings_of_distinct,
+        each_type,
+        append-nil,
+        is_said_mapped,
+      )

@@ -17,10 +17,10 @@ pub map_more : {X Y : Type 0} (f : X → Option Y) (xs : List X) (i : ℕ) (x : 
 map_more {X} {Y} f xs i x lt is = grind (arith, take_read xs i x lt is, filter_map-append f (take i xs) (x ∷ []), map_one f x (f x))
 
 -- an item that is kept
-pub kept_item : {X Y : Type 0} (p : X → Bool) (f : X → Option Y) (xs : List X) (i : ℕ) (x : X) → i < length xs → x ≡ get_or xs i x
+pub filter_map_kept : {X Y : Type 0} (p : X → Bool) (f : X → Option Y) (xs : List X) (i : ℕ) (x : X) → i < length xs → x ≡ get_or xs i x
     → p x ≡ true
     → filter_map f (filter p (take (i + 1) xs)) ≡ filter_map f (filter p (take i xs)) ++ option_to_list (f x)
-kept_item {X} {Y} p f xs i x lt is kept =
+filter_map_kept {X} {Y} p f xs i x lt is kept =
     ap (λ (ys : List X). filter_map f (filter p ys)) (take_read xs i x lt is)
     ∙ ap (λ (ys : List X). filter_map f ys) (filter-append p (take i xs) (x ∷ [])
     ∙ ap (λ (b : Bool). filter p (take i xs) ++ cond b (x ∷ []) []) kept)

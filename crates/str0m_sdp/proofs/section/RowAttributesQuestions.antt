@@ -6,16 +6,17 @@ use Rattle.str0m_sdp.proofs.Common.{AllTypesDistinct}
 use Rattle.str0m_sdp.proofs.Common.{types_of, types, CodecSpec, FormatParam, PayloadParams, type_times-append, type_times-cons, Codec}
 use Rattle.str0m_sdp.proofs.Common.{count_by}
 use Rattle.str0m_sdp.proofs.Common.{filter_map}
-use Rattle.str0m_sdp.proofs.section.FmtpLinesAnswers.{values_apart, values_own, apt_apart, apt_own}
+use Rattle.str0m_sdp.proofs.section.FmtpLinesAnswers.{fmtp_values_apart, fmtp_values_own, apt_apart, apt_own}
 use Rattle.str0m_sdp.proofs.section.MadeSectionFrame.{HasNoTypes, NameNoType, frame_mapping, frame_maps, frame_feedback, frame_values}
 use Rattle.str0m_sdp.proofs.section.MadeSectionFrame.{frame_apt, frame_companion}
 use Rattle.str0m_sdp.proofs.section.RowAttributesAnswers.{NamesItself, row_entries, row_and_false, row_none_with, rtx_own, red_own}
 use Rattle.str0m_sdp.proofs.section.RowAttributesAnswers.{feedback_apart}
 use Rattle.str0m_sdp.proofs.section.RowAttributesAnswers.{feedback_own, mapping_own}
-use Rattle.str0m_sdp.proofs.section.RowAttributesReads.{reads, fmtp_lines, red_reads, quiet, all_feedback, all_fmtp}
+use Rattle.str0m_sdp.proofs.section.RowAttributesReads.{reads, fmtp_lines, red_reads, row_lines_quiet, all_feedback, all_fmtp}
 use Rattle.str0m_sdp.proofs.section.SectionRowsApart.{LacksType, Roles, unique, roles, row_distinct, has_pt, has_rtx, pt_apart}
 use Rattle.str0m_sdp.proofs.section.SectionRowsOwn.{AreRowsOpen, own_said}
-use Rattle.str0m_sdp.proofs.section.SectionRowsParts.{always, rows_or_false, rows_all_weaker, together, rows_taken_apart, rows_none_passes}
+use Rattle.str0m_sdp.proofs.section.SectionRowsParts.{always, rows_or_false, rows_all_weaker, rows_all_together, rows_taken_apart}
+use Rattle.str0m_sdp.proofs.section.SectionRowsParts.{rows_none_passes}
 use Rattle.str0m_sdp.proofs.section.SectionRowsParts.{rows_none_counted}
 use Rattle.str0m_sdp.proofs.section.SectionRowsParts.{count-append, rows_own_holds, AllFail}
 use Rattle.str0m_sdp.specs.Common.{first, last}
@@ -28,14 +29,14 @@ use Rattle.str0m_sdp.specs.section.Companions.{companion_in, companion}
 use Rattle.str0m_sdp.specs.section.Consistency.{maps, apt_in, first_apt}
 use Rattle.str0m_sdp.specs.section.Mappings.{mapping, is_mapped_to}
 use Rattle.str0m_sdp.specs.section.RowAttributes.{feedback_attrs, rtx_lines}
-use Rattle.str0m_sdp.specs.section.SectionRows.{values_in, fmtps_of}
+use Rattle.str0m_sdp.specs.section.SectionRows.{fmtp_values_in, fmtps_of}
 
 first_apt-is : (t : ℕ) (attrs : List MediaAttribute) → first_apt t attrs ≡ first (filter_map (apt_in t) attrs)
 first_apt-is t [] = refl
 first_apt-is t (attr ∷ attrs) = grind (arith, first_apt-is t attrs)
 
-last_option : (o : Option ℕ) → last (option_to_list o) ≡ o
-last_option o = grind arith
+last_of_row_option : (o : Option ℕ) → last (option_to_list o) ≡ o
+last_of_row_option o = grind arith
 
 -- the lines say exactly the row's feedback of its primary type
 pub record SayFeedback (attrs : List MediaAttribute) (row : PayloadParams) : Type 0 where
@@ -68,16 +69,18 @@ module _ (values : PayloadParams → List (List FormatParam)) where
     own_roles = roles row (row_distinct before row after d)
 
     -- the values of its fmtp lines
-    pub values_are : fmtps_of (attrs_of frame (before ++ row ∷ after)) row.pt ≡ values row
+    pub row_values_are : fmtps_of (attrs_of frame (before ++ row ∷ after)) row.pt ≡ values row
     unfolding fmtps_of
-    values_are =
-        own_said (values_in row.pt) lines frame before row after
-        (quiet (values_in row.pt) frame (rows_all_weaker _ (λ a. values_in row.pt a ≡ None) (frame_values row.pt) frame bare))
+    row_values_are =
+        own_said (fmtp_values_in row.pt) lines frame before row after
+        (row_lines_quiet (fmtp_values_in row.pt) frame
+        (rows_all_weaker _ (λ a. fmtp_values_in row.pt a ≡ None) (frame_values row.pt) frame bare))
         (others before (unique before row after row.pt d (has_pt row)).0) (others after (unique before row after row.pt d (has_pt row)).1)
-        ∙ values_own row (values row) own_roles
+        ∙ fmtp_values_own row (values row) own_roles
       where
-        others : (rows : List PayloadParams) → LacksType row.pt rows → AreRowsOpen (values_in row.pt) lines rows
-        others rows h = rows_all_weaker _ (λ r. filter_map (values_in row.pt) (lines r) ≡ []) (λ r k. values_apart r (values r) row.pt k)
+        others : (rows : List PayloadParams) → LacksType row.pt rows → AreRowsOpen (fmtp_values_in row.pt) lines rows
+        others rows h = rows_all_weaker _ (λ r. filter_map (fmtp_values_in row.pt) (lines r) ≡ [])
+            (λ r k. fmtp_values_apart r (values r) row.pt k)
             rows h
 
     -- the primary type that its RTX type names
@@ -85,7 +88,7 @@ module _ (values : PayloadParams → List (List FormatParam)) where
     apt_is t is =
         first_apt-is t (attrs_of frame (before ++ row ∷ after))
         ∙ ap first (own_said (apt_in t) lines frame before row after
-        (quiet (apt_in t) frame (rows_all_weaker _ (λ a. apt_in t a ≡ None) (frame_apt t) frame bare))
+        (row_lines_quiet (apt_in t) frame (rows_all_weaker _ (λ a. apt_in t a ≡ None) (frame_apt t) frame bare))
         (others before (unique before row after t d (has_rtx row t is)).0) (others after (unique before row after t d (has_rtx row t is)).1)
         ∙ apt_own row (values row) t own_roles is)
       where
@@ -93,10 +96,10 @@ module _ (values : PayloadParams → List (List FormatParam)) where
         others rows h = rows_all_weaker _ (λ r. filter_map (apt_in t) (lines r) ≡ []) (λ r k. apt_apart r (values r) t k) rows h
 
     -- its feedback
-    has_flag : (words : List ℕ) → has_feedback (attrs_of frame (before ++ row ∷ after)) row.pt words
+    row_has_flag : (words : List ℕ) → has_feedback (attrs_of frame (before ++ row ∷ after)) row.pt words
         ≡ list_any (is_feedback row.pt words) (lines row)
     unfolding has_feedback
-    has_flag words =
+    row_has_flag words =
         rows_own_holds (is_feedback row.pt words) lines frame before row after
         (rows_none_passes (is_feedback row.pt words) frame
         (rows_all_weaker _ (λ a. is_feedback row.pt words a ≡ false) (frame_feedback row.pt words) frame bare))
@@ -109,12 +112,12 @@ module _ (values : PayloadParams → List (List FormatParam)) where
 
     pub feedback_is : SayFeedback (attrs_of frame (before ++ row ∷ after)) row
     feedback_is = record {
-      transport_cc = has_flag TRANSPORT_CC.now ∙ feedback_own row (values row) TRANSPORT_CC.now
+      transport_cc = row_has_flag TRANSPORT_CC.now ∙ feedback_own row (values row) TRANSPORT_CC.now
           ∙ simp (row_and_true, row_and_false, rows_or_false);
-      fir = has_flag FIR.now ∙ feedback_own row (values row) FIR.now ∙ simp (row_and_true, row_and_false, rows_or_false);
-      nack = has_flag NACK.now ∙ feedback_own row (values row) NACK.now ∙ simp (row_and_true, row_and_false, rows_or_false);
-      pli = has_flag PLI.now ∙ feedback_own row (values row) PLI.now ∙ simp (row_and_true, row_and_false);
-      remb = has_flag REMB.now ∙ feedback_own row (values row) REMB.now ∙ simp (row_and_true, row_and_false, rows_or_false);
+      fir = row_has_flag FIR.now ∙ feedback_own row (values row) FIR.now ∙ simp (row_and_true, row_and_false, rows_or_false);
+      nack = row_has_flag NACK.now ∙ feedback_own row (values row) NACK.now ∙ simp (row_and_true, row_and_false, rows_or_false);
+      pli = row_has_flag PLI.now ∙ feedback_own row (values row) PLI.now ∙ simp (row_and_true, row_and_false);
+      remb = row_has_flag REMB.now ∙ feedback_own row (values row) REMB.now ∙ simp (row_and_true, row_and_false, rows_or_false);
     }
 
     -- its RTX type and its RED type, where these are mapped to RTX and RED, and no value of a row's format names a type
@@ -124,17 +127,17 @@ module _ (values : PayloadParams → List (List FormatParam)) where
       unfolding companion
       companion_is c own is =
           ap last (own_said (companion_in c mapped row.pt) lines frame before row after
-          (quiet (companion_in c mapped row.pt) frame
+          (row_lines_quiet (companion_in c mapped row.pt) frame
           (rows_all_weaker _ (λ a. companion_in c mapped row.pt a ≡ None) (frame_companion c mapped row.pt) frame bare))
           (others before (rows_taken_apart _ before row after silent).0 (unique before row after row.pt d (has_pt row)).0)
           (others after (rows_taken_apart _ before row after silent).2 (unique before row after row.pt d (has_pt row)).1)
           ∙ is)
-          ∙ last_option own
+          ∙ last_of_row_option own
         where
           others : (rows : List PayloadParams) → AllByRecursion (λ r. NameNoType (values r)) rows → LacksType row.pt rows
               → AreRowsOpen (companion_in c mapped row.pt) lines rows
           others rows s h =
-              together _ _ (λ r. filter_map (companion_in c mapped row.pt) (lines r) ≡ [])
+              rows_all_together _ _ (λ r. filter_map (companion_in c mapped row.pt) (lines r) ≡ [])
               (λ r k l. row_none_with mapped r c (values r) row.pt k (pt_apart r row.pt l)) rows s h
 
       own_silent : NameNoType (values row)
@@ -152,7 +155,15 @@ module _ (values : PayloadParams → List (List FormatParam)) where
   pub mappings_are : (frame : List MediaAttribute) (rows : List PayloadParams) → HasNoTypes frame
       → AllByRecursion (λ row. NamesItself row.spec) rows
       → filter_map mapping (attrs_of frame rows) ≡ flat_map row_entries rows
-  mappings_are frame rows bare same = grind (arith, filter_map-append, quiet, rows_all_weaker, frame_mapping, over_rows, mapping_own)
+  mappings_are frame rows bare same = grind (
+    arith,
+    filter_map-append,
+    row_lines_quiet,
+    rows_all_weaker,
+    frame_mapping,
+    over_rows,
+    mapping_own,
+  )
 
   -- a type is mapped as often as it stands among the types of the rows
   maps_in : (t : ℕ) (row : PayloadParams) → count_by (maps t) (lines row) ≡ type_times (types_of row) t

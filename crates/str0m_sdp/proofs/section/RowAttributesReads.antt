@@ -45,18 +45,18 @@ module _ (P : MediaAttribute → Type 0) (row : PayloadParams) where
       → AllByRecursion P (red_reads row o)
   all_red o h = grind arith
 
-  pub each : (vs : List (List FormatParam)) → ((m : Mapping) → P (RtpMap row.pt m)) → ((w : List ℕ) → P (RtcpFb row.pt w))
+  pub row_lines_each : (vs : List (List FormatParam)) → ((m : Mapping) → P (RtpMap row.pt m)) → ((w : List ℕ) → P (RtcpFb row.pt w))
       → AllByRecursion (λ v. P (Fmtp row.pt v)) vs
       → ((n : ℕ) → row.resend ≡ Some n → ((m : Mapping) → P (RtpMap n m)) × P (Fmtp n (Apt row.pt ∷ [])))
       → ((n : ℕ) → row.red ≡ Some n → ((m : Mapping) → P (RtpMap n m)) × P (Fmtp n (BarePtList row.pt ∷ [])))
       → AllByRecursion P (reads row vs)
-  each vs map feedback format rtx red = grind (arith, line_all_of_both, all_feedback, all_fmtp, all_rtx, all_red)
+  row_lines_each vs map feedback format rtx red = grind (arith, line_all_of_both, all_feedback, all_fmtp, all_rtx, all_red)
 
 -- ---- questions
 
-pub quiet : {X Y : Type 0} (q : X → Option Y) (xs : List X) → AllByRecursion (λ x. q x ≡ None) xs → filter_map q xs ≡ []
-quiet q [] h = refl
-quiet q (x ∷ xs) h = rw h.0 (quiet q xs h.1)
+pub row_lines_quiet : {X Y : Type 0} (q : X → Option Y) (xs : List X) → AllByRecursion (λ x. q x ≡ None) xs → filter_map q xs ≡ []
+row_lines_quiet q [] h = refl
+row_lines_quiet q (x ∷ xs) h = rw h.0 (row_lines_quiet q xs h.1)
 
 pub append_said : {X Y : Type 0} (q : X → Option Y) (xs ys : List X) (vs ws : List Y)
     → filter_map q xs ≡ vs → filter_map q ys ≡ ws → filter_map q (xs ++ ys) ≡ vs ++ ws
@@ -68,4 +68,4 @@ pub parts_said : {Y : Type 0} (q : MediaAttribute → Option Y) (row : PayloadPa
     → filter_map q (fmtp_lines row.pt vs) ≡ fmtp → filter_map q (rtx_lines row row.resend) ≡ rtx
     → filter_map q (red_reads row row.red) ≡ red
     → filter_map q (reads row vs) ≡ fmtp ++ (rtx ++ red)
-parts_said q row vs fmtp rtx red map feedback a b c = grind (arith, append_said, quiet)
+parts_said q row vs fmtp rtx red map feedback a b c = grind (arith, append_said, row_lines_quiet)

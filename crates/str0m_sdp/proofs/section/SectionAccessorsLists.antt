@@ -29,30 +29,32 @@ first_reversed h (x ∷ xs) =
 
 -- ---- one more item
 
-item_more : {X Y : Type 0} (h : X → Option Y) (xs : List X) (i : ℕ) (x : X) (o : Option Y) → i < length xs → x ≡ get_or xs i x → o ≡ h x
+accessor_item_more : {X Y : Type 0} (h : X → Option Y) (xs : List X) (i : ℕ) (x : X) (o : Option Y) → i < length xs → x ≡ get_or xs i x
+    → o ≡ h x
     → filter_map h (take (i + 1) xs) ≡ filter_map h (take i xs) ++ cons_option o []
-item_more h xs i x o lt is holds = grind (arith, take_more xs i x lt, filter_map-append h (take i xs) (get_or xs i x ∷ []))
+accessor_item_more h xs i x o lt is holds = grind (arith, take_more xs i x lt, filter_map-append h (take i xs) (get_or xs i x ∷ []))
 
 -- an item that holds something is passed, and one that holds nothing
 pub filter_map_more : {X Y : Type 0} (h : X → Option Y) (xs : List X) (i : ℕ) (x : X) (y : Y) → i < length xs → x ≡ get_or xs i x
     → Some y ≡ h x
     → filter_map h (take (i + 1) xs) ≡ filter_map h (take i xs) ++ y ∷ []
-filter_map_more h xs i x y lt is holds = item_more h xs i x (Some y) lt is holds
+filter_map_more h xs i x y lt is holds = accessor_item_more h xs i x (Some y) lt is holds
 
 pub filter_map_same : {X Y : Type 0} (h : X → Option Y) (xs : List X) (i : ℕ) (x : X) → i < length xs → x ≡ get_or xs i x → None ≡ h x
     → filter_map h (take (i + 1) xs) ≡ filter_map h (take i xs)
-filter_map_same h xs i x lt is holds = item_more h xs i x None lt is holds ∙ append-nil (filter_map h (take i xs))
+filter_map_same h xs i x lt is holds = accessor_item_more h xs i x None lt is holds ∙ append-nil (filter_map h (take i xs))
 
 -- ---- counted by a test
 
 module _ {X Y : Type 0} (h : X → Option Y) (p : X → Bool) (same : (x : X) → is_some (h x) ≡ p x) where
-  held : (x : X) (o : Option Y) (b : Bool) (ys : List Y) (zs : List X) → is_some o ≡ b → is_some (first ys) ≡ ltb 0 (length zs)
+  accessor_first_if_held : (x : X) (o : Option Y) (b : Bool) (ys : List Y) (zs : List X) → is_some o ≡ b
+      → is_some (first ys) ≡ ltb 0 (length zs)
       → is_some (first (cons_option o ys)) ≡ ltb 0 (length (cond b (x ∷ zs) zs))
-  held x o b ys zs e rest = grind arith
+  accessor_first_if_held x o b ys zs e rest = grind arith
 
   filter_map_counted : (xs : List X) → is_some (first (filter_map h xs)) ≡ ltb 0 (length (filter p xs))
   filter_map_counted [] = refl
-  filter_map_counted (x ∷ xs) = held x (h x) (p x) (filter_map h xs) (filter p xs) (same x) (filter_map_counted xs)
+  filter_map_counted (x ∷ xs) = accessor_first_if_held x (h x) (p x) (filter_map h xs) (filter p xs) (same x) (filter_map_counted xs)
 
   -- there is a first where some item passes
   pub accessor_first_counted : (xs : List X) → (is_some (first (filter_map h xs)) ≡ true) ↔ (0 < count_by p xs)

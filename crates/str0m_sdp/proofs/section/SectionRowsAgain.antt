@@ -10,8 +10,9 @@ use Rattle.str0m_sdp.proofs.Common.{filter_map, Content, audio, video, has_video
 use Rattle.str0m_sdp.proofs.section.MadeSectionFrame.{HasNoTypes, NameNoType}
 use Rattle.str0m_sdp.proofs.section.MappingsBack.{IsMappingSaid, unlocked, section, mapped_is, mapped_among, entry_pt, entry_rtx, entry_red}
 use Rattle.str0m_sdp.proofs.section.RowAttributesAnswers.{row_entries, rtx_entry, red_entry}
-use Rattle.str0m_sdp.proofs.section.RowAttributesQuestions.{attrs_of, values_are, feedback_is, SayFeedback, rtx_is, red_is}
-use Rattle.str0m_sdp.proofs.section.SectionRowsApart.{Roles, roles, row_distinct, self, has_pt, has_rtx, has_red, has_at-append}
+use Rattle.str0m_sdp.proofs.section.RowAttributesQuestions.{attrs_of, row_values_are, feedback_is, SayFeedback, rtx_is, red_is}
+use Rattle.str0m_sdp.proofs.section.SectionRowsApart.{Roles, roles, row_distinct, row_type_is_itself, has_pt, has_rtx, has_red}
+use Rattle.str0m_sdp.proofs.section.SectionRowsApart.{has_at-append}
 use Rattle.str0m_sdp.proofs.section.SectionRowsParts.{rows_all_weaker, rows_taken_apart, rows_each_among}
 use Rattle.str0m_sdp.specs.declared.section.media_line.MediaLine.{MediaLine}
 use Rattle.str0m_sdp.specs.section.Companions.{rtx_companion, red_companion}
@@ -25,7 +26,7 @@ has_types (r ∷ before) row after t h = grind (arith, has_at-append, or_right, 
 
 has_primary : (before : List PayloadParams) (row : PayloadParams) (after : List PayloadParams)
     → has (map (λ r. r.pt) (map unlocked (before ++ row ∷ after))) row.pt ≡ true
-has_primary [] row after = or_left (row.pt == row.pt) _ (self row.pt)
+has_primary [] row after = or_left (row.pt == row.pt) _ (row_type_is_itself row.pt)
 has_primary (r ∷ before) row after = or_right (r.pt == row.pt) _ (has_primary before row after)
 
 video_or : (c : Content) (b : Bool) → (c ≡ video → b ≡ true) → (has_video c || b) ≡ b
@@ -127,7 +128,7 @@ module _ (values : PayloadParams → List (List FormatParam)) (frame : MediaLine
       unfolding row_at
       row_again =
           ap (λ o. option_map (row_with (section values frame (before ++ row ∷ after)) row.pt (record row.spec { format = empty })) o)
-          (ap (λ vs. format_of_fmtp row.spec.codec vs) (values_are values frame.attrs bare before row after d) ∙ row_said_here.format)
+          (ap (λ vs. format_of_fmtp row.spec.codec vs) (row_values_are values frame.attrs bare before row after d) ∙ row_said_here.format)
           ∙ ap (λ r. Some r) same_row
 
       -- of its types the primary one alone has a row

@@ -3,14 +3,16 @@ use Rattle.str0m_formats.specs.format.FormatParams.{set}
 use Rattle.str0m_sdp.proofs.Common.{rules, arith, ◌≡◌, ◌≤◌, ◌++◌, ℕ, Bool, cond, not, List, [], ◌∷◌, Option, Some, None, All, IfSome}
 use Rattle.str0m_sdp.proofs.Common.{filter, find, nat_eq, option_to_list, filter_map, All-nil, All-head, All-tail, IsBounded, static_spec}
 use Rattle.str0m_sdp.proofs.Common.{format_of_fmtp, empty, set_all, Codec, CodecSpec, FormatParam, FormatParams, nat_lt, option_map}
-use Rattle.str0m_sdp.proofs.Common.{All-append, All-filter, AreModes, IsDistance, events_end, is_event, kept, values_of, static_small}
+use Rattle.str0m_sdp.proofs.Common.{All-append, All-filter, AreModes, IsDistance, events_end, is_event, line_without_event_ranges}
+use Rattle.str0m_sdp.proofs.Common.{values_of_lines, static_small}
 use Rattle.str0m_sdp.proofs.section.MappingsFilterMap.{all_mapped, filter_map_last_of_all}
 use Rattle.str0m_sdp.specs.Common.{distinct}
 use Rattle.str0m_sdp.specs.declared.attribute.MediaAttribute.{MediaAttribute}
 use Rattle.str0m_sdp.specs.declared.section.media_line.MediaLine.{MediaLine}
 use Rattle.str0m_sdp.specs.section.Companions.{companion_in, companion, rtx_companion, red_companion}
 use Rattle.str0m_sdp.specs.section.Mappings.{mapping, unmapped, mapped}
-use Rattle.str0m_sdp.specs.section.SectionRows.{IsRowInBounds, KeepsToLine, KeepsToLines, values_in, fmtps_of, is_kept, row_with, row, rows}
+use Rattle.str0m_sdp.specs.section.SectionRows.{IsRowInBounds, KeepsToLine, KeepsToLines, fmtp_values_in, fmtps_of, is_kept, row_with, row}
+use Rattle.str0m_sdp.specs.section.SectionRows.{rows}
 
 abbrev IsType : ℕ → Type 0
 IsType n = n ≤ 127
@@ -31,12 +33,12 @@ bound_all_within (param ∷ params) p ranges within =
     bound_all_within params (set param p) (All-tail IsRowInBounds param params ranges)
     (bound_set_within param p (All-head IsRowInBounds param params ranges) within)
 
-values_within : (lines : List (List FormatParam)) → All (All IsRowInBounds) lines → All IsRowInBounds (values_of lines)
-values_within [] ranges = All-nil IsRowInBounds
-values_within (line ∷ lines) ranges =
-    All-append IsRowInBounds (kept line) (values_of lines)
+bound_values_within : (lines : List (List FormatParam)) → All (All IsRowInBounds) lines → All IsRowInBounds (values_of_lines lines)
+bound_values_within [] ranges = All-nil IsRowInBounds
+bound_values_within (line ∷ lines) ranges =
+    All-append IsRowInBounds (line_without_event_ranges line) (values_of_lines lines)
     (All-filter (λ param. not (is_event param)) IsRowInBounds line (All-head (All IsRowInBounds) line lines ranges))
-    (values_within lines (All-tail (All IsRowInBounds) line lines ranges))
+    (bound_values_within lines (All-tail (All IsRowInBounds) line lines ranges))
 
 events_within : (max : Option ℕ) → IfSome (option_map (λ n. record empty { telephone_event_max = Some n }) max) FieldsWithin
 events_within max = grind arith
@@ -46,14 +48,14 @@ unless_refused b p within = grind arith
 
 format_within : (codec : Codec) (lines : List (List FormatParam)) → All (All IsRowInBounds) lines
     → IfSome (format_of_fmtp codec lines) FieldsWithin
-format_within codec lines ranges = grind (arith, events_within, events_end, unless_refused, bound_all_within, values_within)
+format_within codec lines ranges = grind (arith, events_within, events_end, unless_refused, bound_all_within, bound_values_within)
 
-line_within : (pt : ℕ) (attr : MediaAttribute) → KeepsToLine attr → IfSome (values_in pt attr) (All IsRowInBounds)
-line_within pt attr keeps = grind arith
+bound_line_within : (pt : ℕ) (attr : MediaAttribute) → KeepsToLine attr → IfSome (fmtp_values_in pt attr) (All IsRowInBounds)
+bound_line_within pt attr keeps = grind arith
 
-lines_within : (attrs : List MediaAttribute) (pt : ℕ) → All KeepsToLine attrs → All (All IsRowInBounds) (fmtps_of attrs pt)
+bound_lines_within : (attrs : List MediaAttribute) (pt : ℕ) → All KeepsToLine attrs → All (All IsRowInBounds) (fmtps_of attrs pt)
 unfolding fmtps_of
-lines_within attrs pt keeps = all_mapped KeepsToLine (All IsRowInBounds) (values_in pt) (line_within pt) attrs keeps
+bound_lines_within attrs pt keeps = all_mapped KeepsToLine (All IsRowInBounds) (fmtp_values_in pt) (bound_line_within pt) attrs keeps
 
 -- ---- types
 
@@ -109,7 +111,7 @@ row_bounded m keeps (pt, spec) small =
       modes = within.0;
       distance = within.1;
     })
-    (format_within spec.codec (fmtps_of m.attrs pt) (lines_within m.attrs pt keeps))
+    (format_within spec.codec (fmtps_of m.attrs pt) (bound_lines_within m.attrs pt keeps))
 
 -- the rows of a section whose lines keep to their ranges keep to theirs
 pub rows_bounded : (m : MediaLine) → KeepsToLines m → All IsBounded (rows m)

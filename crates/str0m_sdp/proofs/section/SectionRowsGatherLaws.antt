@@ -5,14 +5,14 @@ use Rattle.str0m_sdp.proofs.Common.{replicate, Option, Some, None, refl, sym, ap
 use Rattle.str0m_sdp.proofs.Common.{CodecSpec, FormatParam, set}
 use Rattle.str0m_sdp.proofs.attribute.FeedbackLaws.{feedback_start, feedback_other, feedback_named}
 use Rattle.str0m_sdp.proofs.section.CompanionLaws.{companion_start, companion_other, companions_noted}
-use Rattle.str0m_sdp.proofs.section.FmtpLineLaws.{no_lines, lines_other, lines_pushed}
+use Rattle.str0m_sdp.proofs.section.FmtpLineLaws.{no_fmtp_lines, fmtp_lines_other, fmtp_lines_pushed}
 use Rattle.str0m_sdp.specs.attribute.Feedback.{empty_feedback, named_feedback, either_feedback}
 use Rattle.str0m_sdp.specs.declared.attribute.MediaAttribute.{MediaAttribute}
 use Rattle.str0m_sdp.specs.declared.attribute.MediaAttribute.TheVariants.{Fmtp, RtcpFb}
 use Rattle.str0m_sdp.specs.declared.attribute.feedback.Feedback.{Feedback}
 use Rattle.str0m_sdp.specs.declared.section.media_line.MediaLine.{MediaLine}
 use Rattle.str0m_sdp.specs.declared.section.section_rows.TypeFacts.{TypeFacts}
-use Rattle.str0m_sdp.specs.section.Companions.{names}
+use Rattle.str0m_sdp.specs.section.Companions.{names_type}
 use Rattle.str0m_sdp.specs.section.Mappings.{is_mapped_to, mapped}
 use Rattle.str0m_sdp.specs.section.SectionRowsFacts.{TablesAreOf, TablesSayOf}
 
@@ -28,9 +28,9 @@ pub fmtp_gathered : (types : List (ℕ × CodecSpec)) (attrs : List MediaAttribu
     → TypeMarks rtx_types (is_mapped_to Rtx types) → TypeMarks red_types (is_mapped_to Red types)
     → length rtx ≡ length words.rtx → length red ≡ length words.red
     → ((m : ℕ) → m < length words.rtx
-    → get_or rtx m None ≡ cond (get_or rtx_types n false && list_any (names Rtx m) line.now) (Some n) (get_or words.rtx m None))
+    → get_or rtx m None ≡ cond (get_or rtx_types n false && list_any (names_type Rtx m) line.now) (Some n) (get_or words.rtx m None))
     → ((m : ℕ) → m < length words.red
-    → get_or red m None ≡ cond (get_or red_types n false && list_any (names Red m) line.now) (Some n) (get_or words.red m None))
+    → get_or red m None ≡ cond (get_or red_types n false && list_any (names_type Red m) line.now) (Some n) (get_or words.red m None))
     → TablesAreOf types (take i attrs) words lines
     → TablesAreOf types (take (i + 1) attrs) (record words { rtx = rtx; red = red }) (lines ++ (n, line) ∷ [])
 fmtp_gathered types attrs words lines rtx_types red_types rtx red i n line attr lt is variant small rtx_marks red_marks rtx_whole red_whole
@@ -46,7 +46,7 @@ fmtp_gathered types attrs words lines rtx_types red_types rtx red i n line attr 
       feedback = λ pt le. so_far.feedback pt le
           ∙ sym (feedback_other attrs i attr pt lt is (λ m value other. let it : Fmtp n line.now ≡ RtcpFb m value = sym variant ∙ other in
           cc));
-      gathered = λ pt. lines_pushed attrs lines i n line attr pt lt is variant (so_far.gathered pt);
+      gathered = λ pt. fmtp_lines_pushed attrs lines i n line attr pt lt is variant (so_far.gathered pt);
     }
 
 -- an rtcp-fb line is noted in the table of feedback
@@ -58,7 +58,7 @@ pub feedback_gathered : (types : List (ℕ × CodecSpec)) (attrs : List MediaAtt
     (record words { feedback = set words.feedback n (either_feedback (get_or words.feedback n empty_feedback) (named_feedback value)) })
     lines
 feedback_gathered types attrs words lines i n value attr lt is variant small so_far =
-    grind (arith, length-set, companion_other, feedback_named, lines_other)
+    grind (arith, length-set, companion_other, feedback_named, fmtp_lines_other)
 
 -- any other attribute says nothing of types
 pub other_gathered : (types : List (ℕ × CodecSpec)) (attrs : List MediaAttribute) (words : TypeFacts)
@@ -66,7 +66,8 @@ pub other_gathered : (types : List (ℕ × CodecSpec)) (attrs : List MediaAttrib
     (i : ℕ) (attr : MediaAttribute) → i < length attrs → attr ≡ get_or attrs i attr
     → ((n : ℕ) (values : List FormatParam) → attr ≡ Fmtp n values → ⊥) → ((n : ℕ) (value : List ℕ) → attr ≡ RtcpFb n value → ⊥)
     → TablesAreOf types (take i attrs) words lines → TablesAreOf types (take (i + 1) attrs) words lines
-other_gathered types attrs words lines i attr lt is no_fmtp no_feedback so_far = grind (arith, companion_other, feedback_other, lines_other)
+other_gathered types attrs words lines i attr lt is no_fmtp no_feedback so_far = grind
+    (arith, companion_other, feedback_other, fmtp_lines_other)
 
 -- before any attribute nothing is said
 pub nothing_gathered : (types : List (ℕ × CodecSpec)) (words : TypeFacts)
@@ -83,7 +84,7 @@ nothing_gathered types words rtx red feedback =
           ∙ companion_start Red types pt;
       feedback = λ pt lt. ap (λ (rows : List Feedback). get_or rows pt empty_feedback) feedback
           ∙ get_or-replicate 256 pt empty_feedback empty_feedback lt ∙ feedback_start pt;
-      gathered = λ pt. no_lines [] pt refl;
+      gathered = λ pt. no_fmtp_lines [] pt refl;
     }
 
 -- what is gathered of all attributes is what the section says

@@ -23,9 +23,9 @@ IsSourceAbsent s (e ∷ es) = (nat_eq s e.ssrc ≡ false) × IsSourceAbsent s es
 source_none_before : (o : Option ℕ) → option_map suc o ≡ None → o ≡ None
 source_none_before o is = grind arith
 
-absent : (s : ℕ) (es : List SsrcInfo) → place_in s es ≡ None → IsSourceAbsent s es
-absent s [] is = tt
-absent s (e ∷ es) is = grind (arith, absent s es, source_none_before)
+source_absent : (s : ℕ) (es : List SsrcInfo) → place_in s es ≡ None → IsSourceAbsent s es
+source_absent s [] is = tt
+source_absent s (e ∷ es) is = grind (arith, source_absent s es, source_none_before)
 
 first_source_place : (s : ℕ) (es : List SsrcInfo) (place : ℕ) → place_in s es ≡ Some place → IsSourcePlace s es place
 first_source_place s [] place is = absurd cc
@@ -82,11 +82,11 @@ source_put_last s (e ∷ es) new x same is = grind (arith, source_put_last s es 
 
 -- ---- where the sources stand then
 
-stays : (s : ℕ) (es : List SsrcInfo) (place : ℕ) (x : SsrcInfo) → x.ssrc ≡ s → IsSourcePlace s es place → (q : ℕ)
+source_stays : (s : ℕ) (es : List SsrcInfo) (place : ℕ) (x : SsrcInfo) → x.ssrc ≡ s → IsSourcePlace s es place → (q : ℕ)
     → place_in q (slice_set es place x) ≡ place_in q es
-stays s [] place x same is q = absurd is
-stays s (e ∷ es) zero x same is q = grind arith
-stays s (e ∷ es) (suc place) x same is q = grind (arith, stays s es place x same is.1 q)
+source_stays s [] place x same is q = absurd is
+source_stays s (e ∷ es) zero x same is q = grind arith
+source_stays s (e ∷ es) (suc place) x same is q = grind (arith, source_stays s es place x same is.1 q)
 
 source_comes_last : (s : ℕ) (es : List SsrcInfo) (new x : SsrcInfo) → x.ssrc ≡ s → IsSourceAbsent s es → (q : ℕ)
     → place_in q (slice_set (es ++ new ∷ []) (length es) x) ≡ cond (nat_eq s q) (Some (length es)) (place_in q es)
@@ -107,34 +107,34 @@ module _ (s place : ℕ) (es : List SsrcInfo) (is : place_in s es ≡ Some place
   source_found_put x same = source_put_first s es place x same (first_source_place s es place is)
 
   pub source_found_stays : (x : SsrcInfo) → x.ssrc ≡ s → (q : ℕ) → place_in q (slice_set es place x) ≡ place_in q es
-  source_found_stays x same = stays s es place x same (first_source_place s es place is)
+  source_found_stays x same = source_stays s es place x same (first_source_place s es place is)
 
 -- one that joins the others
 module _ (s place : ℕ) (es more : List SsrcInfo) (new : SsrcInfo) (is : place_in s es ≡ None) (at : place ≡ length es)
     (last : more ≡ es ++ new ∷ []) where
   pub new_source_said : new ≡ empty_info s → slice_get more place ≡ Some (so_far (entries_of es) s)
-  new_source_said empty = grind (arith, last_source_said, source_unsaid, absent)
+  new_source_said empty = grind (arith, last_source_said, source_unsaid, source_absent)
 
   pub new_source_put : (x : SsrcInfo) → x.ssrc ≡ s → entries_of (slice_set more place x) ≡ insert_entry nat_eq (entries_of es) s x
-  new_source_put x same = (λ i. entries_of (slice_set (last i) (at i) x)) ∙ source_put_last s es new x same (absent s es is)
+  new_source_put x same = (λ i. entries_of (slice_set (last i) (at i) x)) ∙ source_put_last s es new x same (source_absent s es is)
 
   pub new_place : (old placed : BTreeMap ℕ ℕ) (k : ℕ) → k ≡ s → Updates nat_cmp old placed k (Some place)
       → ((q : ℕ) → get nat_cmp old q ≡ place_in q es)
       → (x : SsrcInfo) → x.ssrc ≡ s → (q : ℕ) → get nat_cmp placed q ≡ place_in q (slice_set more place x)
-  new_place old placed k key update places x same q = grind (arith, unsigned_tied, source_comes_last, absent)
+  new_place old placed k key update places x same q = grind (arith, unsigned_tied, source_comes_last, source_absent)
 
 -- what is written at the place of a source follows from what was said of it
-pub written : (s place : ℕ) (es infos : List SsrcInfo) (x old : SsrcInfo) (f : SsrcInfo → SsrcInfo)
+pub source_written : (s place : ℕ) (es infos : List SsrcInfo) (x old : SsrcInfo) (f : SsrcInfo → SsrcInfo)
     → ((info : SsrcInfo) → (f info).ssrc ≡ info.ssrc)
     → slice_get infos place ≡ Some (so_far (entries_of es) s) → old ≡ get_or infos place old → x ≡ f old
     → (x ≡ f (so_far (entries_of es) s)) × (x.ssrc ≡ s)
-written s place es infos x old f keeps said here is = grind (arith, get_or_from_slice_get, source_said)
+source_written s place es infos x old f keeps said here is = grind (arith, get_or_from_slice_get, source_said)
 
 -- the value of an attribute says nothing of the number
-pub value_keeps : (name value : List ℕ) (info : SsrcInfo) → (with_value name value info).ssrc ≡ info.ssrc
-value_keeps name value info = grind arith
+pub source_value_keeps : (name value : List ℕ) (info : SsrcInfo) → (with_value name value info).ssrc ≡ info.ssrc
+source_value_keeps name value info = grind arith
 
 -- each source is said of by itself
-pub values_stand : (es : List SsrcInfo) → es ≡ values_of (entries_of es)
-values_stand [] = refl
-values_stand (e ∷ es) = ap (λ (rest : List SsrcInfo). e ∷ rest) (values_stand es)
+pub source_values_stand : (es : List SsrcInfo) → es ≡ values_of (entries_of es)
+source_values_stand [] = refl
+source_values_stand (e ∷ es) = ap (λ (rest : List SsrcInfo). e ∷ rest) (source_values_stand es)

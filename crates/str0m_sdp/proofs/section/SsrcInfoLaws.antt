@@ -19,9 +19,9 @@ use Rattle.str0m_sdp.specs.section.SsrcInfoReading.{track_after, with_ids, with_
 -- ---- entries with a number as their key
 
 module _ {V : Type 0} where
-  keys_put : (es : List (ℕ × V)) (k : ℕ) (v : V) → keys_of (insert_entry nat_eq es k v) ≡ insert_key nat_eq (keys_of es) k
-  keys_put [] k v = refl
-  keys_put (e ∷ es) k v = grind (arith, keys_put es k v)
+  ssrc_keys_put : (es : List (ℕ × V)) (k : ℕ) (v : V) → keys_of (insert_entry nat_eq es k v) ≡ insert_key nat_eq (keys_of es) k
+  ssrc_keys_put [] k v = refl
+  ssrc_keys_put (e ∷ es) k v = grind (arith, ssrc_keys_put es k v)
 
   ssrc_looked_up : (es : List (ℕ × V)) (k s : ℕ) (v : V) → lookup (nat_eq s) (insert_entry nat_eq es k v)
       ≡ cond (nat_eq k s) (Some v) (lookup (nat_eq s) es)
@@ -63,9 +63,9 @@ module _ (groups values : List MediaAttribute) where
     track_id = option_flatten (option_or (ids >>= track_named) (latest_said (track_said s) values));
   }
 
-  value_more : (attr : MediaAttribute) (s : ℕ) (cname ids : Option (List ℕ)) → source_value_of (codes "cname") s attr ≡ cname
+  ssrc_value_more : (attr : MediaAttribute) (s : ℕ) (cname ids : Option (List ℕ)) → source_value_of (codes "cname") s attr ≡ cname
       → source_value_of (codes "msid") s attr ≡ ids → info_from groups (values ++ attr ∷ []) s ≡ ssrc_more_said s cname ids
-  value_more attr s cname ids named has = grind (arith, ssrc_latest_more, cname_said, stream_said, track_said)
+  ssrc_value_more attr s cname ids named has = grind (arith, ssrc_latest_more, cname_said, stream_said, track_said)
 
   group_more : (attr : MediaAttribute) (s : ℕ) (repaired : Option ℕ) → repaired_by s attr ≡ repaired
       → info_from (groups ++ attr ∷ []) values s ≡ record (info_from groups values s)
@@ -73,15 +73,15 @@ module _ (groups values : List MediaAttribute) where
   group_more attr s repaired is = grind (arith, ssrc_latest_more)
 
   -- an attribute that isn't of a source says nothing
-  other_value : (attr : MediaAttribute) → ((k : ℕ) (name value : List ℕ) → attr ≡ Ssrc k name value → ⊥) → (s : ℕ)
+  ssrc_other_value : (attr : MediaAttribute) → ((k : ℕ) (name value : List ℕ) → attr ≡ Ssrc k name value → ⊥) → (s : ℕ)
       → info_from groups (values ++ attr ∷ []) s ≡ info_from groups values s
-  other_value attr other s = grind (arith, value_more attr s None None)
+  ssrc_other_value attr other s = grind (arith, ssrc_value_more attr s None None)
 
   -- one that is of a source sets what it says of that one
-  one_value_set : (k : ℕ) (name value : List ℕ) (s : ℕ)
+  ssrc_one_value_set : (k : ℕ) (name value : List ℕ) (s : ℕ)
       → cond (nat_eq k s) (with_value name value (info_from groups values k)) (info_from groups values s)
       ≡ info_from groups (values ++ Ssrc k name value ∷ []) s
-  one_value_set k name value s = by (nat_eq k s) refl (str_eq_ignore_ascii_case name (codes "cname")) refl
+  ssrc_one_value_set k name value s = by (nat_eq k s) refl (str_eq_ignore_ascii_case name (codes "cname")) refl
       (str_eq_ignore_ascii_case name (codes "msid")) refl
     where
       attr : MediaAttribute
@@ -104,22 +104,23 @@ module _ (groups values : List MediaAttribute) where
           → cond b (cond t (record (info_from groups values k) { cname = Some value })
           (cond u (with_ids value (info_from groups values k)) (info_from groups values k))) (info_from groups values s)
           ≡ info_from groups (values ++ Ssrc k name value ∷ []) s
-      by false p t q u r = sym (value_more (Ssrc k name value) s None None (valued (codes "cname") false t p q)
+      by false p t q u r = sym (ssrc_value_more (Ssrc k name value) s None None (valued (codes "cname") false t p q)
           (valued (codes "msid") false u p r))
       by true p true q true r = absurd (one_name q r)
       by true p true q false r =
           ap (λ n. record (info_from groups values n) { cname = Some value }) (eqb-true k s p)
-          ∙ sym (value_more (Ssrc k name value) s (Some value) None (valued (codes "cname") true true p q)
+          ∙ sym (ssrc_value_more (Ssrc k name value) s (Some value) None (valued (codes "cname") true true p q)
           (valued (codes "msid") true false p r))
       by true p false q true r =
           ap (λ n. with_ids value (info_from groups values n)) (eqb-true k s p)
           ∙ (λ i. record (with_ids value (info_from groups values s))
           { track_id = sym (track_set (cut 32 value) (latest_said (track_said s) values)) i })
-          ∙ sym (value_more (Ssrc k name value) s None (Some value) (valued (codes "cname") true false p q)
+          ∙ sym (ssrc_value_more (Ssrc k name value) s None (Some value) (valued (codes "cname") true false p q)
           (valued (codes "msid") true true p r))
       by true p false q false r =
           ap (λ n. info_from groups values n) (eqb-true k s p)
-          ∙ sym (value_more (Ssrc k name value) s None None (valued (codes "cname") true false p q) (valued (codes "msid") true false p r))
+          ∙ sym (ssrc_value_more (Ssrc k name value) s None None (valued (codes "cname") true false p q)
+          (valued (codes "msid") true false p r))
 
   -- what isn't a group of two says of no source that it repairs another
   other_group : (attr : MediaAttribute) → repair_pair attr ≡ None → (s : ℕ)
@@ -140,7 +141,7 @@ gathered_put : (sources : List ℕ) (groups values groups' values' : List MediaA
     → ((s : ℕ) → cond (nat_eq k s) v (info_from groups values s) ≡ info_from groups' values' s)
     → AreGathered (sources ++ k ∷ []) groups' values' new
 gathered_put sources groups values groups' values' es new k v h put step = record {
-  keys = ap keys_of put ∙ keys_put es k v ∙ ap (λ l. insert_key nat_eq l k) h.keys
+  keys = ap keys_of put ∙ ssrc_keys_put es k v ∙ ap (λ l. insert_key nat_eq l k) h.keys
       ∙ sym (fold-append (insert_key nat_eq) [] sources (k ∷ []));
   said = λ s.
       ap (λ es. so_far es s) put ∙ ap (λ o. unwrap_or o (empty_info s)) (ssrc_looked_up es k s v)
@@ -162,12 +163,13 @@ ssrc_line_chosen : (said : MediaAttribute → Option ℕ) (done : List MediaAttr
 ssrc_line_chosen said done line o is = ap (λ o. filter_map said done ++ cons_option o []) (sym is)
     ∙ sym (filter_map-append said done (line ∷ []))
 
-pub put_value : (lines : List MediaAttribute) (i : ℕ) (line : MediaAttribute) (k : ℕ) (name value : List ℕ) (es new : List (ℕ × SsrcInfo))
+pub ssrc_put_value : (lines : List MediaAttribute) (i : ℕ) (line : MediaAttribute) (k : ℕ) (name value : List ℕ)
+    (es new : List (ℕ × SsrcInfo))
     → i < length lines → line ≡ get_or lines i line → line ≡ Ssrc k name value
     → AreGathered (filter_map source_of (take i lines)) [] (take i lines) es
     → new ≡ insert_entry nat_eq es k (with_value name value (so_far es k))
     → AreGathered (filter_map source_of (take (i + 1) lines)) [] (take (i + 1) lines) new
-put_value lines i line k name value es new inside at is h put =
+ssrc_put_value lines i line k name value es new inside at is h put =
     let done = take i lines in
     let more : take (i + 1) lines ≡ done ++ Ssrc k name value ∷ [] = take_line lines i line inside at ∙ ap (λ l. done ++ l ∷ []) is in
     let set : new ≡ insert_entry nat_eq es k (with_value name value (info_from [] done k)) =
@@ -175,18 +177,18 @@ put_value lines i line k name value es new inside at is h put =
     subst (λ l. AreGathered (filter_map source_of l) [] l new) (sym more)
     (subst (λ sources. AreGathered sources [] (done ++ Ssrc k name value ∷ []) new)
     (ssrc_line_chosen source_of done (Ssrc k name value) (Some k) refl)
-    (gathered_put _ [] done [] (done ++ Ssrc k name value ∷ []) es new k _ h set (one_value_set [] done k name value)))
+    (gathered_put _ [] done [] (done ++ Ssrc k name value ∷ []) es new k _ h set (ssrc_one_value_set [] done k name value)))
 
-pub pass_value : (lines : List MediaAttribute) (i : ℕ) (line : MediaAttribute) (es new : List (ℕ × SsrcInfo)) → i < length lines
+pub ssrc_pass_value : (lines : List MediaAttribute) (i : ℕ) (line : MediaAttribute) (es new : List (ℕ × SsrcInfo)) → i < length lines
     → line ≡ get_or lines i line → ((k : ℕ) (name value : List ℕ) → line ≡ Ssrc k name value → ⊥)
     → AreGathered (filter_map source_of (take i lines)) [] (take i lines) es → new ≡ es
     → AreGathered (filter_map source_of (take (i + 1) lines)) [] (take (i + 1) lines) new
-pass_value lines i line es new inside at other h same =
+ssrc_pass_value lines i line es new inside at other h same =
     let done = take i lines in
     subst (λ l. AreGathered (filter_map source_of l) [] l new) (sym (take_line lines i line inside at)) (record {
       keys = ap keys_of same ∙ h.keys ∙ ap (insert_all nat_eq [])
           (sym (append-nil (filter_map source_of done)) ∙ ssrc_line_chosen source_of done line None (no_source line other));
-      said = λ s. ap (λ es. so_far es s) same ∙ h.said s ∙ sym (other_value [] done line other s);
+      said = λ s. ap (λ es. so_far es s) same ∙ h.said s ∙ sym (ssrc_other_value [] done line other s);
     })
   where
     no_source : (line : MediaAttribute) → ((k : ℕ) (name value : List ℕ) → line ≡ Ssrc k name value → ⊥) → source_of line ≡ None

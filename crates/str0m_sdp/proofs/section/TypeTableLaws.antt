@@ -91,11 +91,12 @@ table_first_apt_kept attrs firsts i n values attr lt is variant named pt so_far 
     ]
 
 -- where none is named yet, the line's own is the first
-pub first_named : (attrs : List MediaAttribute) (firsts : List (Option ℕ)) (i n : ℕ) (values : List FormatParam) (attr : MediaAttribute)
+pub table_first_apt_named : (attrs : List MediaAttribute) (firsts : List (Option ℕ)) (i n : ℕ) (values : List FormatParam)
+    (attr : MediaAttribute)
     → i < length attrs → n < length firsts → attr ≡ get_or attrs i attr → attr ≡ Fmtp n values → is_some (get_or firsts n None) ≡ false
     → (pt : ℕ) → get_or firsts pt None ≡ first_apt pt (take i attrs)
     → get_or (set firsts n (apt_among values)) pt None ≡ first_apt pt (take (i + 1) attrs)
-first_named attrs firsts i n values attr lt row is variant none pt so_far =
+table_first_apt_named attrs firsts i n values attr lt row is variant none pt so_far =
     elim (cases_eq n pt) [
       | inl same ↦
           let at_row = rw (← same) at so_far in

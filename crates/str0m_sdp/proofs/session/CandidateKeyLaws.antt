@@ -32,9 +32,9 @@ same_address a b = part.eq-value.it a.0 b.0 && nat_eq a.1 b.1
 address_alike : (a b : SocketAddr) → same_address (address_part a) (address_part b) ≡ socket.eq-value.it a b
 address_alike a b = ap (λ (same : Bool). same && nat_eq a.port b.port) (ip_alike a.ip b.ip)
 
-option_alike : {X Y : Type 0} (f : X → Y) (E : X → X → Bool) (F : Y → Y → Bool) → ((a b : X) → F (f a) (f b) ≡ E a b)
+key_option_alike : {X Y : Type 0} (f : X → Y) (E : X → X → Bool) (F : Y → Y → Bool) → ((a b : X) → F (f a) (f b) ≡ E a b)
     → (a b : Option X) → option_eq F (option_map f a) (option_map f b) ≡ option_eq E a b
-option_alike f E F alike o p = grind arith
+key_option_alike f E F alike o p = grind arith
 
 protocol_tag : (a : Protocol) → protocol_part a ≡ tag_of protocol.the_type a
 protocol_tag a = grind arith
@@ -52,7 +52,7 @@ type_alike a b = λ i. nat_eq (type_tag a i) (type_tag b i)
 
 -- they are equal where the candidates are
 equal_candidates_alike : (a b : Candidate) (x y : CandidateKey) → IsKeyOf a x → IsKeyOf b y → key.eq-value.it x y ≡ same_candidate a b
-equal_candidates_alike a b x y p q = grind (arith, protocol_tag, address_alike, kind_tag, option_alike, type_alike)
+equal_candidates_alike a b x y p q = grind (arith, protocol_tag, address_alike, kind_tag, key_option_alike, type_alike)
 
 -- and stand at one place of the order there
 pub key_alike : (a b : Candidate) (x y : CandidateKey) → IsKeyOf a x → IsKeyOf b y → is_eq (order.cmp-value.it x y) ≡ same_candidate a b

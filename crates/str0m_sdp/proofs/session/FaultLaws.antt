@@ -19,8 +19,8 @@ use Rattle.str0m_sdp.specs.session.Fault.{proto_fault, setup_fault, value_fault,
 -- ---- the first of several
 
 -- what was asked first found nothing
-pub passed : {E : Type 0} (o p : Option E) → Ok tt ≡ err_if o → o <|> p ≡ p
-passed o p is = grind arith
+pub fault_earlier_passed : {E : Type 0} (o p : Option E) → Ok tt ≡ err_if o → o <|> p ≡ p
+fault_earlier_passed o p is = grind arith
 
 pub no_fault_if_ok : {E : Type 0} (o : Option E) → Ok tt ≡ err_if o → o ≡ None
 no_fault_if_ok o ok = grind arith
@@ -36,13 +36,13 @@ pub no_first_fault : {E : Type 0} (o : Option E) (os : List E) → (first (cons_
 no_first_fault o os = grind arith
 
 module _ {X E : Type 0} (f : X → Option E) (P : X → Type 0) (each : (x : X) → (f x ≡ None) ↔ P x) where
-  by_items : (xs : List X) → (first (filter_map f xs) ≡ None) ↔ AllByRecursion P xs
-  by_items [] = ((λ is. tt), λ all. refl)
-  by_items (x ∷ xs) = grind (arith, no_first_fault, by_items xs)
+  fault_by_items : (xs : List X) → (first (filter_map f xs) ≡ None) ↔ AllByRecursion P xs
+  fault_by_items [] = ((λ is. tt), λ all. refl)
+  fault_by_items (x ∷ xs) = grind (arith, no_first_fault, fault_by_items xs)
 
   pub no_fault_among : (xs : List X) → (first (filter_map f xs) ≡ None) ↔ All P xs
   no_fault_among xs =
-      let each = by_items xs in
+      let each = fault_by_items xs in
       ((λ is. All-from_recursion P xs (each.0 is)), λ all. each.1 (recursion_from_All P xs all))
 
 -- ---- the questions

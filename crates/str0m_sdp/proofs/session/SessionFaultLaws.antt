@@ -2,7 +2,7 @@
 use Rattle.str0m_sdp.proofs.Common.{◌≡◌, ℕ, List, [], ◌∷◌, Option, Some, None, All, arith, refl, ◌↔◌, cases_eq, eq-eqb, ne_eqb, MatchOption}
 use Rattle.str0m_sdp.proofs.Common.{option_map}
 use Rattle.str0m_sdp.proofs.session.FaultLaws.{no_fault, no_fault_among, no_first_fault, fault_or_none}
-use Rattle.str0m_sdp.proofs.session.SessionLaws.{again, mids_apart, session_same_from_none, session_none_from_same}
+use Rattle.str0m_sdp.proofs.session.SessionLaws.{mid_again, mids_apart, session_same_from_none, session_none_from_same}
 use Rattle.str0m_sdp.specs.declared.section.media_line.MediaLine.{MediaLine}
 use Rattle.str0m_sdp.specs.declared.session.Sdp.{Sdp}
 use Rattle.str0m_sdp.specs.declared.session.fault.SessionFault.{SessionFault}
@@ -18,14 +18,14 @@ mapped_none f o = grind arith
 session_fault_iff_both : {A B C D : Type 0} → (A ↔ C) → (B ↔ D) → (A × B) ↔ (C × D)
 session_fault_iff_both a b = ((λ p. (a.0 p.0, b.0 p.1)), λ q. (a.1 q.0, b.1 q.1))
 
-then : {A B C : Type 0} → (A ↔ B) → (B ↔ C) → A ↔ C
-then a b = ((λ x. b.0 (a.0 x)), λ z. a.1 (b.1 z))
+session_fault_iff_then : {A B C : Type 0} → (A ↔ B) → (B ↔ C) → A ↔ C
+session_fault_iff_then a b = ((λ x. b.0 (a.0 x)), λ z. a.1 (b.1 z))
 
 -- ---- the questions
 
 distinct_mids : (mids : List (List ℕ)) → (first_mid_again mids ≡ None) ↔ AreMidsDistinct mids
 distinct_mids [] = ((λ is i j d lt within. omega (arith, lt, within)), λ apart. refl)
-distinct_mids (mid ∷ mids) = grind (arith, again, mids_apart, distinct_mids mids)
+distinct_mids (mid ∷ mids) = grind (arith, mid_again, mids_apart, distinct_mids mids)
 
 session_fault_listing_same : (mids group : List (List ℕ)) → (listing_fault mids group ≡ None) ↔ (mids ≡ group)
 session_fault_listing_same mids group = grind (
@@ -50,7 +50,7 @@ no_session_fault : (sdp : Sdp) → (first_session_fault sdp ≡ None) ↔ (AreMi
 no_session_fault sdp = grind (arith, fault_or_none, session_fault_iff_both, mapped_none, distinct_mids, grouped)
 
 pub no_message : (m : MediaLine) → (section_message m ≡ None) ↔ Consistent m
-no_message m = then (mapped_none (fault_text m) (first_fault m)) (no_fault m)
+no_message m = session_fault_iff_then (mapped_none (fault_text m) (first_fault m)) (no_fault m)
 
 pub no_messages : (sections : List MediaLine) → (sections_message sections ≡ None) ↔ All Consistent sections
 no_messages sections = no_fault_among section_message Consistent no_message sections
@@ -58,9 +58,9 @@ no_messages sections = no_fault_among section_message Consistent no_message sect
 -- ---- as the answers of what looks for them
 
 -- where no section has a message, the first has none
-pub first_quiet : (sections : List MediaLine) (m : MediaLine) (more : List MediaLine)
+pub session_fault_first_section_quiet : (sections : List MediaLine) (m : MediaLine) (more : List MediaLine)
     → sections ≡ m ∷ more → sections_message sections ≡ None → Consistent m
-first_quiet sections m more whole none = grind (arith, no_message, no_first_fault)
+session_fault_first_section_quiet sections m more whole none = grind (arith, no_message, no_first_fault)
 
 pub unless_some : {A : Type 0} (o : Option A) → ((x : A) → o ≡ Some x → ⊥) → o ≡ None
 unless_some o never = grind arith

@@ -8,8 +8,8 @@ use Rattle.str0m_sdp.specs.session.SessionConsistency.{AreMidsDistinct, is_liste
 -- ---- mids that differ
 
 -- a mid that stands again, and one that doesn't
-pub again : (mid : List ℕ) (mids : List (List ℕ)) → is_listed mids (Some mid) ≡ true → AreMidsDistinct (mid ∷ mids) → ⊥
-again mid mids listed distinct =
+pub mid_again : (mid : List ℕ) (mids : List (List ℕ)) → is_listed mids (Some mid) ≡ true → AreMidsDistinct (mid ∷ mids) → ⊥
+mid_again mid mids listed distinct =
     let at = Any-from_list_any (λ other. bytes_eq other mid) mids listed in
     distinct 0 (suc at.0) at.1 (omega arith) (omega (arith, at.2)) (sym (at.3 ∙ (bytes_eq-Decides at.1 mid).0 at.4))
 

@@ -1,7 +1,7 @@
 -- What attributes print: a line for each form (RFC 8866, sections 5.13 and 6). And which of them are a word alone.
 use Rattle.std.specs.Prelude.{◌<◌, ◌^◌, ℕ, List, [], ◌∷◌, ◌++◌, Option, None, All, codes, decimal, bytes_eq, IsUtf8}
 use Rattle.str0m_sdp.specs.Prelude.{Direction, IsByte, candidate_text, fingerprint_text, when, ◌<|>◌}
-use Rattle.str0m_sdp.specs.attribute.AttributeFits.{AreTexts, FitsCandidate, FitsFingerprint, FitsLayer, FitsParam, FitsRtpMap, IsMidText, IsPortNumber, IsSourceNumber}
+use Rattle.str0m_sdp.specs.attribute.AttributeFits.{AreAttributeTexts, FitsCandidate, FitsFingerprint, FitsLayer, FitsParam, FitsRtpMap, IsMidText, IsPortNumber, IsSourceNumber}
 use Rattle.str0m_sdp.specs.attribute.ExtMap.{ext_map_text}
 use Rattle.str0m_sdp.specs.attribute.Fmtp.{fmtp_text}
 use Rattle.str0m_sdp.specs.attribute.Group.{group_text, msid_semantic_text}
@@ -129,7 +129,7 @@ FitsMediaAttribute (media.RtpMap pt value) = IsByte pt × FitsRtpMap value
 FitsMediaAttribute (media.RtcpFb pt value) = IsByte pt × IsUtf8 value
 FitsMediaAttribute (media.Fmtp pt values) = IsByte pt × All FitsParam values
 FitsMediaAttribute (media.Rid id direction pts restrictions) =
-    IsUtf8 id.0 × IsUtf8 direction × All IsByte pts × All AreTexts restrictions
+    IsUtf8 id.0 × IsUtf8 direction × All IsByte pts × All AreAttributeTexts restrictions
 FitsMediaAttribute (media.Simulcast simulcast) = All FitsLayer simulcast.send.0 × All FitsLayer simulcast.recv.0
 FitsMediaAttribute (media.SsrcGroup semantics ssrcs) = IsUtf8 semantics × All IsSourceNumber ssrcs
 FitsMediaAttribute (media.Ssrc ssrc attr value) = IsSourceNumber ssrc × IsUtf8 attr × IsUtf8 value

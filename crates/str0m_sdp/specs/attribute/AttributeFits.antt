@@ -26,8 +26,8 @@ abbrev pub IsMidText : List ℕ → Type 0
 IsMidText name = (length name ≤ 16) × IsUtf8 name
 
 -- a name and a value
-abbrev pub AreTexts : List ℕ × List ℕ → Type 0
-AreTexts pair = IsUtf8 pair.0 × IsUtf8 pair.1
+abbrev pub AreAttributeTexts : List ℕ × List ℕ → Type 0
+AreAttributeTexts pair = IsUtf8 pair.0 × IsUtf8 pair.1
 
 -- ---- what lines hold
 
@@ -57,4 +57,4 @@ FitsParam (param.Red pt) = IsByte pt
 FitsParam param = IfSome (entry param) (λ e. FitsType (kind e.0) e.1)
 
 abbrev pub FitsLayer : SimulcastLayer → Type 0
-FitsLayer layer = IsUtf8 layer.restriction_id.0 × IfSome layer.attributes (All AreTexts)
+FitsLayer layer = IsUtf8 layer.restriction_id.0 × IfSome layer.attributes (All AreAttributeTexts)

@@ -7,12 +7,12 @@ use Rattle.str0m_sdp.specs.declared.attribute.simulcast.SimulcastLayer.{Simulcas
 use Rattle.str0m_sdp.specs.form.Printed.{attribute_line}
 
 -- a name, after `~` where it isn't active
-abbrev pub name_text : List ℕ → Bool → List ℕ
-name_text name true = name
-name_text name false = codes "~" ++ name
+abbrev pub layer_name_text : List ℕ → Bool → List ℕ
+layer_name_text name true = name
+layer_name_text name false = codes "~" ++ name
 
 abbrev pub id_text : RestrictionId → List ℕ
-id_text id = name_text id.0 id.1
+id_text id = layer_name_text id.0 id.1
 
 abbrev pub layer_text : SimulcastLayer → List ℕ
 layer_text layer = id_text layer.restriction_id

@@ -81,5 +81,5 @@ pub record Consistent (m : MediaLine) : Type 0 where
   pub apt : All (AgreesOnApt m.attrs) m.attrs
 
 -- none where P holds, and a value where it doesn't
-abbrev pub NoneIff : {A : Type 0} → Option A → Type 0 → Type 0
-NoneIff o P = MatchOption o P (λ _. ¬ P)
+abbrev pub NoFaultIff : {A : Type 0} → Option A → Type 0 → Type 0
+NoFaultIff o P = MatchOption o P (λ _. ¬ P)

@@ -12,13 +12,13 @@ use Rattle.str0m_sdp.specs.section.Companions.{rtx_companion, red_companion}
 use Rattle.str0m_sdp.specs.section.Mappings.{mapped, is_mapped_to}
 
 -- the values of an fmtp line of the type (RFC 8866, section 6.15)
-abbrev pub values_in : ℕ → MediaAttribute → Option (List FormatParam)
-values_in pt (Fmtp n values) = if n == pt then Some values else None
-values_in pt _ = None
+abbrev pub fmtp_values_in : ℕ → MediaAttribute → Option (List FormatParam)
+fmtp_values_in pt (Fmtp n values) = if n == pt then Some values else None
+fmtp_values_in pt _ = None
 
 -- those of all fmtp lines of the type
 unfoldable pub fmtps_of : List MediaAttribute → ℕ → List (List FormatParam)
-fmtps_of attrs pt = filter_map (values_in pt) attrs
+fmtps_of attrs pt = filter_map (fmtp_values_in pt) attrs
 
 -- whether a type has a row: it carries audio or video, or telephone events and stands in the m-line
 abbrev pub is_kept : MediaLine → ℕ × CodecSpec → Bool
@@ -47,11 +47,11 @@ abbrev pub primary_types : MediaLine → List ℕ
 primary_types m = map (λ row. row.pt) (rows m)
 
 -- an RTX or a RED line names one type, which is the primary type of a row
-abbrev pub NamesOne : MediaLine → MediaAttribute → Type 0
-NamesOne m (Fmtp n values) =
+abbrev pub NamesOnePrimary : MediaLine → MediaAttribute → Type 0
+NamesOnePrimary m (Fmtp n values) =
     (is_mapped_to Rtx (mapped m) n ≡ true → (pt : ℕ) × (has (primary_types m) pt ≡ true) × (values ≡ Apt pt ∷ []))
     × (is_mapped_to Red (mapped m) n ≡ true → (pt : ℕ) × (has (primary_types m) pt ≡ true) × (values ≡ BarePtList pt ∷ []))
-NamesOne m attr = Unit {0}
+NamesOnePrimary m attr = Unit {0}
 
 -- ---- sections whose rows keep to their ranges, and the lines that see to it
 

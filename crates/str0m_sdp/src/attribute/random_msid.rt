@@ -1,6 +1,6 @@
 //! Ids of streams and tracks that a generator draws.
 ghost use Rattle.std.specs.Prelude.{◌≡◌, ◌≤◌, ◌<◌, IfOk, OnOk, OnErr, [], string_bytes, string_capacity};
-ghost use Rattle.str0m_sdp.specs.attribute.RandomMsid.{after_words, letter_of, random_id};
+ghost use Rattle.str0m_sdp.specs.attribute.RandomMsid.{after_drawn_words, letter_of, random_id};
 
 use crate::attribute::msid::Msid;
 use rand_core::Rng;
@@ -25,7 +25,7 @@ fn draw_id<R: Rng>(id: &mut String, rng: &mut R)
     requires empty { string_bytes id.old ≡ [] }
     requires room { 30 ≤ string_capacity id.old }
     ensures id { string_bytes id.new ≡ random_id (R.stream rng.old) }
-    ensures stream { R.stream rng.new ≡ after_words 30 (R.stream rng.old) }
+    ensures stream { R.stream rng.new ≡ after_drawn_words 30 (R.stream rng.old) }
 {
     for _i in 0..ID_LENGTH {
         let letter = letter(rng.next_u32());
@@ -42,9 +42,9 @@ impl Msid {
     pub fn random<R: Rng>(alloc: Global, rng: &mut R) -> Result<Msid, AllocError>
         ensures names { IfOk result (λ msid. msid ≡ record {
           stream_id = random_id (R.stream rng.old);
-          track_id = random_id (after_words 30 (R.stream rng.old));
+          track_id = random_id (after_drawn_words 30 (R.stream rng.old));
         }) }
-        ensures stream { OnOk result (R.stream rng.new ≡ after_words 60 (R.stream rng.old)) }
+        ensures stream { OnOk result (R.stream rng.new ≡ after_drawn_words 60 (R.stream rng.old)) }
         ensures refused { OnErr result (rng.new ≡ rng.old) }
     {
         // Room for both comes first, so that no word is lost to a refusal.

@@ -59,21 +59,21 @@ fn are_alike_shown(values: &[FormatParam], others: &[FormatParam]) -> bool
 }
 
 #[tactic(auto, using(crate::proofs::attribute::AttributeEqual::id_Decides))]
-fn has_same_name(layer: &SimulcastLayer, other: &SimulcastLayer) -> bool
+fn has_alike_name(layer: &SimulcastLayer, other: &SimulcastLayer) -> bool
     ensures { IsTrue result ↔ (layer.now.restriction_id ≡ other.now.restriction_id) }
 {
     layer.restriction_id == other.restriction_id
 }
 
 /// Whether the layers have the same names, in the same order.
-fn have_same_names(layers: &[SimulcastLayer], others: &[SimulcastLayer]) -> bool
+fn have_alike_names(layers: &[SimulcastLayer], others: &[SimulcastLayer]) -> bool
     ensures { IsTrue result ↔ (ids layers.now ≡ ids others.now) }
 {
     if layers.len() != others.len() {
         return false;
     }
     for (i, layer) in layers.iter().enumerate() {
-        if !has_same_name(layer, &others[i]) {
+        if !has_alike_name(layer, &others[i]) {
             return false;
         }
     }
@@ -86,8 +86,8 @@ fn are_alike_layers(simulcast: &Simulcast, other: &Simulcast) -> bool
 {
     !simulcast.is_munged
         && !other.is_munged
-        && have_same_names(simulcast.send.0.as_slice(), other.send.0.as_slice())
-        && have_same_names(simulcast.recv.0.as_slice(), other.recv.0.as_slice())
+        && have_alike_names(simulcast.send.0.as_slice(), other.send.0.as_slice())
+        && have_alike_names(simulcast.recv.0.as_slice(), other.recv.0.as_slice())
 }
 
 #[tactic(auto, using(crate::proofs::attribute::AttributeEqual::simulcast_Decides))]

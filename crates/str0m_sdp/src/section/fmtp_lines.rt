@@ -13,7 +13,7 @@ fn is_line_of_type(number: u8, pt: Pt) -> bool
 }
 
 /// Puts the values of the lines of the type in place of what was found before.
-pub(crate) fn find_lines<'a>(
+pub(crate) fn find_fmtp_lines<'a>(
     found: &mut Vec<&'a [FormatParam]>,
     lines: &[(u8, &'a [FormatParam])],
     pt: Pt,

@@ -6,7 +6,7 @@ ghost use Rattle.str0m_sdp.specs.section.FmtpLines.{lines_with};
 ghost use Rattle.str0m_sdp.specs.section.SectionRows.{fmtps_of};
 ghost use Rattle.str0m_sdp.specs.section.TypeLines.{AreGroupsKnown};
 
-use crate::section::fmtp_lines::find_lines;
+use crate::section::fmtp_lines::find_fmtp_lines;
 use crate::section::type_lines::{TypeLines, grouped};
 use crate::section::type_tables::place;
 use std::alloc::{AllocError, Global};
@@ -51,7 +51,7 @@ fn format_said<'a>(
 ) -> Result<Option<FormatParams>, AllocError>
     ensures { IfOk result (λ format. format ≡ format_of_fmtp codec (line_values (lines_with pt lines.now))) }
 {
-    find_lines(found, lines, pt)?;
+    find_fmtp_lines(found, lines, pt)?;
     Ok(FormatParams::from_sdp_fmtp(codec, found.as_slice()))
 }
 

@@ -51,7 +51,7 @@ fn push_feedback(
 }
 
 /// A line with values, where there are some.
-fn push_values(
+fn push_row_values(
     list: &mut Vec<MediaAttribute>,
     pt: Pt,
     values: Vec<FormatParam>,
@@ -68,7 +68,7 @@ fn push_values(
 }
 
 /// A list of one value.
-fn one_value(alloc: Global, value: FormatParam) -> Result<Vec<FormatParam>, AllocError>
+fn one_value_list(alloc: Global, value: FormatParam) -> Result<Vec<FormatParam>, AllocError>
     ensures { IfOk result (λ values. values.items ≡ value ∷ []) }
 {
     let mut values = Vec::new(alloc);
@@ -94,7 +94,7 @@ fn format_values(alloc: Global, spec: CodecSpec) -> Result<Vec<FormatParam>, All
     ensures { IfOk result (λ values. values.items ≡ format_values spec.codec spec.format) }
 {
     match spec.codec {
-        Codec::Tele => one_value(
+        Codec::Tele => one_value_list(
             alloc,
             FormatParam::TelephoneEvents(spec.format.highest_event()),
         ),
@@ -107,7 +107,7 @@ fn append_format(list: &mut Vec<MediaAttribute>, row: &PayloadParams) -> Result<
     ensures err { OnErr result (list.new.items ≡ list.old.items) }
 {
     let values = format_values(*list.allocator(), row.spec())?;
-    push_values(list, row.pt(), values)
+    push_row_values(list, row.pt(), values)
 }
 
 /// The lines of a payload type beside the primary one: what it stands for, and one value.
@@ -121,8 +121,8 @@ fn append_beside(
     ensures begins { Appends list.old.items list.new.items }
 {
     push_map(list, pt, map)?;
-    let values = one_value(*list.allocator(), value)?;
-    push_values(list, pt, values)
+    let values = one_value_list(*list.allocator(), value)?;
+    push_row_values(list, pt, values)
 }
 
 fn append_rtx(list: &mut Vec<MediaAttribute>, row: &PayloadParams) -> Result<(), AllocError>

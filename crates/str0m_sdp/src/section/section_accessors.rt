@@ -2,7 +2,7 @@
 ghost use Rattle.std.specs.List.{AllZip, list_any};
 ghost use Rattle.std.specs.Prelude.{◌≡◌, ◌<◌, ◌↔◌, ◌++◌, [], IfOk, IsTrue, None, Ok, OnOk, Some, count_by, filter_map, length, map, option_copied, option_map, slice_set, string_bytes};
 ghost use Rattle.str0m_sdp.specs.Common.{first, last};
-ghost use Rattle.str0m_sdp.specs.section.Consistency.{Consistent, NoneIff, is_direction, is_mid, mid_of};
+ghost use Rattle.str0m_sdp.specs.section.Consistency.{Consistent, NoFaultIff, is_direction, is_mid, mid_of};
 ghost use Rattle.str0m_sdp.specs.section.SectionAccessors.{IsRidOf, ext_map_at, ext_map_of, max_message_size_of, msid_of, rid_name_of, sctp_init_of, simulcast_of};
 ghost use Rattle.str0m_sdp.specs.section.SectionDirection.{section_direction, with_direction};
 ghost use Rattle.str0m_sdp.specs.section.Sources.{ArePlaced, entries};
@@ -261,7 +261,7 @@ impl MediaLine {
     /// memory for the message was refused.
     #[tactic(auto, using(crate::proofs::session::FaultLaws::consistent_if_ok, crate::proofs::session::FaultLaws::consistent_not_err))]
     pub fn check_consistent(&self) -> Result<Option<String>, AllocError>
-        ensures told { IfOk result (λ message. NoneIff message (Consistent self.now)) }
+        ensures told { IfOk result (λ message. NoFaultIff message (Consistent self.now)) }
         ensures first { IfOk result (λ message. option_map string_bytes message ≡ section_message self.now) }
         ensures takes_no_memory { Consistent self.now → result ≡ Ok None }
     {

@@ -6,7 +6,7 @@ ghost use Rattle.str0m_sdp.specs.section.SectionRows.{KeepsToLines, fmtps_of, is
 
 use crate::attribute::MediaAttribute;
 use crate::attribute::feedback::{Feedback, note_feedback};
-use crate::section::companions::note_line;
+use crate::section::companions::note_companion_line;
 use crate::section::known_formats::{format_of, groups_of};
 use crate::section::mappings::{mapped_types, mappings, push_static, types_of};
 use crate::section::media_line::MediaLine;
@@ -49,8 +49,8 @@ impl TypeFacts {
             match attr {
                 MediaAttribute::Fmtp { pt, values } => {
                     let values = values.as_slice();
-                    note_line(&mut self.rtx, Codec::Rtx, &rtx_types, *pt, values);
-                    note_line(&mut self.red, Codec::Red, &red_types, *pt, values);
+                    note_companion_line(&mut self.rtx, Codec::Rtx, &rtx_types, *pt, values);
+                    note_companion_line(&mut self.red, Codec::Red, &red_types, *pt, values);
                     lines.push((pt.value(), values))?;
                 }
                 MediaAttribute::RtcpFb { pt, value } => {

@@ -77,7 +77,7 @@ impl Sources {
     }
 
     /// What is said of each, in order of first appearance. Takes no memory.
-    #[tactic(auto, using(crate::proofs::section::SourceLaws::values_stand))]
+    #[tactic(auto, using(crate::proofs::section::SourceLaws::source_values_stand))]
     pub(crate) fn into_infos(self) -> Vec<SsrcInfo>
         ensures { result.items ≡ values_of (entries self) }
     {

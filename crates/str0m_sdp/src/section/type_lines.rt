@@ -79,7 +79,7 @@ impl<'a> TypeLines<'a> {
 }
 
 /// A group for each payload type, without lines.
-fn no_lines<'a>(alloc: Global) -> Result<Vec<TypeLines<'a>>, AllocError>
+fn no_type_lines<'a>(alloc: Global) -> Result<Vec<TypeLines<'a>>, AllocError>
     ensures { IfOk result (λ groups. AreGrouped [] groups.items) }
 {
     let mut groups = Vec::with_capacity(alloc, TYPES)?;
@@ -96,7 +96,7 @@ pub(crate) fn grouped<'a>(
 ) -> Result<Vec<TypeLines<'a>>, AllocError>
     ensures { IfOk result (λ groups. AreGrouped lines.now groups.items) }
 {
-    let mut groups = no_lines(alloc)?;
+    let mut groups = no_type_lines(alloc)?;
     for (number, values) in lines {
         groups[usize::from(*number)].add(*values)?;
     }

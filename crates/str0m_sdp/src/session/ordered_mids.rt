@@ -9,7 +9,7 @@ use std::collections::BTreeSet;
 use str0m_values::Mid;
 
 /// The mids by name, each once.
-pub(crate) fn names_of(mids: &[Mid], alloc: Global) -> Result<BTreeSet<&str>, AllocError>
+pub(crate) fn mid_names_of(mids: &[Mid], alloc: Global) -> Result<BTreeSet<&str>, AllocError>
     ensures { IfOk result (λ names. HoldsMids names mids.now) }
 {
     let mut names = BTreeSet::new(alloc);

@@ -12,7 +12,7 @@ use crate::section::media_line::MediaLine;
 use crate::session::Sdp;
 use crate::session::error::SdpError;
 use crate::session::fault::SessionFault;
-use crate::session::ordered_mids::{find_mid_again, is_mid_held, names_of};
+use crate::session::ordered_mids::{find_mid_again, is_mid_held, mid_names_of};
 use std::alloc::{AllocError, Global};
 use std::collections::BTreeSet;
 use str0m_values::{Items, Mid};
@@ -28,7 +28,7 @@ fn section_mid(m: &MediaLine) -> Option<Mid>
 }
 
 /// The message of the first section that has a fault.
-#[tactic(auto, using(crate::proofs::session::SessionFaultLaws::first_quiet))]
+#[tactic(auto, using(crate::proofs::session::SessionFaultLaws::session_fault_first_section_quiet))]
 fn section_message(sections: &[MediaLine]) -> Result<Option<String>, AllocError>
     ensures first { IfOk result (λ message. option_map string_bytes message ≡ sections_message sections.now) }
     ensures takes_no_memory { sections_message sections.now ≡ None → result ≡ Ok None }
@@ -210,7 +210,7 @@ fn gather_parts(
 ) -> Result<Vec<Mid>, AllocError>
     ensures { IfOk result (λ mids. mids.items ≡ mids_in_part group.now sections.now) }
 {
-    let names = names_of(group, alloc)?;
+    let names = mid_names_of(group, alloc)?;
     let mids = gather_among(&names, sections, alloc)?;
     Ok(mids)
 }

@@ -24,8 +24,8 @@ ReadAs = LinesReadAs media_attribute_text IsMediaLine
 pub read_as_joined : (xs ys reads more : List MediaAttribute) → ReadAs xs reads → ReadAs ys more → ReadAs (xs ++ ys) (reads ++ more)
 read_as_joined = both_read media_attribute_text IsMediaLine
 
-pub one : (x a : MediaAttribute) → IsPrintedAs IsMediaLine (media_attribute_text x) a → ReadAs (x ∷ []) (a ∷ [])
-one x a h = one_read media_attribute_text IsMediaLine x a [] [] h refl
+pub read_as_one : (x a : MediaAttribute) → IsPrintedAs IsMediaLine (media_attribute_text x) a → ReadAs (x ∷ []) (a ∷ [])
+read_as_one x a h = one_read media_attribute_text IsMediaLine x a [] [] h refl
 
 -- ---- mappings of codecs that have a name
 
@@ -80,15 +80,15 @@ module _ (row : PayloadParams) (keeps : KeepsToRow row) where
       let twice = Fmtp n (Red row.pt ∷ []) in
       let list = Fmtp n (BarePtList row.pt ∷ []) in
       read_as_joined (RtpMap n map ∷ []) (twice ∷ []) (RtpMap n map ∷ []) (list ∷ [])
-      (one (RtpMap n map) (RtpMap n map) (named_printed n map h (record { clock = row_rate; channels = keeps.channels }) (λ e. cc)))
-      (one twice list (list_printed n row.pt (Red row.pt) refl h (omega (arith, small))))
+      (read_as_one (RtpMap n map) (RtpMap n map) (named_printed n map h (record { clock = row_rate; channels = keeps.channels }) (λ e. cc)))
+      (read_as_one twice list (list_printed n row.pt (Red row.pt) refl h (omega (arith, small))))
 
   -- the lines of a row, where its format's lines read as these values
   pub row_read : (values : List (List FormatParam)) → ReadAs (format_attrs row) (fmtp_lines row.pt values)
       → ReadAs (row_attrs row) (reads row values)
   row_read values format =
       read_as_joined (RtpMap row.pt (map_of_spec row.spec) ∷ []) _ (RtpMap row.pt (map_of_spec row.spec) ∷ []) _
-      (one (RtpMap row.pt (map_of_spec row.spec)) (RtpMap row.pt (map_of_spec row.spec))
+      (read_as_one (RtpMap row.pt (map_of_spec row.spec)) (RtpMap row.pt (map_of_spec row.spec))
       (named_printed row.pt (map_of_spec row.spec) small (record { clock = row_rate; channels = keeps.channels }) keeps.named))
       (read_as_joined (feedback_attrs row) _ (feedback_attrs row) _ feedback_read
       (read_as_joined (format_attrs row) _ (fmtp_lines row.pt values) _ format
@@ -114,7 +114,7 @@ events_read row keeps tele fits =
     row_read row keeps values
     (subst (λ (params : List FormatParam). ReadAs (fmtp_line row.pt params) (fmtp_lines row.pt values))
     (sym (ap (λ (c : Codec). format_values c row.spec.format) tele))
-    (one (Fmtp row.pt range) (Fmtp row.pt (BareRange (telephone_max row.spec.format) ∷ []))
+    (read_as_one (Fmtp row.pt range) (Fmtp row.pt (BareRange (telephone_max row.spec.format) ∷ []))
     (range_printed row.pt (telephone_max row.spec.format) (TelephoneEvents (telephone_max row.spec.format)) refl keeps.pt fits)))
 
 format_of : (c : Codec) (p : FormatParams) → c ≢ codec.Tele → format_values c p ≡ params_of p

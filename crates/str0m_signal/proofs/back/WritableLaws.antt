@@ -5,7 +5,7 @@ use Rattle.str0m_signal.proofs.Common.{◌≡◌, ◌≢◌, ◌<◌, ◌≤◌,
 use Rattle.str0m_signal.proofs.Common.{IfSome, refl, sym, ap, ◌∙◌, true≢false, ◌↔◌, IsTrue, list_any, slice_get, cases_Bool, cases_lt}
 use Rattle.str0m_signal.proofs.Common.{none-some, same_Some, slice_get_read, IsTheOnly, session_attribute_text, bandwidth_text, Consistent}
 use Rattle.str0m_signal.proofs.Common.{is_of_type, MediaAttribute, SessionAttribute, Bandwidth, MediaLine, Sdp, Srtp, arith, is_some, All}
-use Rattle.str0m_signal.proofs.Common.{slice_get_within, NoneIff}
+use Rattle.str0m_signal.proofs.Common.{slice_get_within, NoFaultIff}
 use Rattle.str0m_signal.specs.back.Writable.{AreReadAs, HasTypes, IsFrame, IsPrintedAs, IsMediaReadAs, MediaAreReadAs, SessionGoesWith}
 use Rattle.str0m_signal.specs.back.Writable.{Writable, frame_of}
 use Rattle.str0m_signal.specs.form.SessionAttribute.{IsSessionLine}
@@ -70,7 +70,7 @@ module _ (m : MediaLine) where
 
 -- ---- consistency, told by no fault
 
-pub writable_told_by : {A : Type 0} (fault : Option A) (P : Type 0) (answer : Bool) → NoneIff fault P → is_some fault ≡ not answer
+pub writable_told_by : {A : Type 0} (fault : Option A) (P : Type 0) (answer : Bool) → NoFaultIff fault P → is_some fault ≡ not answer
     → IsTrue answer ↔ P
 writable_told_by fault P answer told is = grind arith
 
@@ -99,8 +99,8 @@ abbrev pub OtherLinesBefore : List MediaLine → ℕ → ℕ → Type 0
 OtherLinesBefore sections own i = (j : ℕ) (m : MediaLine) → j < i → slice_get sections j ≡ Some m → j ≢ own → FrameComesBack m
 
 -- all
-abbrev pub Others : List MediaLine → ℕ → Type 0
-Others sections own = (j : ℕ) (m : MediaLine) → slice_get sections j ≡ Some m → j ≢ own → FrameComesBack m
+abbrev pub OthersComeBack : List MediaLine → ℕ → Type 0
+OthersComeBack sections own = (j : ℕ) (m : MediaLine) → slice_get sections j ≡ Some m → j ≢ own → FrameComesBack m
 
 pub writable_others_more : (sections : List MediaLine) (own i : ℕ) (m : MediaLine) → i < length sections → m ≡ get_or sections i m
     → (i ≢ own → FrameComesBack m)
@@ -110,11 +110,11 @@ writable_others_more sections own i m lt at back before = grind (arith, cases_lt
 pub writable_one_section_lost : (sections : List MediaLine) (own i : ℕ) (m : MediaLine) → i < length sections → m ≡ get_or sections i m
     → i ≢ own
     → ¬ FrameComesBack m
-    → IsTrue false ↔ Others sections own
+    → IsTrue false ↔ OthersComeBack sections own
 writable_one_section_lost sections own i m lt at other lost = grind (arith, slice_get_read)
 
 pub all_back : (sections : List MediaLine) (own i : ℕ) → length sections ≤ i → OtherLinesBefore sections own i
-    → IsTrue true ↔ Others sections own
+    → IsTrue true ↔ OthersComeBack sections own
 all_back sections own i end before = grind (arith, slice_get_within)
 
 -- ---- all of it
@@ -123,7 +123,7 @@ pub writable_with : (sdp : Sdp) (i : ℕ) (section : MediaLine) → slice_get sd
     → ((reads : List SessionAttribute) × AreReadAs session_attribute_text IsSessionLine SessionGoesWith sdp.session.attrs reads)
     × BandwidthComesBack sdp.session.bw
     → ((read : MediaLine) × IsMediaReadAs (frame_of section) read × IsFrame read) → {T : Type 0}
-    → T ↔ Others sdp.media_lines i
+    → T ↔ OthersComeBack sdp.media_lines i
     → T ↔ Writable sdp i
 writable_with sdp i section at session own is = (
   (λ t. record { section = section; at = at; session = session.0; bandwidth = session.1; others = is.0 t; own = own }),

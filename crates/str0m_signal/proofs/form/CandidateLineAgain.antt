@@ -44,10 +44,10 @@ octets_small text [] h = absurd h
 octets_small text (n ∷ []) h = (h.1, tt)
 octets_small text (n ∷ (m ∷ ms)) h = (h.3.1, octets_small h.1 (m ∷ ms) h.4)
 
-pairs_small : (octets : List ℕ) → AreCandidateNumbersSmall (2 ^ 8) octets → AreCandidateNumbersSmall (2 ^ 16) (octet_pairs octets)
-pairs_small [] h = tt
-pairs_small (a ∷ []) h = tt
-pairs_small (a ∷ (b ∷ octets)) h = (omega (arith, h.0, h.1.0), pairs_small octets h.1.1)
+candidate_pairs_small : (octets : List ℕ) → AreCandidateNumbersSmall (2 ^ 8) octets → AreCandidateNumbersSmall (2 ^ 16) (octet_pairs octets)
+candidate_pairs_small [] h = tt
+candidate_pairs_small (a ∷ []) h = tt
+candidate_pairs_small (a ∷ (b ∷ octets)) h = (omega (arith, h.0, h.1.0), candidate_pairs_small octets h.1.1)
 
 zeros_small : (n : ℕ) → AreCandidateNumbersSmall (2 ^ 16) (replicate n 0)
 zeros_small zero = tt
@@ -59,7 +59,7 @@ candidate_one_group_small text groups (n, group, e) = subst (AreCandidateNumbers
 end_small : (text groups : List ℕ) → IsAddressEnd text groups → AreCandidateNumbersSmall (2 ^ 16) groups
 end_small text groups (inl one) = candidate_one_group_small text groups one
 end_small text groups (inr (octets, is, e)) = subst (AreCandidateNumbersSmall (2 ^ 16)) (sym e)
-    (pairs_small octets (octets_small text octets is.0))
+    (candidate_pairs_small octets (octets_small text octets is.0))
 
 module _ (Last : List ℕ → List ℕ → Type 0) (last_small : (text groups : List ℕ) → Last text groups
     → AreCandidateNumbersSmall (2 ^ 16) groups) where
@@ -141,14 +141,14 @@ related_in_range : (o : Option SocketAddr) (text : List ℕ) → IsRelatedAddres
 related_in_range None text h = tt
 related_in_range (Some a) text h = socket_in_range candidate_label.RELATED_ADDRESS.now candidate_label.RELATED_PORT.now text a h
 
-same_word : (label part x : List ℕ) → IsLabelled label IsSameLabel part x → IsWord x
-same_word label part x (word, e, is, same) = subst IsWord (sym same) is
+candidate_labelled_same_word : (label part x : List ℕ) → IsLabelled label IsSameLabel part x → IsWord x
+candidate_labelled_same_word label part x (word, e, is, same) = subst IsWord (sym same) is
 
-name_word : (o : Option (List ℕ)) (text : List ℕ) → AreIceNames text o → IfSome o IsWord
-name_word o text h = grind arith
+candidate_ice_name_word : (o : Option (List ℕ)) (text : List ℕ) → AreIceNames text o → IfSome o IsWord
+candidate_ice_name_word o text h = grind arith
 
 printable : (text : List ℕ) (c : Candidate) → IsCandidateText text c → IsPrintable c
-printable text c h = search (rules, same_word, socket_in_range, related_in_range, name_word)
+printable text c h = search (rules, candidate_labelled_same_word, socket_in_range, related_in_range, candidate_ice_name_word)
 
 -- ---- line ends
 
@@ -169,26 +169,26 @@ related_no_end : (o : Option SocketAddr) → IfSome o IsSocketInRange → HoldsN
 related_no_end None h = (tt, tt)
 related_no_end (Some a) h = search (rules, socket_no_end, no_end)
 
-word_lacks : (c : ℕ) (label part x : List ℕ) → IsLabelled label IsSameLabel part x → Lacks c part → Lacks c x
-word_lacks c label part x (word, e, is, same) none = grind (arith, fmtp_behind_lacks)
+candidate_labelled_word_lacks : (c : ℕ) (label part x : List ℕ) → IsLabelled label IsSameLabel part x → Lacks c part → Lacks c x
+candidate_labelled_word_lacks c label part x (word, e, is, same) none = grind (arith, fmtp_behind_lacks)
 
 fragment_lacks : (c : ℕ) (o : Option (List ℕ)) (text : List ℕ) → AreIceNames text o → Lacks c text → Lacks c candidate_label.UFRAG.now
     → Lacks c (optional_text candidate_label.UFRAG.now (λ t. t) o)
 fragment_lacks c None text h none label = tt
 fragment_lacks c (Some x) text (inl (network, name, e, left_out, is)) none label =
     address_lacks_both c candidate_label.UFRAG.now x label
-    (word_lacks c candidate_label.UFRAG.now name x is (fmtp_behind_lacks c network name (subst (Lacks c) e none)))
+    (candidate_labelled_word_lacks c candidate_label.UFRAG.now name x is (fmtp_behind_lacks c network name (subst (Lacks c) e none)))
 fragment_lacks c (Some x) text (inr (name, network, word, fragment, e, is, network_is, same)) none label =
     let own : x ≡ fragment = some_is x fragment same in
     address_lacks_both c candidate_label.UFRAG.now x label
-    (subst (Lacks c) (sym own) (word_lacks c candidate_label.UFRAG.now name fragment is
+    (subst (Lacks c) (sym own) (candidate_labelled_word_lacks c candidate_label.UFRAG.now name fragment is
     (Lacks-append c name network (subst (Lacks c) e none))))
 
 -- the fragment and the foundation hold what the text holds
 module _ (c : ℕ) (text : List ℕ) (candidate : Candidate) (h : IsCandidateText text candidate) (none : Lacks c text) where
   foundation_lacks : Lacks c candidate.foundation
   foundation_lacks =
-      word_lacks c candidate_label.CANDIDATE.now h.foundation candidate.foundation h.foundation_is
+      candidate_labelled_word_lacks c candidate_label.CANDIDATE.now h.foundation candidate.foundation h.foundation_is
       (Lacks-append c h.foundation _ (subst (Lacks c) h.joined none))
 
   fragments_lack : Lacks c candidate_label.UFRAG.now → Lacks c (optional_text candidate_label.UFRAG.now (λ t. t) candidate.ufrag)

@@ -2,7 +2,8 @@
 use Rattle.str0m_formats.proofs.{IsPairsLine, pairs_again}
 use Rattle.str0m_signal.proofs.Common.{rules, ◌≡◌, ◌≢◌, ◌⊎◌, ◌≤◌, ℕ, List, [], ◌∷◌, map, filter, refl, subst, arith, inl, inr}
 use Rattle.str0m_signal.proofs.Common.{AllByRecursion, join_with_byte, cases_Bool, ltb-true, param_text, params_read, FormatParam}
-use Rattle.str0m_signal.proofs.Common.{BarePtList, BareRange, IsSolidPair, joined_pair, media_attribute_text, is_fmtp_shown, shown_line}
+use Rattle.str0m_signal.proofs.Common.{BarePtList, BareRange, IsSolidPair, joined_pair, media_attribute_text, is_fmtp_shown}
+use Rattle.str0m_signal.proofs.Common.{shown_fmtp_line}
 use Rattle.str0m_signal.proofs.Common.{Fmtp}
 use Rattle.str0m_signal.proofs.Common.{IsRest}
 use Rattle.str0m_signal.proofs.form.FmtpPrinted.{AreFmtpPairsShown, FmtpValues, fmtp_all_shown, fmtp_list_shown, list_printed}
@@ -18,21 +19,21 @@ fmtp_shown_are (v ∷ vs) = grind (arith, cases_Bool, ltb-true, fmtp_shown_are v
 
 -- the line of values that are all shown is read as these
 abbrev IsShownLine : ℕ → List FormatParam → Type 0
-IsShownLine pt shown = IsPrintedAs IsMediaLine (shown_line pt shown) (Fmtp pt shown)
+IsShownLine pt shown = IsPrintedAs IsMediaLine (shown_fmtp_line pt shown) (Fmtp pt shown)
 
-of_pairs : (pt : ℕ) (v : FormatParam) (vs : List FormatParam) (pairs : List (List ℕ × List ℕ)) → pt ≤ 127 → AreFmtpPairsShown (v ∷ vs)
+fmtp_of_pairs : (pt : ℕ) (v : FormatParam) (vs : List FormatParam) (pairs : List (List ℕ × List ℕ)) → pt ≤ 127 → AreFmtpPairsShown (v ∷ vs)
     → AllByRecursion IsSolidPair pairs → join_with_byte 59 (map param_text (v ∷ vs)) ≡ join_with_byte 59 (map joined_pair pairs)
     → params_read pairs ≡ v ∷ vs → pairs ≢ [] → IsShownLine pt (v ∷ vs)
-of_pairs pt v vs [] small shows plain text read some = absurd (some refl)
-of_pairs pt v vs (p ∷ ps) small shows plain text read some =
-    subst (λ (values : List FormatParam). IsPrintedAs IsMediaLine (shown_line pt (v ∷ vs)) (Fmtp pt values)) read
-    (subst (λ (values : List FormatParam). IsPrintedAs IsMediaLine (shown_line pt values) (Fmtp pt (params_read (p ∷ ps))))
+fmtp_of_pairs pt v vs [] small shows plain text read some = absurd (some refl)
+fmtp_of_pairs pt v vs (p ∷ ps) small shows plain text read some =
+    subst (λ (values : List FormatParam). IsPrintedAs IsMediaLine (shown_fmtp_line pt (v ∷ vs)) (Fmtp pt values)) read
+    (subst (λ (values : List FormatParam). IsPrintedAs IsMediaLine (shown_fmtp_line pt values) (Fmtp pt (params_read (p ∷ ps))))
     (fmtp_all_shown (v ∷ vs) shows)
     (pairs_printed pt v vs p ps small shows plain text))
 
 of_line : (pt : ℕ) (shown : List FormatParam) → pt ≤ 127 → AreFmtpPairsShown shown → IsPairsLine shown → IsShownLine pt shown ⊎ (shown ≡ [])
 of_line pt [] small shows line = inr refl
-of_line pt (v ∷ vs) small shows line = grind (arith, of_pairs pt v vs line.pairs small shows line.plain line.text line.read)
+of_line pt (v ∷ vs) small shows line = grind (arith, fmtp_of_pairs pt v vs line.pairs small shows line.plain line.text line.read)
 
 -- one value that prints something
 fmtp_one_shown : (pt : ℕ) (v : FormatParam) → IsRest (param_text v)

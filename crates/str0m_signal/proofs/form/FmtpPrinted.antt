@@ -8,13 +8,14 @@ use Rattle.str0m_signal.proofs.Common.{◌≡◌, ◌≤◌, ℕ, List, [], ◌�
 use Rattle.str0m_signal.proofs.Common.{arith, lit<, lit≤, inl, inr, codes, AllByRecursion, join_with_byte, join_by, decimal, IsNumeral}
 use Rattle.str0m_signal.proofs.Common.{digits_value, lt-ltb, decimal_is_IsNumeral, decimal_nonempty, append_assoc, append-nil, FirstFit}
 use Rattle.str0m_signal.proofs.Common.{Lacks, IsRest, IsNum, param_text, FormatParam, BareRange, BarePtList, Apt, pairs_read_is}
-use Rattle.str0m_signal.proofs.Common.{IsSolidPair, joined_pair, media_attribute_text, is_fmtp_shown, shown_line, attribute_line, Fmtp}
+use Rattle.str0m_signal.proofs.Common.{IsSolidPair, joined_pair, media_attribute_text, is_fmtp_shown, shown_fmtp_line, attribute_line, Fmtp}
 use Rattle.str0m_signal.proofs.Common.{address_lacks_both, decimal_solid, parsed_printed}
 use Rattle.str0m_signal.proofs.form.FmtpLaws.{key_starts}
 use Rattle.str0m_signal.proofs.session.AttributesPrinted.{HoldsNoEnd, no_ends, no_end, num_is, decimal_lacks, decimal_no_end}
 use Rattle.str0m_signal.proofs.session.AttributesPrinted.{attribute_printed}
 use Rattle.str0m_signal.specs.back.Writable.{IsPrintedAs}
-use Rattle.str0m_signal.specs.form.Fmtp.{IsKey, IsValue, StartsUnblank, ArePairs, IsPairsForm, IsListForm, IsRangeForm, IsAnything, IsFmtp}
+use Rattle.str0m_signal.specs.form.Fmtp.{IsFmtpKey, IsFmtpValue, StartsUnblank, AreFmtpPairs, IsPairsForm, IsListForm, IsRangeForm}
+use Rattle.str0m_signal.specs.form.Fmtp.{IsAnything, IsFmtp}
 use Rattle.str0m_signal.specs.form.MediaAttribute.{IsMediaLine}
 
 -- the first of the four forms that holds
@@ -52,13 +53,14 @@ fmtp_behind_lacks c [] b h = h
 fmtp_behind_lacks c (x ∷ xs) b h = fmtp_behind_lacks c xs b h.1
 
 -- pairs hold `=`
-pairs_hold : (text : List ℕ) (pairs : List (List ℕ × List ℕ)) → ArePairs text pairs → Lacks 61 text → ⊥
-pairs_hold text [] h lacks = h
-pairs_hold text (p ∷ []) h lacks = fmtp_lacks_not_at 61 p.0 (p.1 ++ (h.0 ++ h.1)) (subst (Lacks 61) h.2 lacks)
-pairs_hold text (p ∷ (q ∷ qs)) h lacks = fmtp_lacks_not_at 61 p.0 (p.1 ++ (h.1.0 ++ (59 ∷ (h.1.1 ++ h.0)))) (subst (Lacks 61) h.1.2 lacks)
+fmtp_pairs_hold : (text : List ℕ) (pairs : List (List ℕ × List ℕ)) → AreFmtpPairs text pairs → Lacks 61 text → ⊥
+fmtp_pairs_hold text [] h lacks = h
+fmtp_pairs_hold text (p ∷ []) h lacks = fmtp_lacks_not_at 61 p.0 (p.1 ++ (h.0 ++ h.1)) (subst (Lacks 61) h.2 lacks)
+fmtp_pairs_hold text (p ∷ (q ∷ qs)) h lacks = fmtp_lacks_not_at 61 p.0 (p.1 ++ (h.1.0 ++ (59 ∷ (h.1.1 ++ h.0))))
+    (subst (Lacks 61) h.1.2 lacks)
 
-pub no_pairs : (text : List ℕ) → Lacks 61 text → (values : List FormatParam) → IsPairsForm (codes " " ++ text) values → ⊥
-no_pairs text lacks values h = grind (arith, pairs_hold, fmtp_behind_lacks)
+pub fmtp_no_pairs : (text : List ℕ) → Lacks 61 text → (values : List FormatParam) → IsPairsForm (codes " " ++ text) values → ⊥
+fmtp_no_pairs text lacks values h = grind (arith, fmtp_pairs_hold, fmtp_behind_lacks)
 
 -- lists hold `/`
 pub fmtp_no_list : (text : List ℕ) → Lacks 47 text → (values : List FormatParam) → IsListForm (codes " " ++ text) values → ⊥
@@ -67,24 +69,25 @@ fmtp_no_list text lacks values (first, second, others, (body, e, parts), made) =
 -- ---- a list of one type twice
 
 pub fmtp_list_is : (n : ℕ) → n ≤ 255 → FmtpValues (codes " " ++ (decimal n ++ (codes "/" ++ decimal n))) (BarePtList n ∷ [])
-fmtp_list_is n small = inr (no_pairs body no_equals, inl (n, n, [], (body, refl, (decimal n, decimal n, refl, number, number)), refl)) where
-  body : List ℕ
-  body = decimal n ++ (codes "/" ++ decimal n)
+fmtp_list_is n small = inr (fmtp_no_pairs body no_equals, inl (n, n, [], (body, refl, (decimal n, decimal n, refl, number, number)), refl))
+  where
+    body : List ℕ
+    body = decimal n ++ (codes "/" ++ decimal n)
 
-  number : IsNum 255 (decimal n) n
-  number = num_is 255 n small (lit< tt)
+    number : IsNum 255 (decimal n) n
+    number = num_is 255 n small (lit< tt)
 
-  no_equals : Lacks 61 body
-  no_equals =
-      address_lacks_both 61 (decimal n) (codes "/" ++ decimal n) (decimal_lacks 61 n (lit≤ tt) (omega arith))
-      ((λ e. absurd (omega (arith, e))), decimal_lacks 61 n (lit≤ tt) (omega arith))
+    no_equals : Lacks 61 body
+    no_equals =
+        address_lacks_both 61 (decimal n) (codes "/" ++ decimal n) (decimal_lacks 61 n (lit≤ tt) (omega arith))
+        ((λ e. absurd (omega (arith, e))), decimal_lacks 61 n (lit≤ tt) (omega arith))
 
 -- ---- a range of events
 
 pub range_is : (n : ℕ) → n ≤ 255 → FmtpValues (codes " " ++ (codes "0-" ++ decimal n)) (BareRange n ∷ [])
 range_is n small =
     inr (
-      no_pairs body no_equals,
+      fmtp_no_pairs body no_equals,
       inr
           (fmtp_no_list body no_slash, inl (n, (body, refl, record { range = (decimal n, refl, digits.0, digits.1); fits = small }), refl)),
     ) where
@@ -102,28 +105,44 @@ range_is n small =
 
 -- ---- pairs
 
-solid_key : (pair : List ℕ × List ℕ) → IsSolidPair pair → IsKey pair.0
-solid_key pair h = (h.2, solid_lacks 61 pair.0 refl h.0, solid_lacks 32 pair.0 refl h.0, solid_lacks 9 pair.0 refl h.0)
+fmtp_solid_key : (pair : List ℕ × List ℕ) → IsSolidPair pair → IsFmtpKey pair.0
+fmtp_solid_key pair h = (h.2, solid_lacks 61 pair.0 refl h.0, solid_lacks 32 pair.0 refl h.0, solid_lacks 9 pair.0 refl h.0)
 
-value_is : (pair : List ℕ × List ℕ) → IsSolidPair pair → IsValue pair.1
-value_is pair h = (h.3, solid_lacks 59 pair.1 refl h.1, solid_lacks 32 pair.1 refl h.1, solid_lacks 9 pair.1 refl h.1)
+fmtp_solid_value : (pair : List ℕ × List ℕ) → IsSolidPair pair → IsFmtpValue pair.1
+fmtp_solid_value pair h = (h.3, solid_lacks 59 pair.1 refl h.1, solid_lacks 32 pair.1 refl h.1, solid_lacks 9 pair.1 refl h.1)
 
 starts_joined : (q : List ℕ × List ℕ) (qs : List (List ℕ × List ℕ)) → IsSolidPair q
     → StartsUnblank (join_with_byte 59 (map joined_pair (q ∷ qs)))
-starts_joined q [] h = key_starts q.0 (61 ∷ q.1) (solid_key q h)
+starts_joined q [] h = key_starts q.0 (61 ∷ q.1) (fmtp_solid_key q h)
 starts_joined q (r ∷ qs) h =
     rw (append_assoc q.0 (61 ∷ q.1) (59 ∷ join_with_byte 59 (map joined_pair (r ∷ qs))))
-    (key_starts q.0 ((61 ∷ q.1) ++ (59 ∷ join_with_byte 59 (map joined_pair (r ∷ qs)))) (solid_key q h))
+    (key_starts q.0 ((61 ∷ q.1) ++ (59 ∷ join_with_byte 59 (map joined_pair (r ∷ qs)))) (fmtp_solid_key q h))
 
 -- solid pairs, joined, are read as these pairs
-pub are_pairs : (p : List ℕ × List ℕ) (ps : List (List ℕ × List ℕ)) → AllByRecursion IsSolidPair (p ∷ ps)
-    → ArePairs (join_with_byte 59 (map joined_pair (p ∷ ps))) (p ∷ ps)
-are_pairs p [] h = ([], [], ap (λ (t : List ℕ). p.0 ++ (61 ∷ t)) (sym (append-nil p.1)), solid_key p h.0, value_is p h.0, tt, inl refl)
-are_pairs p (q ∷ qs) h = grind (arith, append_assoc, solid_key, value_is, starts_joined, are_pairs q qs h.1)
+pub fmtp_are_pairs : (p : List ℕ × List ℕ) (ps : List (List ℕ × List ℕ)) → AllByRecursion IsSolidPair (p ∷ ps)
+    → AreFmtpPairs (join_with_byte 59 (map joined_pair (p ∷ ps))) (p ∷ ps)
+fmtp_are_pairs p [] h = (
+  [],
+  [],
+  ap (λ (t : List ℕ). p.0 ++ (61 ∷ t)) (sym (append-nil p.1)),
+  fmtp_solid_key p h.0,
+  fmtp_solid_value p h.0,
+  tt,
+  inl refl,
+)
+fmtp_are_pairs p (q ∷ qs) h = grind (arith, append_assoc, fmtp_solid_key, fmtp_solid_value, starts_joined, fmtp_are_pairs q qs h.1)
 
-pub pairs_are : (p : List ℕ × List ℕ) (ps : List (List ℕ × List ℕ)) → AllByRecursion IsSolidPair (p ∷ ps)
+pub fmtp_pairs_are : (p : List ℕ × List ℕ) (ps : List (List ℕ × List ℕ)) → AllByRecursion IsSolidPair (p ∷ ps)
     → FmtpValues (codes " " ++ join_with_byte 59 (map joined_pair (p ∷ ps))) (params_read (p ∷ ps))
-pairs_are p ps h = inl ([], join_with_byte 59 (map joined_pair (p ∷ ps)), p ∷ ps, refl, tt, are_pairs p ps h, pairs_read_is (p ∷ ps))
+fmtp_pairs_are p ps h = inl (
+  [],
+  join_with_byte 59 (map joined_pair (p ∷ ps)),
+  p ∷ ps,
+  refl,
+  tt,
+  fmtp_are_pairs p ps h,
+  pairs_read_is (p ∷ ps),
+)
 
 solid_no_end : (text : List ℕ) → IsSolid text → HoldsNoEnd text
 solid_no_end text h = (solid_lacks 10 text refl h, solid_lacks 13 text refl h)
@@ -151,7 +170,7 @@ apt_read n small =
     (parsed_printed (codes "apt") (decimal n) (param_of (apt_pair n)) (parsed (codes "apt") (decimal n)) (Apt n) (refl, refl, small))
 
 pub apt_value_is : (n : ℕ) → n ≤ 255 → FmtpValues (codes " " ++ (codes "apt=" ++ decimal n)) (Apt n ∷ [])
-apt_value_is n small = grind (arith, apt_read n small, pairs_are (apt_pair n) [], apt_solid n small)
+apt_value_is n small = grind (arith, apt_read n small, fmtp_pairs_are (apt_pair n) [], apt_solid n small)
 
 -- ---- the lines of values
 
@@ -176,7 +195,7 @@ pub line_values_printed : (pt : ℕ) (v : FormatParam) (vs : List FormatParam) (
 line_values_printed pt v vs body read small shown e quiet are =
     grind (
       arith,
-      shown_line pt,
+      shown_fmtp_line pt,
       fmtp_all_shown (v ∷ vs) shown,
       fmtp_shown_join_same (v ∷ vs),
       fmtp_line_printed pt body read small quiet are,
@@ -220,4 +239,4 @@ pub pairs_printed : (pt : ℕ) (v : FormatParam) (vs : List FormatParam) (p : Li
     → IsPrintedAs IsMediaLine (media_attribute_text (Fmtp pt (v ∷ vs))) (Fmtp pt (params_read (p ∷ ps)))
 pairs_printed pt v vs p ps small shown plain e =
     line_values_printed pt v vs (join_with_byte 59 (map joined_pair (p ∷ ps))) (params_read (p ∷ ps)) small shown e
-    (pairs_no_end p ps plain) (pairs_are p ps plain)
+    (pairs_no_end p ps plain) (fmtp_pairs_are p ps plain)

@@ -4,7 +4,7 @@ use Rattle.str0m_signal.proofs.Common.{◌∷◌, ◌++◌, length, Option, Some
 use Rattle.str0m_signal.proofs.Common.{is_rest, num, IsNum, bind_some, some_is, cut_none, cut_none_lacks, cut_at, cut_found, strip_at}
 use Rattle.str0m_signal.proofs.Common.{strip_found, when_some, num_found, num_reads, num_rest_true, Reads, append-nil}
 use Rattle.str0m_signal.specs.form.FormReading.{behind, digits_read, text_read, two_read, tailed_piece_after, tailed_read}
-use Rattle.str0m_signal.specs.form.Forms.{Behind, IsText, Two, IsBeforeDroppedTail}
+use Rattle.str0m_signal.specs.form.Forms.{Behind, IsText, TwoParts, IsBeforeDroppedTail}
 
 pub text_both : Reads IsText text_read
 text_both = grind arith
@@ -42,7 +42,7 @@ form_behind_both {f} label reads = grind (arith, bind_some, strip_found, strip_a
 
 pub form_two_both : {A B : Type 0} {F : List ℕ → A → Type 0} {G : List ℕ → B → Type 0} {f : List ℕ → Option A} {g : List ℕ → Option B}
     (c : ℕ)
-    → Reads F f → Reads G g → Reads (Two c F G) (two_read c f g)
+    → Reads F f → Reads G g → Reads (TwoParts c F G) (two_read c f g)
 form_two_both {A} {B} {F} {G} {f} {g} c first second = record {
   sound = λ text x e.
       let p = bind_some (cut c text) (λ parts. f parts.0 >>= λ a. g parts.1 >>= λ b. Some (a, b)) x e in

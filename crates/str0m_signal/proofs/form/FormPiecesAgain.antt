@@ -3,7 +3,7 @@ use Rattle.str0m_signal.proofs.Common.{◌≤◌, ◌<◌, ◌^◌, ℕ, List, [
 use Rattle.str0m_signal.proofs.Common.{append-nil, Parted, Lacks, IsNum, Lacks-append, address_lacks_both}
 use Rattle.str0m_signal.proofs.form.FmtpPrinted.{fmtp_behind_lacks}
 use Rattle.str0m_signal.proofs.session.AttributesPrinted.{num_is, decimal_lacks}
-use Rattle.str0m_signal.specs.form.Forms.{Behind, IsText, Two, IsBeforeDroppedTail}
+use Rattle.str0m_signal.specs.form.Forms.{Behind, IsText, TwoParts, IsBeforeDroppedTail}
 
 -- what has the form F is printed as a text that has it again, and a character that is no digit stands there only where it stood before
 pub record Again {A : Type 0} (F : List ℕ → A → Type 0) (print : A → List ℕ) : Type 0 where
@@ -20,7 +20,7 @@ num_again limit small = record {
 }
 
 module _ {A B : Type 0} {F : List ℕ → A → Type 0} {G : List ℕ → B → Type 0} {p : A → List ℕ} {q : B → List ℕ} where
-  pub two_again : (c : ℕ) → 16 ≤ digit_value c → Again F p → Again G q → Again (Two c F G) (λ pair. p pair.0 ++ (c ∷ q pair.1))
+  pub two_again : (c : ℕ) → 16 ≤ digit_value c → Again F p → Again G q → Again (TwoParts c F G) (λ pair. p pair.0 ++ (c ∷ q pair.1))
   two_again c far first second = record {
     form = λ text pair h.
         (p pair.0, q pair.1, refl, first.lacks c far h.0 pair.0 h.4 h.3, first.form h.0 pair.0 h.4, second.form h.1 pair.1 h.5);

@@ -8,8 +8,9 @@ use Rattle.str0m_signal.proofs.form.FormTableLaws.{forms_apart}
 use Rattle.str0m_signal.proofs.form.FormTableLaws.{heads_same, form_tail_is}
 use Rattle.str0m_signal.proofs.line.WordsCharacterStarts.{StartsWithin}
 use Rattle.str0m_signal.proofs.session.AttributesPrinted.{HoldsNoEnd}
-use Rattle.str0m_signal.specs.form.FormTable.{Piece, Form, word, words_of, any_word, made_as, labelled, labelled_by, any, a_text, number}
-use Rattle.str0m_signal.specs.form.FormTable.{two, two_texts, tailed_piece, form_led_by}
+use Rattle.str0m_signal.specs.form.FormTable.{Piece, Form, word, word_forms_of, any_word_form, made_as, labelled, labelled_by, any_form}
+use Rattle.str0m_signal.specs.form.FormTable.{a_text, number}
+use Rattle.str0m_signal.specs.form.FormTable.{two_pieces, two_texts, tailed_piece, form_led_by}
 
 -- ---- pieces
 
@@ -25,7 +26,7 @@ pub number_kept : (limit : ℕ) → limit < 2 ^ 64 → KeptPiece (number limit) 
 number_kept limit small = record { reads = num_both limit; again = num_again limit small }
 
 pub two_pieces_kept : {A B : Type 0} {first : Piece A} {second : Piece B} {p : A → List ℕ} {q : B → List ℕ} (c : ℕ) → 16 ≤ digit_value c
-    → KeptPiece first p → KeptPiece second q → KeptPiece (two c first second) (λ pair. p pair.0 ++ (c ∷ q pair.1))
+    → KeptPiece first p → KeptPiece second q → KeptPiece (two_pieces c first second) (λ pair. p pair.0 ++ (c ∷ q pair.1))
 two_pieces_kept c far a b = record { reads = form_two_both c a.reads b.reads; again = two_again c far a.again b.again }
 
 pub pair_kept : KeptPiece two_texts (λ pair. pair.0 ++ (32 ∷ pair.1))
@@ -90,7 +91,7 @@ module _ {A : Type 0} {Fits : A → Type 0} {line : A → List ℕ} {test : A �
     passes = λ text attr h. subst (λ (a : A). test a ≡ true) (sym h.1) passes;
   }
 
-  pub any_again : (forms : List (Form A)) → AllOfForms (PrintsAgain Fits line test) forms → PrintsAgain Fits line test (any forms)
+  pub any_again : (forms : List (Form A)) → AllOfForms (PrintsAgain Fits line test) forms → PrintsAgain Fits line test (any_form forms)
   any_again [] laws = record { again = λ text attr quiet starts fits h. absurd h; passes = λ text attr h. absurd h }
   any_again (form ∷ forms) laws =
       let more = any_again forms laws.1 in
@@ -114,11 +115,11 @@ AreLabelled {V} print line test rows =
     ≡ map {B = List ℕ × Bool} (λ row. (attribute_line (row.0 ++ print x), true)) rows
 
 module _ {A : Type 0} (Fits : A → Type 0) (line : A → List ℕ) (test : A → Bool) where
-  words_all : (rows : List (List ℕ × A)) → AreWords line test rows → AllOfForms (PrintsAgain Fits line test) (words_of rows)
-  words_all [] e = tt
-  words_all (row ∷ rows) e =
+  form_words_all : (rows : List (List ℕ × A)) → AreWords line test rows → AllOfForms (PrintsAgain Fits line test) (word_forms_of rows)
+  form_words_all [] e = tt
+  form_words_all (row ∷ rows) e =
       let here : (line row.1, test row.1) ≡ (attribute_line row.0, true) = heads_same _ _ _ _ e in
-      (word_prints_again row.0 row.1 (λ i. (here i).0) (λ i. (here i).1), words_all rows (form_tail_is _ _ _ _ e))
+      (word_prints_again row.0 row.1 (λ i. (here i).0) (λ i. (here i).1), form_words_all rows (form_tail_is _ _ _ _ e))
 
   labelled_all : {V : Type 0} {piece : Piece V} {print : V → List ℕ} → KeptPiece piece print → (rows : List (List ℕ × (V → A)))
       → AreLabelled print line test rows → AllOfForms (PrintsAgain Fits line test) (labelled_by piece rows)
@@ -130,13 +131,13 @@ module _ {A : Type 0} (Fits : A → Type 0) (line : A → List ℕ) (test : A �
       )
 
 module _ {A : Type 0} {Fits : A → Type 0} {line : A → List ℕ} {test : A → Bool} where
-  pub words_whole : (rows : List (List ℕ × A)) → forms_apart (words_of rows) ≡ true → AreWords line test rows
-      → WholeForm Fits line test (any_word rows)
-  words_whole rows far e = form_entire (words_lawful rows far) (any_again (words_of rows) (words_all Fits line test rows e))
+  pub form_words_whole : (rows : List (List ℕ × A)) → forms_apart (word_forms_of rows) ≡ true → AreWords line test rows
+      → WholeForm Fits line test (any_word_form rows)
+  form_words_whole rows far e = form_entire (words_lawful rows far) (any_again (word_forms_of rows) (form_words_all Fits line test rows e))
 
   pub all_labelled_whole : {V : Type 0} {piece : Piece V} {print : V → List ℕ} → KeptPiece piece print → (rows : List (List ℕ × (V → A)))
       → forms_apart (labelled_by piece rows) ≡ true → AreLabelled print line test rows
-      → WholeForm Fits line test (any (labelled_by piece rows))
+      → WholeForm Fits line test (any_form (labelled_by piece rows))
   all_labelled_whole {V} {piece} {print} kept rows far e =
       form_entire (all_labelled_lawful piece kept.reads rows far)
       (any_again (labelled_by piece rows) (labelled_all Fits line test kept rows e))

@@ -4,8 +4,10 @@ use Rattle.str0m_signal.proofs.Common.{refl, sym, ap, ◌∙◌, inl, inr, list_
 use Rattle.str0m_signal.proofs.Common.{false≢true, bytes_eq-Decides, ◌<|>◌, or_some, when_some, num_when_true, append_assoc, append-nil}
 use Rattle.str0m_signal.proofs.Common.{if◌then◌else◌, reads_none, Reads}
 use Rattle.str0m_signal.proofs.form.FormLaws.{form_behind_both}
-use Rattle.str0m_signal.specs.form.FormTable.{Piece, Form, own, made_as, labelled, word, AnyOfForms, labels_of, first_read, any, words_of}
-use Rattle.str0m_signal.specs.form.FormTable.{any_word, labelled_by, IsUnused, unused_read, first_byte, form_begins_with, beginning}
+use Rattle.str0m_signal.specs.form.FormTable.{Piece, Form, own, made_as, labelled, word, AnyOfForms, labels_of, first_read, any_form}
+use Rattle.str0m_signal.specs.form.FormTable.{word_forms_of}
+use Rattle.str0m_signal.specs.form.FormTable.{any_word_form, labelled_by, IsUnused, unused_read, first_byte, form_begins_with}
+use Rattle.str0m_signal.specs.form.FormTable.{forms_beginning}
 use Rattle.str0m_signal.specs.form.FormTable.{letter_read}
 use Rattle.str0m_signal.specs.form.FormTable.{by_letter}
 
@@ -109,14 +111,14 @@ form_begins_either (a ∷ ls) ms text (inr h) = inr (form_begins_either ls ms te
 
 module _ {A : Type 0} where
   any_sound : (forms : List (Form A)) → AllOfForms Lawful forms → (text : List ℕ) (x : A) → first_read forms text ≡ Some x
-      → (any forms).Is text x
+      → (any_form forms).Is text x
   any_sound [] laws text x e = absurd cc
   any_sound (form ∷ forms) laws text x e = elim (or_some (form.read text) (first_read forms text) x (sym (next_form form forms text) ∙ e)) [
     | inl h ↦ inl (laws.0.reads.sound text x h)
     | inr h ↦ inr (any_sound forms laws.1 text x h.1)
   ]
 
-  form_any_begins : (forms : List (Form A)) → AllOfForms Lawful forms → (text : List ℕ) (x : A) → (any forms).Is text x
+  form_any_begins : (forms : List (Form A)) → AllOfForms Lawful forms → (text : List ℕ) (x : A) → (any_form forms).Is text x
       → HasLabel text (labels_of forms)
   form_any_begins [] laws text x h = absurd h
   form_any_begins (form ∷ forms) laws text x (inl h) = form_begins_either form.labels (labels_of forms) text (inl (laws.0.begins text x h))
@@ -124,7 +126,7 @@ module _ {A : Type 0} where
       (inr (form_any_begins forms laws.1 text x h))
 
   form_any_complete : (forms : List (Form A)) → AllOfForms Lawful forms → forms_apart forms ≡ true → (text : List ℕ) (x : A)
-      → (any forms).Is text x
+      → (any_form forms).Is text x
       → first_read forms text ≡ Some x
   form_any_complete [] laws far text x h = absurd h
   form_any_complete (form ∷ forms) laws far text x (inl h) = next_form form forms text ∙ rw (laws.0.reads.complete text x h) refl
@@ -135,15 +137,15 @@ module _ {A : Type 0} where
       (form_any_begins forms laws.1 text x h)) in
       next_form form forms text ∙ rw none (form_any_complete forms laws.1 parts.1 text x h)
 
-  pub any_lawful : (forms : List (Form A)) → AllOfForms Lawful forms → forms_apart forms ≡ true → Lawful (any forms)
+  pub any_lawful : (forms : List (Form A)) → AllOfForms Lawful forms → forms_apart forms ≡ true → Lawful (any_form forms)
   any_lawful forms laws far = grind (arith, any_sound, form_any_complete, form_any_begins)
 
-  words_lawful_each : (rows : List (List ℕ × A)) → AllOfForms Lawful (words_of rows)
+  words_lawful_each : (rows : List (List ℕ × A)) → AllOfForms Lawful (word_forms_of rows)
   words_lawful_each [] = tt
   words_lawful_each (row ∷ rows) = (word_lawful row.0 row.1, words_lawful_each rows)
 
-  pub words_lawful : (rows : List (List ℕ × A)) → forms_apart (words_of rows) ≡ true → Lawful (any_word rows)
-  words_lawful rows far = any_lawful (words_of rows) (words_lawful_each rows) far
+  pub words_lawful : (rows : List (List ℕ × A)) → forms_apart (word_forms_of rows) ≡ true → Lawful (any_word_form rows)
+  words_lawful rows far = any_lawful (word_forms_of rows) (words_lawful_each rows) far
 
   labelled_each : {B : Type 0} (piece : Piece B) → Readable piece → (rows : List (List ℕ × (B → A)))
       → AllOfForms Lawful (labelled_by piece rows)
@@ -152,7 +154,7 @@ module _ {A : Type 0} where
 
   pub all_labelled_lawful : {B : Type 0} (piece : Piece B) → Readable piece → (rows : List (List ℕ × (B → A)))
       → forms_apart (labelled_by piece rows) ≡ true
-      → Lawful (any (labelled_by piece rows))
+      → Lawful (any_form (labelled_by piece rows))
   all_labelled_lawful piece reads rows far = any_lawful (labelled_by piece rows) (labelled_each piece reads rows) far
 
 -- ---- the look at the first letter
@@ -198,7 +200,7 @@ module _ {A : Type 0} (letters text : List ℕ) where
       let parts = and_parts (list_all (starts_in letters) form.labels) (start_in letters forms) within in
       let more = letter_asked forms laws.1 parts.1 in
       elim (cases_Bool (form_begins_with (first_byte text) form.labels)) [
-        | inl is ↦ rw is (next_form form (beginning (first_byte text) forms) text ∙ rw more (sym (next_form form forms text)))
+        | inl is ↦ rw is (next_form form (forms_beginning (first_byte text) forms) text ∙ rw more (sym (next_form form forms text)))
         | inr not ↦ rw not (more ∙ sym (next_form form forms text ∙ rw (form_not_asked form laws.0 parts.0 (inr not)) refl))
       ]
 
@@ -216,21 +218,21 @@ module _ {A : Type 0} (letters text : List ℕ) where
     | inr other ↦ rw (ne_eqb c l other) (letter_chosen ls forms c (rw (ne_eqb c l other) at e))
   ]
 
-  unknown : (ls : List ℕ) (forms : List (Form A)) (c : ℕ) → form_letter_is_in c ls ≡ false → by_letter ls forms c text ≡ None
-  unknown [] forms c e = refl
-  unknown (l ∷ ls) forms c e = grind (arith, cases_eq, eq-eqb, ne_eqb, unknown ls forms c)
+  form_letter_unknown : (ls : List ℕ) (forms : List (Form A)) (c : ℕ) → form_letter_is_in c ls ≡ false → by_letter ls forms c text ≡ None
+  form_letter_unknown [] forms c e = refl
+  form_letter_unknown (l ∷ ls) forms c e = grind (arith, cases_eq, eq-eqb, ne_eqb, form_letter_unknown ls forms c)
 
   -- the look at the first letter changes nothing
   by_letter_is : (forms : List (Form A)) → AllOfForms Lawful forms → start_in letters forms ≡ true
       → by_letter letters forms (first_byte text) text ≡ first_read forms text
   by_letter_is forms laws within = elim (cases_Bool (form_letter_is_in (first_byte text) letters)) [
     | inl is ↦ letter_chosen letters forms (first_byte text) is ∙ letter_asked forms laws within
-    | inr not ↦ unknown letters forms (first_byte text) not ∙ sym (form_none_asked forms laws within not)
+    | inr not ↦ form_letter_unknown letters forms (first_byte text) not ∙ sym (form_none_asked forms laws within not)
   ]
 
 -- so the table is read, whichever letter is asked
 pub lettered : {A : Type 0} (letters : List ℕ) (forms : List (Form A)) → AllOfForms Lawful forms → forms_apart forms ≡ true
-    → start_in letters forms ≡ true → Reads (any forms).Is (λ text. by_letter letters forms (first_byte text) text)
+    → start_in letters forms ≡ true → Reads (any_form forms).Is (λ text. by_letter letters forms (first_byte text) text)
 lettered letters forms laws far within = record {
   sound = λ text x e. any_sound forms laws text x (sym (by_letter_is letters text forms laws within) ∙ e);
   complete = λ text x h. by_letter_is letters text forms laws within ∙ form_any_complete forms laws far text x h;

@@ -20,22 +20,23 @@ use Rattle.str0m_signal.proofs.form.FormLaws.{text_both, form_two_both}
 use Rattle.str0m_signal.proofs.form.FormPiecesAgain.{Again, text_again, num_again, two_again, behind_again, parted_again}
 use Rattle.str0m_signal.proofs.form.FormTableAgain.{KeptPiece, PrintsAgain, WholeForm, laws_of, quiet_again, made_again, form_entire}
 use Rattle.str0m_signal.proofs.form.FormTableAgain.{text_kept}
-use Rattle.str0m_signal.proofs.form.FormTableAgain.{number_kept, two_pieces_kept, pair_kept, tailed_piece_kept, labelled_whole, words_whole}
+use Rattle.str0m_signal.proofs.form.FormTableAgain.{number_kept, two_pieces_kept, pair_kept, tailed_piece_kept, labelled_whole}
+use Rattle.str0m_signal.proofs.form.FormTableAgain.{form_words_whole}
 use Rattle.str0m_signal.proofs.form.FormTableAgain.{all_labelled_whole, any_again}
 use Rattle.str0m_signal.proofs.form.FormTableLaws.{Readable, Lawful, AllOfForms, ◌also◌, own_lawful, labelled_lawful, made_lawful}
 use Rattle.str0m_signal.proofs.form.RidAgain.{IsUntypedRid, rid_again, sides_words, sides_form, sides_lack}
 use Rattle.str0m_signal.proofs.form.RidLaws.{rid_fields_both}
 use Rattle.str0m_signal.proofs.form.RtpMapPrinted.{mapping_printed}
 use Rattle.str0m_signal.proofs.form.SimulcastLaws.{simulcast_fields_both}
-use Rattle.str0m_signal.proofs.line.WordsAgain.{kept_again, word_kept_lacks, hash_again, fingerprint_pair, pairs_are_joined}
+use Rattle.str0m_signal.proofs.line.WordsAgain.{kept_again, word_kept_lacks, hash_again, fingerprint_pair, word_pairs_are_joined}
 use Rattle.str0m_signal.proofs.line.WordsCharacterStarts.{StartsWithin, behind_starts, kept_some}
 use Rattle.str0m_signal.proofs.line.WordsLaws.{hex_pairs_both, sources_both}
 use Rattle.str0m_signal.proofs.session.AttributesPrinted.{HoldsNoEnd, no_end, no_ends, line_printed, attribute_printed}
 use Rattle.str0m_signal.specs.back.Writable.{IsPrintedAs}
 use Rattle.str0m_signal.specs.back.WritableAgain.{FitsAgain, NamesNoTypes}
-use Rattle.str0m_signal.specs.form.FormTable.{Form, any, form_led_by, two, parted, a_text, number}
+use Rattle.str0m_signal.specs.form.FormTable.{Form, any_form, form_led_by, two_pieces, parted, a_text, number}
 use Rattle.str0m_signal.specs.form.FormTransport.{candidate, fingerprint, role}
-use Rattle.str0m_signal.specs.form.Forms.{Behind, IsText, Two}
+use Rattle.str0m_signal.specs.form.Forms.{Behind, IsText, TwoParts}
 use Rattle.str0m_signal.specs.form.MediaAttribute.{media_texts, media_pairs, name, mid, ssrc_group, rid, simulcast, other_forms}
 use Rattle.str0m_signal.specs.form.MediaAttribute.{IsMediaLine, MediaForm}
 use Rattle.str0m_signal.specs.form.MediaAttributeReading.{role_read}
@@ -82,13 +83,14 @@ printed_fingerprint text hash quiet starts fits (p, h, e) =
     subst (λ (f : TheFingerprint). fingerprint.Is (hash_line f) f × HoldsNoEnd (hash_line f)) (sym e)
     (subst (λ (t : List ℕ). fingerprint.Is (label.FINGERPRINT.now ++ (p.0 ++ (32 ∷ t))) made
     × HoldsNoEnd (label.FINGERPRINT.now ++ (p.0 ++ (32 ∷ t))))
-    (pairs_are_joined p.1)
+    (word_pairs_are_joined p.1)
     ((p, whole.form text p h, refl), quiet_again whole text p quiet h))
   where
     made : TheFingerprint
     made = record { hash_func = p.0; bytes = p.1 }
 
-    whole : Again (Behind label.FINGERPRINT.now (Two 32 IsText (Parted 58 IsHexPair))) (λ p. label.FINGERPRINT.now ++ fingerprint_pair p)
+    whole : Again (Behind label.FINGERPRINT.now (TwoParts 32 IsText (Parted 58 IsHexPair)))
+        (λ p. label.FINGERPRINT.now ++ fingerprint_pair p)
     whole = behind_again hash_again label.FINGERPRINT.now
 
 -- ---- all forms but mappings and formats
@@ -213,11 +215,11 @@ sources_line semantics ssrcs = label.SSRC_GROUP.now ++ (semantics ++ (32 ∷ joi
 ssrc_group_comes_back : OtherAgain ssrc_group
 ssrc_group_comes_back =
     let whole = behind_again (two_again 32 (lit≤ tt) text_again (parted_again (num_again 4294967295 (lit< tt)) 32)) label.SSRC_GROUP.now in
-    made_again (form_led_by label.SSRC_GROUP.now (two 32 a_text (parted 32 (number 4294967295)))) _ _
+    made_again (form_led_by label.SSRC_GROUP.now (two_pieces 32 a_text (parted 32 (number 4294967295)))) _ _
     (λ text p quiet starts fits h. (whole.form text p h, quiet_again whole text p quiet h)) (λ p h. shows p.0 p.1 h) (λ _. refl)
   where
     shows : (semantics ssrcs : List ℕ)
-        → Behind label.SSRC_GROUP.now (Two 32 IsText (Parted 32 (IsNum 4294967295))) (sources_line semantics ssrcs) (semantics, ssrcs)
+        → Behind label.SSRC_GROUP.now (TwoParts 32 IsText (Parted 32 (IsNum 4294967295))) (sources_line semantics ssrcs) (semantics, ssrcs)
         → media_attribute_text (SsrcGroup semantics ssrcs) ≡ attribute_line (sources_line semantics ssrcs)
     shows semantics [] h = absurd h.2.5
     shows semantics (ssrc ∷ ssrcs) h = refl
@@ -244,10 +246,10 @@ other_laws =
     also labelled_whole _ _ (number_kept 65535 (lit< tt)) (λ _. refl) (λ _. refl)
     also labelled_whole _ _ (number_kept 18446744073709551615 (lit< tt)) (λ _. refl) (λ _. refl)
     also labelled_whole _ _ text_kept (λ _. refl) (λ _. refl)
-    also words_whole media_words refl refl
+    also form_words_whole media_words refl refl
     also tt
 
-pub other_again : OtherAgain (any other_forms)
+pub other_again : OtherAgain (any_form other_forms)
 other_again = any_again other_forms (laws_of OtherForm OtherAgain (λ form law. law.prints) other_forms other_laws)
 
 -- ---- mappings, formats, and all
@@ -268,12 +270,12 @@ mapping_again text pt value h =
     (record { clock = (h.clock_is.2, h.clock_is.1.fits); channels = channels_fit value.channels h.channels h.channels_is }))
 
 -- an fmtp line none of whose values prints anything
-abbrev pub IsHidden : MediaAttribute → Type 0
-IsHidden (Fmtp pt values) = filter is_fmtp_shown values ≡ []
-IsHidden _ = ⊥
+abbrev pub IsHiddenMedia : MediaAttribute → Type 0
+IsHiddenMedia (Fmtp pt values) = filter is_fmtp_shown values ≡ []
+IsHiddenMedia _ = ⊥
 
 abbrev pub ComesBack : MediaAttribute → Type 0
-ComesBack attr = IsPrintedAs IsMediaLine (media_attribute_text attr) (media_shown_only attr) ⊎ IsHidden attr
+ComesBack attr = IsPrintedAs IsMediaLine (media_attribute_text attr) (media_shown_only attr) ⊎ IsHiddenMedia attr
 
 -- an attribute that a line was read as prints nothing, or a line that is read as what it shows
 pub media_again : (text : List ℕ) (attr : MediaAttribute) → HoldsNoEnd text → StartsWithin 3 text → MediaForm text attr → FitsAgain attr

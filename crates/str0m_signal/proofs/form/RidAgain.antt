@@ -7,8 +7,8 @@ use Rattle.str0m_signal.proofs.form.FmtpPrinted.{fmtp_behind_lacks}
 use Rattle.str0m_signal.proofs.form.FormPiecesAgain.{Again, num_again, two_again, behind_again, parted_again}
 use Rattle.str0m_signal.proofs.line.PartLaws.{cons_parts}
 use Rattle.str0m_signal.specs.back.WritableAgain.{NamesNoTypes}
-use Rattle.str0m_signal.specs.form.Fmtp.{IsKey}
-use Rattle.str0m_signal.specs.form.Forms.{Two}
+use Rattle.str0m_signal.specs.form.Fmtp.{IsFmtpKey}
+use Rattle.str0m_signal.specs.form.Forms.{TwoParts}
 use Rattle.str0m_signal.specs.form.Rid.{IsActive, IsRestriction, AreRestrictions, AreTyped, AreRidLists, IsRidMore, IsDirected}
 use Rattle.str0m_signal.specs.form.Simulcast.{IsAlternative, IsLayer, IsSide, AreBothSides, AreSides}
 
@@ -57,14 +57,14 @@ rid_join_first pair pairs = go (join_rest pairs)
         → (more : List ℕ) × (restrictions_text (pair ∷ pairs) ≡ pair.0 ++ (codes "=" ++ more))
     go h = (pair.1 ++ h.0, h.1 ∙ simp (append_assoc))
 
-first_key : (text : List ℕ) (pair : List ℕ × List ℕ) (pairs : List (List ℕ × List ℕ)) → Parted 59 IsRestriction text (pair ∷ pairs)
-    → IsKey pair.0
-first_key text pair pairs h = grind arith
+rid_first_key : (text : List ℕ) (pair : List ℕ × List ℕ) (pairs : List (List ℕ × List ℕ)) → Parted 59 IsRestriction text (pair ∷ pairs)
+    → IsFmtpKey pair.0
+rid_first_key text pair pairs h = grind arith
 
 no_label : (text : List ℕ) (pairs : List (List ℕ × List ℕ)) → AreRestrictions text pairs → NamesNoTypes pairs
     → (rest : List ℕ) → restrictions_text pairs ≢ codes "pt=" ++ rest
 no_label text [] h named rest e = absurd cc
-no_label text (pair ∷ pairs) h named rest e = grind (arith, rid_join_first pair pairs, first_key text pair pairs h, key_is_pt pair.0)
+no_label text (pair ∷ pairs) h named rest e = grind (arith, rid_join_first pair pairs, rid_first_key text pair pairs h, key_is_pt pair.0)
 
 -- ---- rids
 
@@ -158,7 +158,7 @@ active_again : Again IsActive (λ id. id.0)
 active_again = grind arith
 
 abbrev pub IsUntypedRid : List ℕ → RestrictionId × (List ℕ × (List ℕ × List (List ℕ × List ℕ))) → Type 0
-IsUntypedRid = Two 32 IsActive IsUntypedDirected
+IsUntypedRid = TwoParts 32 IsActive IsUntypedDirected
 
 pub rid_again : Again IsUntypedRid (λ rid. rid.0.0 ++ (32 ∷ (rid.1.0 ++ more_text rid.1.1)))
 rid_again = two_again 32 (lit≤ tt) active_again directed_again
@@ -178,15 +178,15 @@ both_again first second = behind_again (two_again 32 (lit≤ tt) side_again (beh
 -- ---- sides
 
 -- no name of a layer holds a space
-name_lacks : (text : List ℕ) (id : RestrictionId) (others : List RestrictionId) → Parted 44 IsAlternative text (id ∷ others)
+rid_stream_name_lacks : (text : List ℕ) (id : RestrictionId) (others : List RestrictionId) → Parted 44 IsAlternative text (id ∷ others)
     → Lacks 32 (id_text id)
-name_lacks text id others h = grind arith
+rid_stream_name_lacks text id others h = grind arith
 
 side_lacks : (text : List ℕ) (layers : List SimulcastLayer) → IsSide text layers → Lacks 32 (layers_text layers)
 side_lacks text [] h = absurd h
-side_lacks text (layer ∷ []) h = grind (arith, append-nil, name_lacks)
+side_lacks text (layer ∷ []) h = grind (arith, append-nil, rid_stream_name_lacks)
 side_lacks text (layer ∷ (next ∷ layers)) h =
-    address_lacks_both 32 (layer_text layer) (59 ∷ layers_text (next ∷ layers)) (name_lacks h.0 layer.restriction_id h.3.0 h.3.1)
+    address_lacks_both 32 (layer_text layer) (59 ∷ layers_text (next ∷ layers)) (rid_stream_name_lacks h.0 layer.restriction_id h.3.0 h.3.1)
     ((λ e. absurd (omega (arith, e))), side_lacks h.1 (next ∷ layers) h.4)
 
 -- what stands after the label

@@ -3,14 +3,14 @@ use Rattle.str0m_signal.proofs.Common.{◌≡◌, ℕ, suc, ◌<◌, List, [], �
 use Rattle.str0m_signal.proofs.Common.{inl, inr, length-append, codes, some_pair_parts, none-some, append-nil, ◌>>=◌, cut, strip, Parted}
 use Rattle.str0m_signal.proofs.Common.{Lacks, IsPt, bind_some, some_is, cut_none, cut_at, cut_found, strip_at, strip_found, when_some}
 use Rattle.str0m_signal.proofs.Common.{number_lacks, num_rest_true, num_both, Reads, append_assoc, strip_none, Pairs}
-use Rattle.str0m_signal.proofs.form.FmtpLaws.{value_found, key_found, key_given, fmtp_skips_blanks, starts_kept, key_starts}
+use Rattle.str0m_signal.proofs.form.FmtpLaws.{fmtp_value_found, fmtp_key_found, fmtp_key_given, fmtp_skips_blanks, starts_kept, key_starts}
 use Rattle.str0m_signal.proofs.form.FormLaws.{form_two_both}
-use Rattle.str0m_signal.proofs.form.SimulcastLaws.{name_from, name_true, parted_lacks}
-use Rattle.str0m_signal.proofs.line.PairLaws.{EndsValue, value_given, IsBlank-skip}
+use Rattle.str0m_signal.proofs.form.SimulcastLaws.{simulcast_stream_name_from, simulcast_stream_name_true, parted_lacks}
+use Rattle.str0m_signal.proofs.line.PairLaws.{EndsValue, pair_value_given, IsBlank-skip}
 use Rattle.str0m_signal.proofs.line.PairsOneByOne.{all_pairs_found, all_pairs_given}
 use Rattle.str0m_signal.proofs.line.PartLaws.{parted_both}
-use Rattle.str0m_signal.specs.form.Fmtp.{AreBlanks, IsKey, IsValue, ArePairsOneByOne}
-use Rattle.str0m_signal.specs.form.FmtpReading.{fmtp_value_read, skip_blanks, fmtp_key_read, pairs_at}
+use Rattle.str0m_signal.specs.form.Fmtp.{AreBlanks, IsFmtpKey, IsFmtpValue, ArePairsOneByOne}
+use Rattle.str0m_signal.specs.form.FmtpReading.{fmtp_value_read, skip_blanks, fmtp_key_read, fmtp_pairs_at}
 use Rattle.str0m_signal.specs.form.Rid.{IsActive, IsRestriction, AreRestrictions, AreTyped, AreRidLists, IsRidMore, IsDirection, IsDirected}
 use Rattle.str0m_signal.specs.form.Rid.{IsRid}
 use Rattle.str0m_signal.specs.form.RidReading.{active_read, next_read, restriction_read, restrictions_read, restricted_read, pts_read}
@@ -47,10 +47,10 @@ tail_ends next = grind arith
 regroup_pair : (blanks key value tail : List ℕ) → (blanks ++ (key ++ (61 ∷ value))) ++ tail ≡ blanks ++ (key ++ (61 ∷ (value ++ tail)))
 regroup_pair blanks key value tail = grind (arith, append_assoc)
 
-stands : (text blanks : List ℕ) (pair : List ℕ × List ℕ) (next : Option (List ℕ))
-    → text ≡ (blanks ++ (pair.0 ++ (61 ∷ pair.1))) ++ rid_tail_of next → AreBlanks blanks → IsKey pair.0 → IsValue pair.1
+rid_pair_stands : (text blanks : List ℕ) (pair : List ℕ × List ℕ) (next : Option (List ℕ))
+    → text ≡ (blanks ++ (pair.0 ++ (61 ∷ pair.1))) ++ rid_tail_of next → AreBlanks blanks → IsFmtpKey pair.0 → IsFmtpValue pair.1
     → RidPairStands text pair next
-stands text blanks pair next e are key value = grind (arith, append-nil)
+rid_pair_stands text blanks pair next e are key value = grind (arith, append-nil)
 
 pub restriction_found : (text : List ℕ) (pair : List ℕ × List ℕ) (next : Option (List ℕ)) → restriction_read text ≡ Some (pair, next)
     → RidPairStands text pair next
@@ -63,19 +63,19 @@ restriction_found text pair next e =
     let n = bind_some (next_read v.0.1) (λ next. Some ((k.0, v.0.0), next)) (pair, next) v.2 in
     let s = fmtp_skips_blanks text in
     let fields = cut_found 61 (skip_blanks text) a.0.0 a.0.1 a.1 in
-    let key = key_found a.0.0 k.0 fields.1 k.1 in
-    let value = value_found a.0.1 v.0.0 v.0.1 v.1 in
+    let key = fmtp_key_found a.0.0 k.0 fields.1 k.1 in
+    let value = fmtp_value_found a.0.1 v.0.0 v.0.1 v.1 in
     let same = some_pair_parts (k.0, v.0.0) pair n.0 next n.2 in
     let plain : skip_blanks text ≡ k.0 ++ (61 ∷ (v.0.0 ++ rid_tail_of n.0)) =
     fields.0 ∙ ap (λ (t : List ℕ). t ++ (61 ∷ a.0.1)) key.0
     ∙ ap (λ (t : List ℕ). k.0 ++ (61 ∷ t)) (value.0 ∙ ap (λ (t : List ℕ). v.0.0 ++ t) (rid_next_found v.0.1 n.0 n.1)) in
     let whole : text ≡ (s.blanks ++ (k.0 ++ (61 ∷ v.0.0))) ++ rid_tail_of n.0 =
     s.joined ∙ ap (λ (t : List ℕ). s.blanks ++ t) plain ∙ sym (regroup_pair s.blanks k.0 v.0.0 (rid_tail_of n.0)) in
-    let made = stands text s.blanks (k.0, v.0.0) n.0 whole s.are key.1 value.1 in
+    let made = rid_pair_stands text s.blanks (k.0, v.0.0) n.0 whole s.are key.1 value.1 in
     subst (λ (p : List ℕ × List ℕ). RidPairStands text p next) same.0 (subst (RidPairStands text (k.0, v.0.0)) same.1 made)
 
 pair_read_so : (text blanks : List ℕ) (pair : List ℕ × List ℕ) (next : Option (List ℕ))
-    → text ≡ (blanks ++ (pair.0 ++ (61 ∷ pair.1))) ++ rid_tail_of next → AreBlanks blanks → IsKey pair.0 → IsValue pair.1
+    → text ≡ (blanks ++ (pair.0 ++ (61 ∷ pair.1))) ++ rid_tail_of next → AreBlanks blanks → IsFmtpKey pair.0 → IsFmtpValue pair.1
     → restriction_read text ≡ Some (pair, next)
 pair_read_so text blanks pair next e are key value =
     let body = pair.0 ++ (61 ∷ (pair.1 ++ rid_tail_of next)) in
@@ -85,8 +85,8 @@ pair_read_so text blanks pair next e are key value =
     rw (
       plain,
       cut_at 61 pair.0 (pair.1 ++ rid_tail_of next) key.1,
-      key_given pair.0 key,
-      value_given pair.1 (rid_tail_of next) value.0 value.1 value.2 value.3 (tail_ends next),
+      fmtp_key_given pair.0 key,
+      pair_value_given pair.1 (rid_tail_of next) value.0 value.1 value.2 value.3 (tail_ends next),
       rid_next_given next,
     ) refl
 
@@ -123,7 +123,7 @@ restrictions_given text pairs h =
     (parted_stands pairs text h) (omega arith)
 
 none_restrict : restrictions_read [] ≡ None
-unfolding pairs_at
+unfolding fmtp_pairs_at
 none_restrict = refl
 
 restricted_both : Reads AreRestrictions restricted_read
@@ -198,7 +198,7 @@ rid_more_both = record {
 -- ---- the line
 
 active_both : Reads IsActive active_read
-active_both = grind (arith, when_some, name_from, name_true)
+active_both = grind (arith, when_some, simulcast_stream_name_from, simulcast_stream_name_true)
 
 direction_found : (text word behind : List ℕ) → direction_read text ≡ Some (word, behind) → (text ≡ word ++ behind) × IsDirection word
 direction_found text word behind e = grind arith

@@ -9,7 +9,7 @@ use Rattle.str0m_signal.proofs.Common.{media_attribute_text, RtcpFb, channels_te
 use Rattle.str0m_signal.proofs.session.AttributesPrinted.{HoldsNoEnd, no_ends, no_end, num_is, decimal_lacks, decimal_no_end}
 use Rattle.str0m_signal.proofs.session.AttributesPrinted.{attribute_printed}
 use Rattle.str0m_signal.specs.back.Writable.{IsPrintedAs}
-use Rattle.str0m_signal.specs.form.Forms.{Behind, IsText, Two}
+use Rattle.str0m_signal.specs.form.Forms.{Behind, IsText, TwoParts}
 use Rattle.str0m_signal.specs.form.MediaAttribute.{IsMediaLine}
 use Rattle.str0m_signal.specs.form.RtpMap.{IsChannels, IsRtpMap}
 
@@ -100,7 +100,7 @@ feedback_printed pt value small filled quiet =
     (no_ends (decimal pt) _ (decimal_no_end pt (omega arith)) (no_ends (codes " ") value (no_end (codes " ") refl refl) quiet)))
     (inr (inr (inl ((pt, value), is, refl))))
   where
-    is : Behind label.RTCP_FB.now (Two 32 IsPt IsText) (label.RTCP_FB.now ++ (decimal pt ++ (codes " " ++ value))) (pt, value)
+    is : Behind label.RTCP_FB.now (TwoParts 32 IsPt IsText) (label.RTCP_FB.now ++ (decimal pt ++ (codes " " ++ value))) (pt, value)
     is = (
       decimal pt ++ (codes " " ++ value),
       refl,

@@ -6,7 +6,7 @@ use Rattle.str0m_signal.proofs.Common.{SessionAttribute, reads_first, Reads, ses
 use Rattle.str0m_signal.proofs.form.FormPiecesAgain.{behind_again}
 use Rattle.str0m_signal.proofs.form.FormTableAgain.{KeptPiece, PrintsAgain, WholeForm, laws_of, quiet_again, made_again, form_entire}
 use Rattle.str0m_signal.proofs.form.FormTableAgain.{text_kept}
-use Rattle.str0m_signal.proofs.form.FormTableAgain.{labelled_whole, words_whole, all_labelled_whole, any_again}
+use Rattle.str0m_signal.proofs.form.FormTableAgain.{labelled_whole, form_words_whole, all_labelled_whole, any_again}
 use Rattle.str0m_signal.proofs.form.FormTableLaws.{Lawful, AllOfForms, ◌also◌, any_lawful, labelled_lawful, made_lawful, unused_reads}
 use Rattle.str0m_signal.proofs.form.MediaAttributeAgain.{role_kept, candidate_lawful, fingerprint_lawful, candidate_back}
 use Rattle.str0m_signal.proofs.form.MediaAttributeAgain.{printed_fingerprint}
@@ -46,7 +46,7 @@ meaning_kept = record { reads = msid_semantic_both; again = meaning_again }
 
 session_laws : AllOfForms KeptForm session_forms
 session_laws =
-    words_whole session_words refl refl
+    form_words_whole session_words refl refl
     also labelled_whole _ Setup role_kept (λ _. refl) (λ _. refl)
     also form_entire (labelled_lawful _ _ group_both) group_comes_back
     also labelled_whole _ _ meaning_kept (λ _. refl) (λ _. refl)

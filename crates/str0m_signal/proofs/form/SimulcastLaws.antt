@@ -2,13 +2,13 @@
 use Rattle.str0m_sdp.specs.declared.attribute.simulcast.Simulcast.{Simulcast}
 use Rattle.str0m_signal.proofs.Common.{rules, ◌≡◌, ◌≢◌, ℕ, Bool, true, List, [], ◌∷◌, ◌++◌, Option, Some, None, refl, sym, ap, subst, ◌∙◌}
 use Rattle.str0m_signal.proofs.Common.{arith, inl, inr, codes, is_some, ltb-true, and_parts, and_from, RestrictionId, SimulcastLayer}
-use Rattle.str0m_signal.proofs.Common.{name_text, ◌>>=◌, cut, strip, when, lacks, Parted, Lacks, IsRest, Sound, bind_some, some_is}
+use Rattle.str0m_signal.proofs.Common.{layer_name_text, ◌>>=◌, cut, strip, when, lacks, Parted, Lacks, IsRest, Sound, bind_some, some_is}
 use Rattle.str0m_signal.proofs.Common.{sound_or, cut_none, cut_at, cut_found, strip_found, lacks_true, lacks_from, when_some, num_when_true}
 use Rattle.str0m_signal.proofs.Common.{num_rest_true, Reads, chars}
 use Rattle.str0m_signal.proofs.form.FormLaws.{form_behind_both}
 use Rattle.str0m_signal.proofs.line.PartLaws.{parted_both}
 use Rattle.str0m_signal.specs.form.FormReading.{behind, parted_read}
-use Rattle.str0m_signal.specs.form.Forms.{Behind, Two}
+use Rattle.str0m_signal.specs.form.Forms.{Behind, TwoParts}
 use Rattle.str0m_signal.specs.form.RidStreamName.{is_name_character, IsStreamName, is_stream_name}
 use Rattle.str0m_signal.specs.form.Simulcast.{IsAlternative, IsLayer, IsSide, AreSides, IsSimulcast}
 use Rattle.str0m_signal.specs.form.SimulcastReading.{alternative_after, alternative_read, first_layer_name_after, layer_read, side_read}
@@ -17,25 +17,29 @@ use Rattle.str0m_signal.specs.form.SimulcastReading.{sides_read, layers_of, simu
 
 -- ---- names
 
-pub name_from : (text : List ℕ) → is_stream_name text ≡ true → IsStreamName text
-name_from text e = grind (arith, and_parts, is_name_character, chars, ltb-true, lacks_from)
+pub simulcast_stream_name_from : (text : List ℕ) → is_stream_name text ≡ true → IsStreamName text
+simulcast_stream_name_from text e = grind (arith, and_parts, is_name_character, chars, ltb-true, lacks_from)
 
-pub name_true : (text : List ℕ) → IsStreamName text → is_stream_name text ≡ true
-name_true text h = grind (arith, and_from, num_rest_true, is_name_character, chars, lacks_true)
+pub simulcast_stream_name_true : (text : List ℕ) → IsStreamName text → is_stream_name text ≡ true
+simulcast_stream_name_true text h = grind (arith, and_from, num_rest_true, is_name_character, chars, lacks_true)
 
 -- ---- alternatives
 
 alternative_found : (text : List ℕ) (id : RestrictionId) (o : Option (List ℕ)) → strip (codes "~") text ≡ o
     → alternative_after text o ≡ Some id → IsAlternative text id
-alternative_found text id None is e = grind (arith, when_some (is_stream_name text) (record { 0 = text; 1 = true }) id e, name_from text)
-alternative_found text id (Some name) is e = grind (arith, when_some, strip_found, name_from)
+alternative_found text id None is e = grind (
+  arith,
+  when_some (is_stream_name text) (record { 0 = text; 1 = true }) id e,
+  simulcast_stream_name_from text,
+)
+alternative_found text id (Some name) is e = grind (arith, when_some, strip_found, simulcast_stream_name_from)
 
 no_tilde : (text : List ℕ) → IsRest text → Lacks 126 text → strip (codes "~") text ≡ None
 no_tilde text filled h = grind arith
 
-alternative_given : (text name : List ℕ) (active : Bool) → text ≡ name_text name active → IsStreamName name
+alternative_given : (text name : List ℕ) (active : Bool) → text ≡ layer_name_text name active → IsStreamName name
     → alternative_read text ≡ Some (record { 0 = name; 1 = active })
-alternative_given text name active is h = grind (arith, no_tilde, name_true)
+alternative_given text name active is h = grind (arith, no_tilde, simulcast_stream_name_true)
 
 alternative_both : Reads IsAlternative alternative_read
 alternative_both = record {
@@ -44,7 +48,7 @@ alternative_both = record {
 }
 
 alternative_lacks : (c : ℕ) → 126 ≢ c → ((name : List ℕ) → IsStreamName name → Lacks c name) → (text name : List ℕ) (active : Bool)
-    → text ≡ name_text name active → IsStreamName name → Lacks c text
+    → text ≡ layer_name_text name active → IsStreamName name → Lacks c text
 alternative_lacks c other lacks text name o is h = grind arith
 
 alternative_comma : (text : List ℕ) (id : RestrictionId) → IsAlternative text id → Lacks 44 text
@@ -141,7 +145,7 @@ side_space text layers h = parted_lacks {F = IsLayer} 32 59 (λ e. absurd (omega
 -- one side after its word, or the other one after it
 abbrev AreSidesOrdered : List ℕ → List ℕ → List SimulcastLayer → List SimulcastLayer → Type 0
 AreSidesOrdered other text first [] = IsSide text first
-AreSidesOrdered other text first (x ∷ second) = Two 32 IsSide (Behind other IsSide) text (first, x ∷ second)
+AreSidesOrdered other text first (x ∷ second) = TwoParts 32 IsSide (Behind other IsSide) text (first, x ∷ second)
 
 sides_found : (other text : List ℕ) (sides : List SimulcastLayer × List SimulcastLayer) (o : Option (List ℕ × List ℕ)) → cut 32 text ≡ o
     → sides_after other text o ≡ Some sides → AreSidesOrdered other text sides.0 sides.1
@@ -153,7 +157,7 @@ sides_found other text sides (Some p) is e =
     let second = (form_behind_both other side_both).sound p.1 b.0 b.1 in
     rw (← some_is (a.0, b.0) sides b.2) (both a.0 b.0 (p.0, p.1, found.0, found.1, side_both.sound p.0 a.0 a.1, second))
   where
-    both : (first second : List SimulcastLayer) → Two 32 IsSide (Behind other IsSide) text (first, second)
+    both : (first second : List SimulcastLayer) → TwoParts 32 IsSide (Behind other IsSide) text (first, second)
         → AreSidesOrdered other text first second
     both first [] h = absurd h.5.2
     both first (x ∷ xs) h = h

@@ -7,7 +7,7 @@ use Rattle.str0m_signal.proofs.line.PartLaws.{parted_both}
 use Rattle.str0m_signal.specs.form.Fmtp.{IsListForm, IsRangeForm, IsAnything}
 use Rattle.str0m_signal.specs.form.FmtpReading.{first_number_read, range_read, list_form_read, range_form_read, bare_read}
 use Rattle.str0m_signal.specs.form.FormReading.{behind, digits_read, two_read, parted_read}
-use Rattle.str0m_signal.specs.form.Forms.{Two}
+use Rattle.str0m_signal.specs.form.Forms.{TwoParts}
 
 -- ---- lists
 
@@ -34,7 +34,7 @@ bare_first_both = record {
       ) refl;
 }
   where
-    listed : (text : List ℕ) (first : ℕ) (others : List ℕ) → Two 47 (IsNum 255) (Parted 47 (IsNum 255)) text (first, others)
+    listed : (text : List ℕ) (first : ℕ) (others : List ℕ) → TwoParts 47 (IsNum 255) (Parted 47 (IsNum 255)) text (first, others)
         → IsFirstNumber text first
     listed text first [] h = absurd h.5
     listed text first (x ∷ xs) h = (x, xs, (h.0, h.1, h.2, h.4, h.5))

@@ -13,7 +13,7 @@ use Rattle.str0m_signal.proofs.session.SectionLines.{head_line_read}
 use Rattle.str0m_signal.specs.back.Writable.{IsPrintedAs, HasTypes}
 use Rattle.str0m_signal.specs.back.WritableAgain.{FitsKind}
 use Rattle.str0m_signal.specs.line.Lines.{Chain, TakenLine, Line, lines_joined, AreLines, OneLine}
-use Rattle.str0m_signal.specs.session.Section.{Head, IsKind, IsHead, IsBandwidth, NoTypes}
+use Rattle.str0m_signal.specs.session.Section.{Head, IsMediaKindText, IsHead, IsBandwidth, NoTypes}
 
 -- ---- lines
 
@@ -86,7 +86,7 @@ formats_again typ.Audio proto pts types fits are quiet = grind (arith, types_aga
 formats_again typ.Video proto pts types fits are quiet = grind (arith, types_again)
 formats_again (typ.Unknown name) proto pts types fits are quiet = grind (arith, types_again)
 
-kind_again : (kind : List ℕ) (t : MediaType) → IsKind kind t → kind ≡ media_type_text t
+kind_again : (kind : List ℕ) (t : MediaType) → IsMediaKindText kind t → kind ≡ media_type_text t
 kind_again kind t h = grind arith
 
 abbrev pub head_of : MediaLine → Head
@@ -108,7 +108,7 @@ head_again m fits (content, quiet, starts, h) =
     let formats = formats_again m.typ m.proto m.pts h.types fits h.types_are (lf.1, cr.1) in (
       formats.types,
       head_line_read m (formats_text m.typ m.pts) formats.types
-          (subst (λ (t : List ℕ). IsWord t × IsKind t m.typ × HoldsNoEnd t) kind (h.kind_is.0, h.kind_is.1, (lf.0, cr.0)))
+          (subst (λ (t : List ℕ). IsWord t × IsMediaKindText t m.typ × HoldsNoEnd t) kind (h.kind_is.0, h.kind_is.1, (lf.0, cr.0)))
           refl formats.quiet formats.are,
       formats.fit,
     )

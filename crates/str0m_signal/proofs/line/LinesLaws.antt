@@ -147,5 +147,5 @@ pub line_given : {A : Type 0} {F : List ℕ → A → Type 0} {f : List ℕ → 
     → (lines : List Line) (x : A) (behind : List Line) → OneLine F lines x behind → line_read f lines ≡ Some (x, behind)
 line_given {A} {F} {f} reads lines x behind h = grind (arith, lacks_true)
 
-pub pair_is : {A B : Type 0} (x y : A × B) → x.0 ≡ y.0 → x.1 ≡ y.1 → x ≡ y
-pair_is {A} {B} x y e f = grind arith
+pub line_pair_is : {A B : Type 0} (x y : A × B) → x.0 ≡ y.0 → x.1 ≡ y.1 → x ≡ y
+line_pair_is {A} {B} x y e f = grind arith

@@ -49,8 +49,8 @@ pub lines_stop : {A : Type 0} (F : List ℕ → A → Type 0) (c : ℕ)
     → StopsLines (OneLine F) lines
 lines_stop F c begins o h a after one = grind arith
 
-pub no_field : (c : ℕ) (lines : List Line) → LinesApart c lines → StopsLines (OneLine (IsField (c ∷ 61 ∷ []))) lines
-no_field c = lines_stop (IsField (c ∷ 61 ∷ [])) c (λ content a h. (61 ∷ a, h.0))
+pub no_field_line : (c : ℕ) (lines : List Line) → LinesApart c lines → StopsLines (OneLine (IsField (c ∷ 61 ∷ []))) lines
+no_field_line c = lines_stop (IsField (c ∷ 61 ∷ [])) c (λ content a h. (61 ∷ a, h.0))
 
 pub no_bandwidth : (lines : List Line) → LinesApart 98 lines → StopsLines (OneLine IsBandwidth) lines
 no_bandwidth = lines_stop IsBandwidth 98 (λ content a h. (61 ∷ (a.typ ++ (codes ":" ++ a.val)), h.0))
@@ -69,18 +69,18 @@ pub record SaidLines {X A : Type 0} (text : X → List ℕ) (F : List ℕ → A 
   pub chain : (rest : List Line) → Chain (OneLine (IsAttributeLine F)) (lines ++ rest) reads rest
   pub letter : (c : ℕ) → c ≢ 97 → LinesApart c lines
 
-pub said : {X A : Type 0} (text : X → List ℕ) (F : List ℕ → A → Type 0) (xs : List X) (reads : List A)
+pub lines_said : {X A : Type 0} (text : X → List ℕ) (F : List ℕ → A → Type 0) (xs : List X) (reads : List A)
     → LinesReadAs text (IsAttributeLine F) xs reads → SaidLines text F xs reads
-said text F [] reads h = record {
+lines_said text F [] reads h = record {
   lines = [];
   printed = tt;
   are = refl;
   chain = λ rest. subst (λ rs. Chain (OneLine (IsAttributeLine F)) rest rs rest) (sym h) refl;
   letter = λ c other. tt;
 }
-said text F (x ∷ xs) reads (inl nothing) = grind (arith, said text F xs reads nothing.1)
-said text F (x ∷ xs) reads (inr (a, reads', e, (content, whole, no_lf, no_cr, form), later)) =
-    let more = said text F xs reads' later in
+lines_said text F (x ∷ xs) reads (inl nothing) = grind (arith, lines_said text F xs reads nothing.1)
+lines_said text F (x ∷ xs) reads (inr (a, reads', e, (content, whole, no_lf, no_cr, form), later)) =
+    let more = lines_said text F xs reads' later in
     record {
       lines = printed_line content ∷ more.lines;
       printed = (refl, no_lf, no_cr, more.printed);

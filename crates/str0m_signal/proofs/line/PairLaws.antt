@@ -11,8 +11,8 @@ blank_in [] = refl
 blank_in (x ∷ xs) = grind (arith, blank_in xs)
 
 -- a key is what has none and isn't empty
-pub key_is : (text : List ℕ) → fmtp_key_read text ≡ (if list_any is_blank text then None else when (is_rest text) text)
-key_is text = grind (arith, blank_in)
+pub pair_key_is : (text : List ℕ) → fmtp_key_read text ≡ (if list_any is_blank text then None else when (is_rest text) text)
+pair_key_is text = grind (arith, blank_in)
 
 -- a value ends at the end of the text, at `;`, at a space or at a tab
 abbrev pub EndsValue : List ℕ → Type 0
@@ -23,9 +23,10 @@ pair_value_stop_nothing : (rest : List ℕ) → EndsValue rest → before 9 (bef
 pair_value_stop_nothing rest h = grind arith
 
 -- a value that ends there is read
-pub value_given : (value rest : List ℕ) → IsRest value → Lacks 59 value → Lacks 32 value → Lacks 9 value → EndsValue rest
+pub pair_value_given : (value rest : List ℕ) → IsRest value → Lacks 59 value → Lacks 32 value → Lacks 9 value → EndsValue rest
     → fmtp_value_read (value ++ rest) ≡ Some (value, rest)
-value_given value rest filled semicolon space tab ends = grind (arith, before_front, pair_value_stop_nothing, append-nil, lt-ltb, strip_at)
+pair_value_given value rest filled semicolon space tab ends = grind
+    (arith, before_front, pair_value_stop_nothing, append-nil, lt-ltb, strip_at)
 
 pub IsBlank-skip : (blanks text : List ℕ) → AllByRecursion (λ b. (b ≡ 32) ⊎ (b ≡ 9)) blanks
     → skip_blanks (blanks ++ text) ≡ skip_blanks text
@@ -54,12 +55,12 @@ pair_value_lacks_to c ends (suc n) (x ∷ xs) h = (
 pair_value_filled_to : (n : ℕ) (text : List ℕ) → 0 < n → n ≤ length text → IsRest (take n text)
 pair_value_filled_to n text some le = grind arith
 
-pub value_to : (text : List ℕ) (n : ℕ) → IsValueEnd text n → 0 < n → Some (take n text, drop n text) ≡ fmtp_value_read text
-value_to text n h some =
+pub pair_value_to : (text : List ℕ) (n : ℕ) → IsValueEnd text n → 0 < n → Some (take n text, drop n text) ≡ fmtp_value_read text
+pair_value_to text n h some =
     grind (
       arith,
       take-append-drop n text,
-      value_given (take n text) (drop n text),
+      pair_value_given (take n text) (drop n text),
       pair_value_filled_to n text some h.0,
       pair_value_lacks_to 9,
       pair_value_lacks_to 59,

@@ -2,11 +2,11 @@
 use Rattle.str0m_signal.proofs.Common.{◌≡◌, ℕ, zero, suc, ◌<◌, List, [], ◌∷◌, length, Option, Some, None, refl, subst, arith, ◌>>=◌}
 use Rattle.str0m_signal.proofs.Common.{bind_some, some_is, Pairs}
 use Rattle.str0m_signal.specs.form.Fmtp.{ArePairsOneByOne}
-use Rattle.str0m_signal.specs.form.FmtpReading.{pairs_after, pairs_at}
+use Rattle.str0m_signal.specs.form.FmtpReading.{fmtp_pairs_after, fmtp_pairs_at}
 
 -- what is read of the rest of a text is in Q
 abbrev pub LeftPairs : (List ℕ → Option ((List ℕ × List ℕ) × Option (List ℕ))) → (Option Pairs → Type 0) → List ℕ → Type 0
-LeftPairs read Q rest = (k : ℕ) × (length rest < k) × Q (pairs_at read k rest)
+LeftPairs read Q rest = (k : ℕ) × (length rest < k) × Q (fmtp_pairs_at read k rest)
 
 -- so are these, once this was read of it
 abbrev pub NextPair : (List ℕ → Option ((List ℕ × List ℕ) × Option (List ℕ))) → (Option Pairs → Type 0)
@@ -19,14 +19,14 @@ module _ (read : List ℕ → Option ((List ℕ × List ℕ) × Option (List ℕ
     (shorter : (text : List ℕ) (pair : List ℕ × List ℕ) (more : List ℕ) → read text ≡ Some (pair, Some more) → length more < length text)
   where
     pair_step : (Q : Option Pairs → Type 0) (rest : List ℕ) (k : ℕ) (o : Option ((List ℕ × List ℕ) × Option (List ℕ)))
-        → read rest ≡ o → length rest < k → Q (pairs_at read k rest) → NextPair read Q o
-    unfolding pairs_at
+        → read rest ≡ o → length rest < k → Q (fmtp_pairs_at read k rest) → NextPair read Q o
+    unfolding fmtp_pairs_at
     pair_step Q rest zero o e lt so_far = absurd (omega arith)
-    pair_step Q rest (suc k) None e lt so_far = let one : pairs_at read (suc k) rest ≡ None = rw e refl in subst Q one so_far
-    pair_step Q rest (suc k) (Some (pair, None)) e lt so_far = let one : pairs_at read (suc k) rest ≡ Some (pair ∷ []) = rw e refl in
+    pair_step Q rest (suc k) None e lt so_far = let one : fmtp_pairs_at read (suc k) rest ≡ None = rw e refl in subst Q one so_far
+    pair_step Q rest (suc k) (Some (pair, None)) e lt so_far = let one : fmtp_pairs_at read (suc k) rest ≡ Some (pair ∷ []) = rw e refl in
         subst Q one so_far
     pair_step Q rest (suc k) (Some (pair, Some more)) e lt so_far =
-        let one : pairs_at read (suc k) rest ≡ (pairs_at read k more >>= λ pairs. Some (pair ∷ pairs)) = rw e refl in
+        let one : fmtp_pairs_at read (suc k) rest ≡ (fmtp_pairs_at read k more >>= λ pairs. Some (pair ∷ pairs)) = rw e refl in
         (k, omega (arith, shorter rest pair more e), subst Q one so_far)
 
     pub next_pair_of : (Q : Option Pairs → Type 0) (rest : List ℕ) (o : Option ((List ℕ × List ℕ) × Option (List ℕ))) → read rest ≡ o
@@ -42,24 +42,26 @@ module _ (read : List ℕ → Option ((List ℕ × List ℕ) × Option (List ℕ
         pair_more text p more [] h k = absurd k
         pair_more text p more (q ∷ qs) h k = (more, h, k)
 
-        pub all_pairs_found : (n : ℕ) (text : List ℕ) (pairs : Pairs) → pairs_at read n text ≡ Some pairs → ArePairsOneByOne F text pairs
-        unfolding pairs_at
+        pub all_pairs_found : (n : ℕ) (text : List ℕ) (pairs : Pairs) → fmtp_pairs_at read n text ≡ Some pairs
+            → ArePairsOneByOne F text pairs
+        unfolding fmtp_pairs_at
         all_pairs_found zero text pairs e = absurd cc
         all_pairs_found (suc n) text pairs e =
-            let a = bind_some (read text) (λ p. pairs_after (pairs_at read n) p.0 p.1) pairs e in
+            let a = bind_some (read text) (λ p. fmtp_pairs_after (fmtp_pairs_at read n) p.0 p.1) pairs e in
             go a.0.0 a.0.1 (sound text a.0.0 a.0.1 a.1) a.2 (all_pairs_found n)
           where
-            go : (p : List ℕ × List ℕ) (next : Option (List ℕ)) → F text p next → pairs_after (pairs_at read n) p next ≡ Some pairs
-                → ((more : List ℕ) (ps : Pairs) → pairs_at read n more ≡ Some ps → ArePairsOneByOne F more ps)
+            go : (p : List ℕ × List ℕ) (next : Option (List ℕ)) → F text p next
+                → fmtp_pairs_after (fmtp_pairs_at read n) p next ≡ Some pairs
+                → ((more : List ℕ) (ps : Pairs) → fmtp_pairs_at read n more ≡ Some ps → ArePairsOneByOne F more ps)
                 → ArePairsOneByOne F text pairs
             go p None h e again = subst (ArePairsOneByOne F text) (some_is (p ∷ []) pairs e) h
             go p (Some more) h e again =
-                let b = bind_some (pairs_at read n more) (λ ps. Some (p ∷ ps)) pairs e in
+                let b = bind_some (fmtp_pairs_at read n more) (λ ps. Some (p ∷ ps)) pairs e in
                 subst (ArePairsOneByOne F text) (some_is (p ∷ b.0) pairs b.2) (pair_more text p more b.0 h (again more b.0 b.1))
 
         pub all_pairs_given : (pairs : Pairs) (n : ℕ) (text : List ℕ) → ArePairsOneByOne F text pairs → length text < n
-            → pairs_at read n text ≡ Some pairs
-        unfolding pairs_at
+            → fmtp_pairs_at read n text ≡ Some pairs
+        unfolding fmtp_pairs_at
         all_pairs_given pairs zero text h lt = absurd (omega arith)
         all_pairs_given [] (suc n) text h lt = absurd h
         all_pairs_given (p ∷ []) (suc n) text h lt = rw (complete text p None h) refl

@@ -4,7 +4,7 @@ use Rattle.str0m_signal.proofs.Common.{IfOk, Bool, refl, sym, ap, subst, ◌∙�
 use Rattle.str0m_signal.proofs.Common.{Lacks, ◌>>=◌, cut, Parted, bind_some, some_is, cut_found, cut_none_lacks, Reads, append_assoc, Vec}
 use Rattle.str0m_signal.proofs.Common.{Global, option_map, slice_split, onto_first}
 use Rattle.str0m_signal.specs.form.FormReading.{all_read, parted_read}
-use Rattle.str0m_signal.specs.line.LinesReading.{Takes}
+use Rattle.str0m_signal.specs.line.LinesReading.{TakesPart}
 
 abbrev pub part_with_front : {A : Type 0} → List A → Option (List A) → Option (List A)
 part_with_front front read = option_map (λ xs. front ++ xs) read
@@ -24,9 +24,9 @@ regroup front x o = grind (arith, append_assoc)
 pub cons_parts : {A : Type 0} (x y : A) (xs ys : List A) → x ∷ xs ≡ y ∷ ys → (x ≡ y) × (xs ≡ ys)
 cons_parts x y xs ys e = (cc, cc)
 
-pub some_bound : {A : Type 0} (o : Option (List A)) (x : A) → is_some (o >>= λ xs. Some (x ∷ xs)) ≡ is_some o
-some_bound None x = refl
-some_bound (Some xs) x = refl
+pub part_some_bound : {A : Type 0} (o : Option (List A)) (x : A) → is_some (o >>= λ xs. Some (x ∷ xs)) ≡ is_some o
+part_some_bound None x = refl
+part_some_bound (Some xs) x = refl
 
 pub cut_shorter : (c : ℕ) (text a b : List ℕ) → cut c text ≡ Some (a, b) → length b < length text
 cut_shorter c text a b e = let found = cut_found c text a b e in omega (arith, ap length found.0, length-append a (c ∷ b))
@@ -38,7 +38,7 @@ PutsPartLast old item new = new.items ≡ old.items ++ item ∷ []
 -- what was read is taken, where memory wasn't refused
 pub takes_read : {A E : Type 0} (answer : Result (Option A) E) (read : Option A) (old new : Vec A Global) (taken : Bool)
     → IfOk answer (λ found. found ≡ read)
-    → (found : Option A) × (answer ≡ Ok found) × Takes PutsPartLast found old new taken → Takes PutsPartLast read old new taken
+    → (found : Option A) × (answer ≡ Ok found) × TakesPart PutsPartLast found old new taken → TakesPart PutsPartLast read old new taken
 takes_read {A} {E} answer read old new taken ensures given = grind arith
 
 module _ {A : Type 0} (c : ℕ) (f : List ℕ → Option A) where

@@ -14,8 +14,8 @@ StartsWithin k (x ∷ xs) = (IsInsideCharacter x × (0 < k) × StartsWithin (k -
 
 -- ---- of UTF-8
 
-inside : (n : ℕ) → IsInsideCharacter (128 + n % 64)
-inside n = (omega arith, omega arith)
+inside_character : (n : ℕ) → IsInsideCharacter (128 + n % 64)
+inside_character n = (omega arith, omega arith)
 
 one_character : (c k : ℕ) (rest : List ℕ) → ((j : ℕ) → StartsWithin j rest) → StartsWithin k (encode_utf8 c ++ rest)
 unfolding encode_utf8
@@ -30,10 +30,11 @@ of_utf8 text h = subst (StartsWithin 3) h.1.1 (all_characters h.0 3)
 
 -- ---- of parts
 
-later : (j k : ℕ) (xs : List ℕ) → j ≤ k → k ≤ 3 → StartsWithin j xs → StartsWithin k xs
-later j k [] le small h = tt
-later j k (x ∷ xs) le small (inl (is, some, more)) = inl (is, omega arith, later (j - 1) (k - 1) xs (omega arith) (omega arith) more)
-later j k (x ∷ xs) le small (inr h) = inr h
+later_character : (j k : ℕ) (xs : List ℕ) → j ≤ k → k ≤ 3 → StartsWithin j xs → StartsWithin k xs
+later_character j k [] le small h = tt
+later_character j k (x ∷ xs) le small (inl (is, some, more)) = inl
+    (is, omega arith, later_character (j - 1) (k - 1) xs (omega arith) (omega arith) more)
+later_character j k (x ∷ xs) le small (inr h) = inr h
 
 pub front_starts : (k : ℕ) (xs ys : List ℕ) → StartsWithin k (xs ++ ys) → StartsWithin k xs
 front_starts k [] ys h = tt
@@ -41,7 +42,7 @@ front_starts k (x ∷ xs) ys (inl (is, some, more)) = inl (is, some, front_start
 front_starts k (x ∷ xs) ys (inr (no', more)) = inr (no', front_starts 3 xs ys more)
 
 pub behind_starts : (k : ℕ) (xs ys : List ℕ) → k ≤ 3 → StartsWithin k (xs ++ ys) → StartsWithin 3 ys
-behind_starts k [] ys small h = later k 3 ys small (lit≤ tt) h
+behind_starts k [] ys small h = later_character k 3 ys small (lit≤ tt) h
 behind_starts k (x ∷ xs) ys small (inl (is, some, more)) = behind_starts (k - 1) xs ys (omega arith) more
 behind_starts k (x ∷ xs) ys small (inr (no', more)) = behind_starts 3 xs ys (lit≤ tt) more
 
@@ -71,5 +72,5 @@ kept_some (x ∷ xs) kept filled starts h =
     ]
   where
     tail : StartsWithin 3 (x ∷ xs) → StartsWithin 3 xs
-    tail (inl (is, some, more)) = later 2 3 xs (lit≤ tt) (lit≤ tt) more
+    tail (inl (is, some, more)) = later_character 2 3 xs (lit≤ tt) (lit≤ tt) more
     tail (inr (no', more)) = more

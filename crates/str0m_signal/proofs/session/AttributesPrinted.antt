@@ -3,7 +3,7 @@ use Rattle.str0m_signal.proofs.Common.{◌≡◌, ◌⊎◌, ◌≤◌, ◌<◌,
 use Rattle.str0m_signal.proofs.Common.{codes, digit_value, decimal, decimal_is_IsNumeral, lacks, Lacks, IsNum, lacks_from, digits_lack}
 use Rattle.str0m_signal.proofs.Common.{attribute_line, MediaAttribute, address_lacks_both, decimal_reads}
 use Rattle.str0m_signal.specs.back.Writable.{IsPrintedAs}
-use Rattle.str0m_signal.specs.form.FormTable.{any}
+use Rattle.str0m_signal.specs.form.FormTable.{any_form}
 use Rattle.str0m_signal.specs.form.MediaAttribute.{media_forms, MediaForm, IsMediaLine}
 use Rattle.str0m_signal.specs.line.Lines.{IsAttributeLine}
 
@@ -59,6 +59,6 @@ line_printed Form text attr quiet form =
     (codes "a=" ++ text, refl, front.0, front.1, (text, refl, form))
 
 -- an attribute with a form of its own, on a line of its own
-pub attribute_printed : (text : List ℕ) (attr : MediaAttribute) → HoldsNoEnd text → (any media_forms).Is text attr
+pub attribute_printed : (text : List ℕ) (attr : MediaAttribute) → HoldsNoEnd text → (any_form media_forms).Is text attr
     → IsPrintedAs IsMediaLine (attribute_line text) attr
 attribute_printed text attr quiet form = line_printed MediaForm text attr quiet (inl form)

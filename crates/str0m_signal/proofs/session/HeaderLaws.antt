@@ -7,10 +7,10 @@ use Rattle.str0m_signal.proofs.Common.{digits_lack}
 use Rattle.str0m_signal.proofs.Common.{num_rest_true, reads_either, Reads}
 use Rattle.str0m_signal.proofs.form.FormLaws.{digits_both}
 use Rattle.str0m_signal.proofs.line.LinesLaws.{line_found, line_given}
-use Rattle.str0m_signal.proofs.session.SectionLaws.{field_both}
+use Rattle.str0m_signal.proofs.session.SectionLaws.{section_field_both}
 use Rattle.str0m_signal.specs.form.FormReading.{digits_read}
 use Rattle.str0m_signal.specs.line.Lines.{Line}
-use Rattle.str0m_signal.specs.session.Header.{IsExactly, IsDigits, IsOrigin, IsOneField, IsInfo, IsHeaderOpening}
+use Rattle.str0m_signal.specs.session.Header.{IsExactly, IsDigits, IsOrigin, IsHeaderField, IsInfo, IsHeaderOpening}
 use Rattle.str0m_signal.specs.session.HeaderReading.{exact_read, origin_read, one_field_read, info_read, opening_read}
 use Rattle.str0m_signal.specs.session.Section.{IsField}
 
@@ -73,21 +73,22 @@ header_one_field_behind : (letter : List ℕ) → length letter ≡ 2 → (conte
 header_one_field_behind letter two content text h = sym (rw (h.0, ← two) (drop-append_seam letter text))
 
 -- what a field of two characters says stands after them
-field_behind : (letters : List (List ℕ)) → AllByRecursion (λ letter. length letter ≡ 2) letters → (content text : List ℕ)
-    → IsOneField letters content text → text ≡ drop 2 content
-field_behind [] two content text h = absurd h
-field_behind (letter ∷ letters) two content text h = elim h
-    [ inl k ↦ header_one_field_behind letter two.0 content text k | inr k ↦ field_behind letters two.1 content text k ]
+header_field_behind : (letters : List (List ℕ)) → AllByRecursion (λ letter. length letter ≡ 2) letters → (content text : List ℕ)
+    → IsHeaderField letters content text → text ≡ drop 2 content
+header_field_behind [] two content text h = absurd h
+header_field_behind (letter ∷ letters) two content text h = elim h
+    [ inl k ↦ header_one_field_behind letter two.0 content text k | inr k ↦ header_field_behind letters two.1 content text k ]
 
-fields_both : (letters : List (List ℕ)) → AllByRecursion (λ letter. length letter ≡ 2) letters
-    → Reads (IsOneField letters) (one_field_read letters)
-fields_both [] two = record { sound = λ content text e. absurd cc; complete = λ content text h. absurd h }
-fields_both (letter ∷ letters) two =
-    reads_either (field_both letter) (fields_both letters two.1)
-    (λ content text other h k. header_one_field_behind letter two.0 content text h ∙ sym (field_behind letters two.1 content other k))
+header_fields_both : (letters : List (List ℕ)) → AllByRecursion (λ letter. length letter ≡ 2) letters
+    → Reads (IsHeaderField letters) (one_field_read letters)
+header_fields_both [] two = record { sound = λ content text e. absurd cc; complete = λ content text h. absurd h }
+header_fields_both (letter ∷ letters) two =
+    reads_either (section_field_both letter) (header_fields_both letters two.1)
+    (λ content text other h k. header_one_field_behind letter two.0 content text h
+    ∙ sym (header_field_behind letters two.1 content other k))
 
 pub info_both : Reads IsInfo info_read
-info_both = search (rules, fields_both)
+info_both = search (rules, header_fields_both)
 
 pub header_opening_found : (lines : List Line) (id : ℕ) (rest : List Line) → opening_read lines ≡ Some (id, rest)
     → IsHeaderOpening lines id rest
@@ -97,10 +98,10 @@ header_opening_found lines id rest e =
       bind_some,
       some_pair_parts,
       line_found,
-      line_found (field_both (codes "s=")),
+      line_found (section_field_both (codes "s=")),
       header_exact_line_both,
       origin_both,
-      field_both (codes "s="),
+      section_field_both (codes "s="),
     )
 
 pub header_opening_given : (lines : List Line) (id : ℕ) (rest : List Line) → IsHeaderOpening lines id rest
@@ -109,5 +110,5 @@ header_opening_given lines id rest h =
     rw (
       line_given (header_exact_line_both (codes "v=0")) lines (codes "v=0") h.after_version h.version_is,
       line_given origin_both h.after_version id h.after_origin h.origin_is,
-      line_given (field_both (codes "s=")) h.after_origin h.name rest h.name_is,
+      line_given (section_field_both (codes "s=")) h.after_origin h.name rest h.name_is,
     ) refl

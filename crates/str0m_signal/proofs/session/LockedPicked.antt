@@ -13,9 +13,9 @@ module _ (pick : PayloadParams → Bool) where
     go false more = more
 
   -- each type stands at most as often
-  fewer : (rows : List PayloadParams) (t : ℕ) → type_times (types (filter pick rows)) t ≤ type_times (types rows) t
-  fewer [] t = omega arith
-  fewer (row ∷ rows) t = go (pick row) (fewer rows t) where
+  picked_fewer : (rows : List PayloadParams) (t : ℕ) → type_times (types (filter pick rows)) t ≤ type_times (types rows) t
+  picked_fewer [] t = omega arith
+  picked_fewer (row ∷ rows) t = go (pick row) (picked_fewer rows t) where
     go : (b : Bool) → type_times (types (filter pick rows)) t ≤ type_times (types rows) t
         → type_times (types (cond b (row ∷ filter pick rows) (filter pick rows))) t ≤ type_times (types (row ∷ rows)) t
     go true more = omega (
@@ -30,7 +30,7 @@ module _ (pick : PayloadParams → Bool) where
   picked_printable rows may some = record {
     some = some;
     plain = All-from_recursion IsPlain (filter pick rows) (picked_hold IsPlain rows (recursion_from_All IsPlain rows may.plain));
-    distinct = λ t. omega (arith, fewer rows t, may.distinct t);
+    distinct = λ t. omega (arith, picked_fewer rows t, may.distinct t);
   }
 
   pub printable_as : (rows picked : List PayloadParams) → MayBePrinted rows → picked ≡ filter pick rows → picked ≢ [] → MayBePrinted picked

@@ -9,14 +9,14 @@ use Rattle.str0m_signal.proofs.Common.{map-append, IsBounded}
 use Rattle.str0m_signal.specs.session.Negotiation.{AreRoundsOf, brought, brought_by}
 use Rattle.str0m_values.specs.declared.direction.Direction.{Direction}
 
-map_found : {Y Z : Type 0} (g : Y → Z) (found : Option Y) → map g (option_to_list found) ≡ option_to_list (option_map g found)
-map_found g found = grind arith
+round_map_found : {Y Z : Type 0} (g : Y → Z) (found : Option Y) → map g (option_to_list found) ≡ option_to_list (option_map g found)
+round_map_found g found = grind arith
 
 -- what is found of one item more is appended
 pub one_round_added : {X Y Z : Type 0} (f : X → Option Z) (g : Y → Z) (xs : List X) (i : ℕ) (x : X) (ys more : List Y) (found : Option Y)
     → i < length xs → x ≡ get_or xs i x → option_map g found ≡ f x → more ≡ ys ++ option_to_list found
     → map g ys ≡ filter_map f (take i xs) → map g more ≡ filter_map f (take (i + 1) xs)
-one_round_added {X} {Y} {Z} f g xs i x ys more found lt is reads appended before = grind (arith, map-append, map_found, map_more)
+one_round_added {X} {Y} {Z} f g xs i x ys more found lt is reads appended before = grind (arith, map-append, round_map_found, map_more)
 
 -- what a call keeps where it succeeds stands where it fails and changes nothing
 pub round_kept_or_same : {A E S : Type 0} (P : S → Type 0) (Q : A → Type 0) (result : Result A E) (old new : S)

@@ -1,6 +1,6 @@
 -- The numbers of what was read keep to their ranges.
 use Rattle.str0m_formats.proofs.{IsKeyed, keyed_or_hidden}
-use Rattle.str0m_formats.specs.format.PairsTriple.{Texts, IsTripleParam}
+use Rattle.str0m_formats.specs.format.PairsTriple.{TripleTexts, IsTripleParam}
 use Rattle.str0m_sdp.proofs.{rows_bounded}
 use Rattle.str0m_signal.proofs.Common.{rules, ◌≡◌, ◌⊎◌, arith, param_text, ℕ, Bool, List, [], ◌∷◌, get_or, Option, Result, Ok, Err, All}
 use Rattle.str0m_signal.proofs.Common.{IfOk, inl, inr, subst, sym, MatchBool, Bor, cons_option, All-nil, FormatParam, KeepsToLine}
@@ -9,7 +9,7 @@ use Rattle.str0m_signal.proofs.Common.{AreJoinedPairs}
 use Rattle.str0m_signal.proofs.Common.{merged, IsRowInBounds, KeepsToLines}
 use Rattle.str0m_signal.proofs.form.MediaAttributeAgain.{media_other_whole, other_again}
 use Rattle.str0m_signal.specs.form.Fmtp.{IsPairsForm, IsListForm, IsRangeForm, IsAnything}
-use Rattle.str0m_signal.specs.form.FormTable.{any}
+use Rattle.str0m_signal.specs.form.FormTable.{any_form}
 use Rattle.str0m_signal.specs.form.MediaAttribute.{media_forms, MediaForm, IsMediaLine}
 use Rattle.str0m_signal.specs.line.Lines.{Chain, Line, OneLine}
 use Rattle.str0m_signal.specs.session.Reader.{ConsistentSection, Reading}
@@ -18,11 +18,11 @@ use Rattle.str0m_signal.specs.session.ReaderAnswers.{Answers, unread}
 -- ---- parameters
 
 -- what has a key of its own keeps to its key's range, and any other parameter prints nothing
-keyed_within : (param : FormatParam) → IsKeyed param ⊎ (param_text param ≡ []) → IsRowInBounds param
-keyed_within param h = grind arith
+reader_keyed_within : (param : FormatParam) → IsKeyed param ⊎ (param_text param ≡ []) → IsRowInBounds param
+reader_keyed_within param h = grind arith
 
 parsed_within : (pair : List ℕ × List ℕ) (param : FormatParam) → IsParsed pair param → IsRowInBounds param
-parsed_within pair param is = keyed_within param (keyed_or_hidden pair param is)
+parsed_within pair param is = reader_keyed_within param (keyed_or_hidden pair param is)
 
 params_within : (pairs : List (List ℕ × List ℕ)) (params : List FormatParam) → AreParsed pairs params → All IsRowInBounds params
 params_within [] [] are = All-nil IsRowInBounds
@@ -30,7 +30,7 @@ params_within [] (param ∷ params) are = absurd are
 params_within (pair ∷ pairs) [] are = absurd are
 params_within (pair ∷ pairs) (param ∷ params) are = grind (arith, parsed_within pair param are.0, params_within pairs params are.1)
 
-triple_within : (texts : Texts) (triple : Option FormatParam) (rest : List FormatParam) → IsTripleParam texts triple
+triple_within : (texts : TripleTexts) (triple : Option FormatParam) (rest : List FormatParam) → IsTripleParam texts triple
     → All IsRowInBounds rest
     → All IsRowInBounds (cons_option triple rest)
 triple_within texts triple rest o all = grind arith
@@ -45,13 +45,13 @@ fmtp_within more values o = grind (arith, read_within)
 
 -- ---- lines
 
-named_keeps : (text : List ℕ) (attr : MediaAttribute) → (any media_forms).Is text attr → KeepsToLine attr
-named_keeps text attr (inl (p, is, e)) = subst KeepsToLine (sym e) is.number_is.fits
-named_keeps text attr (inr (inl (p, is, e))) = subst KeepsToLine (sym e) (is.number_is.fits, fmtp_within is.more p.1 is.values_are)
-named_keeps text attr (inr (inr is)) = (media_other_whole attr (other_again.passes text attr is)).1
+reader_named_keeps : (text : List ℕ) (attr : MediaAttribute) → (any_form media_forms).Is text attr → KeepsToLine attr
+reader_named_keeps text attr (inl (p, is, e)) = subst KeepsToLine (sym e) is.number_is.fits
+reader_named_keeps text attr (inr (inl (p, is, e))) = subst KeepsToLine (sym e) (is.number_is.fits, fmtp_within is.more p.1 is.values_are)
+reader_named_keeps text attr (inr (inr is)) = (media_other_whole attr (other_again.passes text attr is)).1
 
 form_keeps : (text : List ℕ) (attr : MediaAttribute) → MediaForm text attr → KeepsToLine attr
-form_keeps text attr (inl named) = named_keeps text attr named
+form_keeps text attr (inl named) = reader_named_keeps text attr named
 form_keeps text attr (inr unused) = rw unused.1.1 tt
 
 line_keeps : (lines : List Line) (attr : MediaAttribute) (rest : List Line) → OneLine IsMediaLine lines attr rest → KeepsToLine attr

@@ -7,7 +7,7 @@ use Rattle.str0m_signal.proofs.line.LinesAgain.{head_of}
 use Rattle.str0m_signal.proofs.line.LinesChainLaws.{OnlyOneLine, one_line_only, chain_ends, chain_taken_only, chain_one_fewer, chain_fewer}
 use Rattle.str0m_signal.proofs.line.LinesChainLaws.{chain_taken_fewer}
 use Rattle.str0m_signal.proofs.session.HeaderLaws.{header_exact_line_both, info_both, header_opening_given}
-use Rattle.str0m_signal.proofs.session.SectionLaws.{field_both, bandwidth_both, head_both}
+use Rattle.str0m_signal.proofs.session.SectionLaws.{section_field_both, bandwidth_both, head_both}
 use Rattle.str0m_signal.specs.form.MediaAttribute.{IsMediaLine}
 use Rattle.str0m_signal.specs.form.SessionAttribute.{IsSessionLine}
 use Rattle.str0m_signal.specs.line.Lines.{Line, OneLine, Chain, StopsLines, Run, TakenLine}
@@ -50,7 +50,8 @@ header_only lines a b after after' h k =
     k.after_timing
     h.timing_is (subst (λ (ls : List Line). OneLine (IsExactly (codes "t=0 0")) ls (codes "t=0 0") k.after_timing) (sym same.2)
     k.timing_is) in
-    let repeats = chain_ends (OneLine (IsField (codes "r="))) (one_line_only (field_both (codes "r="))) h.after_timing h.repeats k.repeats
+    let repeats = chain_ends (OneLine (IsField (codes "r="))) (one_line_only (section_field_both (codes "r="))) h.after_timing h.repeats
+    k.repeats
     after after' h.repeats_are (subst (λ (ls : List Line). Run (OneLine (IsField (codes "r="))) ls k.repeats after') (sym timing.1)
     k.repeats_are) in
     (ap (λ (i : ℕ). header_of i a.bw) same.0 ∙ ap (λ (w : Option Bandwidth). header_of b.id w) same.1, repeats.1)
@@ -61,7 +62,8 @@ section_from head bw attrs = record { typ = head.typ; disabled = head.disabled; 
 pub section_only : OnlyOneLine IsSection
 section_only lines a b after after' h k =
     let head = one_line_only head_both lines (head_of a) (head_of b) h.after_head k.after_head h.head_is k.head_is in
-    let connection = chain_taken_only (OneLine (IsField (codes "c="))) (one_line_only (field_both (codes "c="))) h.after_head h.connection
+    let connection = chain_taken_only (OneLine (IsField (codes "c="))) (one_line_only (section_field_both (codes "c="))) h.after_head
+    h.connection
     k.connection h.after_connection k.after_connection h.connection_is
     (subst (λ (ls : List Line). TakenLine (OneLine (IsField (codes "c="))) ls k.connection k.after_connection) (sym head.1) k.connection_is)
     in

@@ -8,7 +8,7 @@ use Rattle.str0m_signal.proofs.Common.{AgreesOnApt, is_fmtp_shown, is_of_type, M
 use Rattle.str0m_signal.proofs.Common.{count_by}
 use Rattle.str0m_signal.proofs.Common.{All-filter, filter_passes, IsMapped, NamesNoOther, apt_of, apt_among, apt_in, first_apt, maps}
 use Rattle.str0m_signal.proofs.Common.{is_mid, is_setup, is_direction, RtpMap, sum_by-cons}
-use Rattle.str0m_signal.proofs.form.MediaAttributeAgain.{ComesBack, IsHidden, media_shown_only}
+use Rattle.str0m_signal.proofs.form.MediaAttributeAgain.{ComesBack, IsHiddenMedia, media_shown_only}
 use Rattle.str0m_signal.specs.back.Writable.{MediaAreReadAs, IsFrame, frame_of}
 
 -- ---- attributes
@@ -17,7 +17,7 @@ use Rattle.str0m_signal.specs.back.Writable.{MediaAreReadAs, IsFrame, frame_of}
 abbrev pub AreSectionLinesShownAs : List MediaAttribute → List MediaAttribute → Type 0
 AreSectionLinesShownAs [] reads = reads ≡ []
 AreSectionLinesShownAs (x ∷ xs) reads =
-    (IsHidden x × AreSectionLinesShownAs xs reads) ⊎ ((more : List MediaAttribute) × (reads ≡ media_shown_only x ∷ more)
+    (IsHiddenMedia x × AreSectionLinesShownAs xs reads) ⊎ ((more : List MediaAttribute) × (reads ≡ media_shown_only x ∷ more)
     × AreSectionLinesShownAs xs more)
 
 section_shown_twice : (values : List FormatParam) → filter is_fmtp_shown (filter is_fmtp_shown values) ≡ filter is_fmtp_shown values
@@ -27,7 +27,7 @@ section_shown_twice (v ∷ vs) = grind (arith, cases_Bool, section_shown_twice v
 section_goes_with : (x : MediaAttribute) → Alike x (media_shown_only x)
 section_goes_with x = grind (arith, section_shown_twice)
 
-prints_nothing : (x : MediaAttribute) → IsHidden x → media_attribute_text x ≡ []
+prints_nothing : (x : MediaAttribute) → IsHiddenMedia x → media_attribute_text x ≡ []
 prints_nothing x hidden = grind arith
 
 -- attributes each of which comes back are read as what they show
@@ -63,26 +63,26 @@ count-cons : (p : MediaAttribute → Bool) (x : MediaAttribute) (xs : List Media
 count-cons p x xs = sum_by-cons (λ x. cond (p x) 1 0) x xs
 
 module _ (p : MediaAttribute → Bool) (no_fmtp : (pt : ℕ) (values : List FormatParam) → p (Fmtp pt values) ≡ false) where
-  same_test : (x : MediaAttribute) → p (media_shown_only x) ≡ p x
-  same_test x = grind arith
+  section_same_test : (x : MediaAttribute) → p (media_shown_only x) ≡ p x
+  section_same_test x = grind arith
 
-  hidden_test : (x : MediaAttribute) → IsHidden x → p x ≡ false
-  hidden_test x hidden = grind arith
+  section_hidden_test : (x : MediaAttribute) → IsHiddenMedia x → p x ≡ false
+  section_hidden_test x hidden = grind arith
 
   -- an attribute that isn't an fmtp line is counted alike
   pub count_again : (attrs reads : List MediaAttribute) → AreSectionLinesShownAs attrs reads → count_by p reads ≡ count_by p attrs
   count_again [] reads are = ap (count_by p) are
-  count_again (x ∷ xs) reads (inl are) = grind (arith, count_again xs reads are.1, zero-add, count-cons, hidden_test)
-  count_again (x ∷ xs) reads (inr are) = grind (arith, count-cons, same_test, count_again xs are.0 are.2)
+  count_again (x ∷ xs) reads (inl are) = grind (arith, count_again xs reads are.1, zero-add, count-cons, section_hidden_test)
+  count_again (x ∷ xs) reads (inr are) = grind (arith, count-cons, section_same_test, count_again xs are.0 are.2)
 
 -- ---- the types that fmtp lines name
 
-hidden_names_none : (v : FormatParam) → is_fmtp_shown v ≡ false → apt_of v ≡ None
-hidden_names_none v hidden = grind arith
+section_hidden_names_none : (v : FormatParam) → is_fmtp_shown v ≡ false → apt_of v ≡ None
+section_hidden_names_none v hidden = grind arith
 
 shown_apt : (values : List FormatParam) → apt_among (filter is_fmtp_shown values) ≡ apt_among values
 shown_apt [] = refl
-shown_apt (v ∷ vs) = grind (arith, cases_Bool, shown_apt vs, hidden_names_none)
+shown_apt (v ∷ vs) = grind (arith, cases_Bool, shown_apt vs, section_hidden_names_none)
 
 apt_again : (n : ℕ) (x : MediaAttribute) → apt_in n (media_shown_only x) ≡ apt_in n x
 apt_again n x = grind (arith, shown_apt)
@@ -90,7 +90,7 @@ apt_again n x = grind (arith, shown_apt)
 section_either_none : (b : Bool) (o : Option ℕ) → o ≡ None → cond b o None ≡ None
 section_either_none b o e = grind arith
 
-hidden_apt : (n : ℕ) (x : MediaAttribute) → IsHidden x → apt_in n x ≡ None
+hidden_apt : (n : ℕ) (x : MediaAttribute) → IsHiddenMedia x → apt_in n x ≡ None
 hidden_apt n x hidden = grind (arith, section_either_none, shown_apt)
 
 apt_stays : (n : ℕ) (attrs reads : List MediaAttribute) → AreSectionLinesShownAs attrs reads → first_apt n reads ≡ first_apt n attrs
@@ -99,17 +99,17 @@ apt_stays n (x ∷ xs) reads (inl are) = rw (hidden_apt n x are.0) (apt_stays n 
 apt_stays n (x ∷ xs) reads (inr are) =
     ap (first_apt n) are.1 ∙ (λ i. apt_again n x i <|> apt_stays n xs are.0 are.2 i)
 
-fewer_values : (o : Option ℕ) (values : List FormatParam) → IfSome o (λ first. All (NamesNoOther first) values)
+section_fewer_values : (o : Option ℕ) (values : List FormatParam) → IfSome o (λ first. All (NamesNoOther first) values)
     → IfSome o (λ first. All (NamesNoOther first) (filter is_fmtp_shown values))
-fewer_values None values h = tt
-fewer_values (Some first) values h = All-filter is_fmtp_shown (NamesNoOther first) values h
+section_fewer_values None values h = tt
+section_fewer_values (Some first) values h = All-filter is_fmtp_shown (NamesNoOther first) values h
 
 agrees_again : (attrs reads : List MediaAttribute) → AreSectionLinesShownAs attrs reads → (x : MediaAttribute) → AgreesOnApt attrs x
     → AgreesOnApt reads (media_shown_only x)
 agrees_again attrs reads are (Fmtp pt values) h =
     subst (λ (o : Option ℕ). IfSome o (λ first. All (NamesNoOther first) (filter is_fmtp_shown values)))
     (sym (apt_stays pt attrs reads are))
-    (fewer_values (first_apt pt attrs) values h)
+    (section_fewer_values (first_apt pt attrs) values h)
 agrees_again attrs reads are x h = tt
 
 -- ---- consistency

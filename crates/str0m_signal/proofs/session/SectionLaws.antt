@@ -8,13 +8,13 @@ use Rattle.str0m_signal.proofs.Common.{bytes_eq-Decides, Bandwidth, AUDIO, VIDEO
 use Rattle.str0m_signal.proofs.Common.{strip, when, is_rest, cut_at, cut_found, strip_at, strip_found, when_some, Sound, bind_some, some_is}
 use Rattle.str0m_signal.proofs.Common.{sound_or, reads_first, number_lacks, num_rest_true, num_both, Reads, false_from_ne_true, APPLICATION}
 use Rattle.str0m_signal.proofs.line.PartLaws.{parted_both}
-use Rattle.str0m_signal.specs.session.Section.{IsField, IsBandwidth, TextBegins, IsKind, IsProto, NoTypes, Head, IsHead}
+use Rattle.str0m_signal.specs.session.Section.{IsField, IsBandwidth, TextBegins, IsMediaKindText, IsProto, NoTypes, Head, IsHead}
 use Rattle.str0m_signal.specs.session.SectionReading.{field_read, bandwidth_read, unknown_read, media_kind_read, proto_read, numbers_read}
 use Rattle.str0m_signal.specs.session.SectionReading.{no_types_read, types_read, head_read}
 use Rattle.str0m_values.proofs.WordLaws.{word_sound}
 
-pub field_both : (letter : List ℕ) → Reads (IsField letter) (field_read letter)
-field_both letter = grind (arith, bind_some, when_some, ltb-true, strip_found, strip_at, num_rest_true)
+pub section_field_both : (letter : List ℕ) → Reads (IsField letter) (field_read letter)
+section_field_both letter = grind (arith, bind_some, when_some, ltb-true, strip_found, strip_at, num_rest_true)
 
 pub bandwidth_both : Reads IsBandwidth bandwidth_read
 bandwidth_both = record { sound = found; complete = given }
@@ -57,10 +57,11 @@ section_begun_not front text h = go (strip front text) refl
     go None e = refl
     go (Some rest) e = absurd (h (rest, strip_found front text rest e))
 
-word_not : (front text : List ℕ) → (TextBegins front text → ⊥) → bytes_eq text front ≡ false
-word_not front text h = false_from_ne_true (bytes_eq text front) (λ e. h ([], (bytes_eq-Decides text front).0 e ∙ sym (append-nil front)))
+section_word_begins_not : (front text : List ℕ) → (TextBegins front text → ⊥) → bytes_eq text front ≡ false
+section_word_begins_not front text h = false_from_ne_true (bytes_eq text front)
+    (λ e. h ([], (bytes_eq-Decides text front).0 e ∙ sym (append-nil front)))
 
-unknown_sound : Sound IsKind unknown_read
+unknown_sound : Sound IsMediaKindText unknown_read
 unknown_sound = record {
   law = λ text kind e.
       let a = cond_none (is_some (strip AUDIO.now text))
@@ -70,7 +71,7 @@ unknown_sound = record {
       (cond (is_some (strip APPLICATION.now text)) None (when (is_rest text) (Unknown text))) kind a.1 in
       let p = cond_none (is_some (strip APPLICATION.now text)) (when (is_rest text) (Unknown text)) kind v.1 in
       let w = when_some (is_rest text) (Unknown text) kind p.1 in
-      subst (IsKind text) w.1 (
+      subst (IsMediaKindText text) w.1 (
         refl,
         ltb-true 0 (length text) w.0,
         section_not_begun AUDIO.now text a.0,
@@ -79,17 +80,17 @@ unknown_sound = record {
       );
 }
 
-media_kind_sound : Sound IsKind media_kind_read
+media_kind_sound : Sound IsMediaKindText media_kind_read
 media_kind_sound = search (rules, sound_or, word_sound, unknown_sound)
 
-media_kind_complete : (text : List ℕ) (kind : MediaType) → IsKind text kind → media_kind_read text ≡ Some kind
+media_kind_complete : (text : List ℕ) (kind : MediaType) → IsMediaKindText text kind → media_kind_read text ≡ Some kind
 media_kind_complete text Audio h = rw h refl
 media_kind_complete text Video h = rw h refl
 media_kind_complete text Application h = rw h refl
-media_kind_complete text (Unknown name) h = search (rules, word_not, section_begun_not, num_rest_true)
+media_kind_complete text (Unknown name) h = search (rules, section_word_begins_not, section_begun_not, num_rest_true)
 
-kind_filled : (text : List ℕ) (kind : MediaType) → IsKind text kind → IsRest text
-kind_filled text kind h = grind arith
+section_kind_filled : (text : List ℕ) (kind : MediaType) → IsMediaKindText text kind → IsRest text
+section_kind_filled text kind h = grind arith
 
 proto_sound : Sound IsProto proto_read
 proto_sound = search (rules, sound_or, word_sound)
@@ -157,7 +158,7 @@ head_found content head e =
       types = r.0.1;
       joined = strip_found (codes "m=") content a.0 a.1 ∙ ap (λ (x : List ℕ). codes "m=" ++ x)
           (kind.0 ∙ ap (λ (x : List ℕ). k.0.0 ++ (32 ∷ x)) (port.0 ∙ ap (λ (x : List ℕ). p.0.0 ++ (32 ∷ x)) protocol.0));
-      kind_is = ((kind_filled k.0.0 t.0 kind_is, kind.1), kind_is);
+      kind_is = ((section_kind_filled k.0.0 t.0 kind_is, kind.1), kind_is);
       port_is = ((ltb-true 0 (length p.0.0) number.0, port.1), bytes_eq-Decides p.0.0 (codes "0"));
       protocol_is = ((proto_filled r.0.0 o.0 proto_is, protocol.1), proto_is);
       types_are = types_both.sound r.0.1 y.0 y.1;

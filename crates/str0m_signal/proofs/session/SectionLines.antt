@@ -7,11 +7,12 @@ use Rattle.str0m_signal.proofs.Common.{IsNum, line_end, pts_text, formats_text, 
 use Rattle.str0m_signal.proofs.Common.{Proto, port_text}
 use Rattle.str0m_signal.proofs.session.AttributesPrinted.{HoldsNoEnd, no_ends, no_end, num_is, decimal_no_end}
 use Rattle.str0m_signal.specs.back.Writable.{IsPrintedAs}
-use Rattle.str0m_signal.specs.session.Section.{IsKind, IsProto, IsHead, NoTypes}
+use Rattle.str0m_signal.specs.session.Section.{IsMediaKindText, IsProto, IsHead, NoTypes}
 
 -- ---- the m-line
 
-kind_line : (t : MediaType) → is_media t ≡ true → IsWord (media_type_text t) × IsKind (media_type_text t) t × HoldsNoEnd (media_type_text t)
+kind_line : (t : MediaType) → is_media t ≡ true → IsWord (media_type_text t) × IsMediaKindText (media_type_text t) t
+    × HoldsNoEnd (media_type_text t)
 kind_line t h = grind arith
 
 port_is : (b : Bool) → (IsWord (port_text b) × (IsTrue b ↔ (port_text b ≡ codes "0"))) × HoldsNoEnd (port_text b)
@@ -49,7 +50,7 @@ head_no_end kind port protocol types k p q t = grind (arith, no_ends, no_end)
 
 -- an m-line whose kind and whose types have their forms reads as what it says, with these types
 pub head_line_read : (m : MediaLine) (types pts : List ℕ)
-    → IsWord (media_type_text m.typ) × IsKind (media_type_text m.typ) m.typ × HoldsNoEnd (media_type_text m.typ)
+    → IsWord (media_type_text m.typ) × IsMediaKindText (media_type_text m.typ) m.typ × HoldsNoEnd (media_type_text m.typ)
     → formats_text m.typ m.pts ≡ types → HoldsNoEnd types → FirstFit (Parted 32 (IsNum 255)) NoTypes types pts
     → IsPrintedAs IsHead (m_line m) (record { typ = m.typ; disabled = m.disabled; proto = m.proto; pts = pts })
 head_line_read m types pts kind printed no_end are =

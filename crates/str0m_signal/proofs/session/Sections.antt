@@ -4,7 +4,7 @@ use Rattle.str0m_signal.proofs.Common.{codes, flat_map, append_assoc, lacks_from
 use Rattle.str0m_signal.proofs.Common.{line_end, m_line, media_line_text, Bandwidth, MediaLine, bandwidth_line}
 use Rattle.str0m_signal.proofs.line.LinesPrinted.{printed_line, ArePrinted, lines_joined-append, printed-append, LinesApart}
 use Rattle.str0m_signal.proofs.line.LinesPrinted.{printed_lines_apart-append, apart}
-use Rattle.str0m_signal.proofs.line.LinesPrinted.{no_bandwidth, no_attribute, SaidLines, said}
+use Rattle.str0m_signal.proofs.line.LinesPrinted.{no_bandwidth, no_attribute, SaidLines, lines_said}
 use Rattle.str0m_signal.proofs.session.AttributesPrinted.{LinesReadAs}
 use Rattle.str0m_signal.specs.back.Writable.{IsPrintedAs}
 use Rattle.str0m_signal.specs.form.MediaAttribute.{MediaForm, IsMediaLine}
@@ -58,7 +58,7 @@ said_section m read h = go h.head where
   bw = said_bandwidth m.bw h.bandwidth
 
   attrs : SaidLines media_attribute_text MediaForm m.attrs read.attrs
-  attrs = said media_attribute_text MediaForm m.attrs read.attrs h.attributes
+  attrs = lines_said media_attribute_text MediaForm m.attrs read.attrs h.attributes
 
   behind : bandwidth_line m.bw ++ flat_map media_attribute_text m.attrs ≡ lines_joined (bw.lines ++ attrs.lines)
   behind =

@@ -6,7 +6,7 @@ use Rattle.str0m_signal.proofs.Common.{session_attribute_text, bandwidth_text, l
 use Rattle.str0m_signal.proofs.Common.{session_text}
 use Rattle.str0m_signal.proofs.line.LinesPrinted.{printed_line, ArePrinted, lines_joined-append, printed-append, LinesApart}
 use Rattle.str0m_signal.proofs.line.LinesPrinted.{printed_lines_apart-append, apart}
-use Rattle.str0m_signal.proofs.line.LinesPrinted.{no_field, no_attribute, SaidLines, said}
+use Rattle.str0m_signal.proofs.line.LinesPrinted.{no_field_line, no_attribute, SaidLines, lines_said}
 use Rattle.str0m_signal.proofs.session.AttributesPrinted.{LinesReadAs, HoldsNoEnd, no_ends, no_end, decimal_no_end}
 use Rattle.str0m_signal.proofs.session.Sections.{SaidBandwidth, said_bandwidth}
 use Rattle.str0m_signal.specs.back.Writable.{IsPrintedAs}
@@ -83,7 +83,7 @@ header_is id bw small b rest no_r =
       );
       bandwidth_is = b.taken (timing_lines ∷ rest) (session_timing_apart 98 rest (λ e. omega (arith, e)));
       timing_is = (timing_lines, refl, lacks_from 13 (codes "t=0 0") refl, (refl, refl));
-      repeats_are = (refl, no_field 114 rest no_r);
+      repeats_are = (refl, no_field_line 114 rest no_r);
     }
 
 -- ---- the session
@@ -121,7 +121,7 @@ said_session session reads small bandwidth attributes = record {
     b = said_bandwidth session.bw bandwidth
 
     attrs : SaidLines session_attribute_text SessionForm session.attrs reads
-    attrs = said session_attribute_text SessionForm session.attrs reads attributes
+    attrs = lines_said session_attribute_text SessionForm session.attrs reads attributes
 
     placed : (rest : List Line) → b.lines ++ (timing_lines ∷ (attrs.lines ++ rest)) ≡ ((b.lines ++ (timing_lines ∷ [])) ++ attrs.lines)
         ++ rest

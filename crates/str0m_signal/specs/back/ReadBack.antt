@@ -2,7 +2,7 @@
 use Rattle.std.specs.List.{AllZip}
 use Rattle.std.specs.Prelude.{◌≡◌, ◌≢◌, ℕ, true, List, [], Some, slice_set, All, slice_get}
 use Rattle.str0m_formats.specs.row.PlainRowBounds.{HoldsRowNumbers}
-use Rattle.str0m_signal.specs.Prelude.{AllTypesDistinct, Consistent, IsPlain, IsSessionNumber, MediaLine, NamesOne, PayloadParams, SameRow, Sdp, is_media, made, rows, sdp_text, types}
+use Rattle.str0m_signal.specs.Prelude.{AllTypesDistinct, Consistent, IsPlain, IsSessionNumber, MediaLine, NamesOnePrimary, PayloadParams, SameRow, Sdp, is_media, made, rows, sdp_text, types}
 use Rattle.str0m_signal.specs.session.Reader.{Reading}
 
 -- the session with a section made of rows in the place of one
@@ -16,7 +16,7 @@ pub record ReadBack (sdp : Sdp) (i : ℕ) (frame : MediaLine) (theirs : List Pay
   pub section : MediaLine
   pub at : slice_get read.media_lines i ≡ Some section
   pub consistent : Consistent section
-  pub names_one : All (NamesOne section) section.attrs
+  pub names_one : All (NamesOnePrimary section) section.attrs
   pub same : AllZip SameRow (rows section) theirs
 
 -- there is a row, each is plain, and no payload type stands twice

@@ -15,12 +15,12 @@ abbrev pub AreBlanks : List ℕ → Type 0
 AreBlanks text = AllByRecursion IsBlank text
 
 -- one or more characters other than `=`, space and tab
-abbrev pub IsKey : List ℕ → Type 0
-IsKey text = IsRest text × Lacks 61 text × Lacks 32 text × Lacks 9 text
+abbrev pub IsFmtpKey : List ℕ → Type 0
+IsFmtpKey text = IsRest text × Lacks 61 text × Lacks 32 text × Lacks 9 text
 
 -- one or more characters other than `;`, space and tab
-abbrev pub IsValue : List ℕ → Type 0
-IsValue text = IsRest text × Lacks 59 text × Lacks 32 text × Lacks 9 text
+abbrev pub IsFmtpValue : List ℕ → Type 0
+IsFmtpValue text = IsRest text × Lacks 59 text × Lacks 32 text × Lacks 9 text
 
 -- nothing, or `;` and blanks
 abbrev pub IsFmtpEnd : List ℕ → Type 0
@@ -31,11 +31,11 @@ StartsUnblank [] = ⊥
 StartsUnblank (x ∷ xs) = IsBlank x → ⊥
 
 -- key `=` value, and then blanks and the end, or `;` between blanks and more
-abbrev pub IsPair : List ℕ → List ℕ × List ℕ → Option (List ℕ) → Type 0
-IsPair text pair None = (blanks : List ℕ) × (end : List ℕ) × (text ≡ pair.0 ++ (codes "=" ++ (pair.1 ++ (blanks ++ end))))
-    × IsKey pair.0 × IsValue pair.1 × AreBlanks blanks × IsFmtpEnd end
-IsPair text pair (Some more) = (before : List ℕ) × (after : List ℕ) × (text ≡ pair.0 ++ (codes "=" ++ (pair.1 ++ (before ++ (codes ";" ++ (after ++ more))))))
-    × IsKey pair.0 × IsValue pair.1 × AreBlanks before × AreBlanks after × StartsUnblank more
+abbrev pub IsFmtpPair : List ℕ → List ℕ × List ℕ → Option (List ℕ) → Type 0
+IsFmtpPair text pair None = (blanks : List ℕ) × (end : List ℕ) × (text ≡ pair.0 ++ (codes "=" ++ (pair.1 ++ (blanks ++ end))))
+    × IsFmtpKey pair.0 × IsFmtpValue pair.1 × AreBlanks blanks × IsFmtpEnd end
+IsFmtpPair text pair (Some more) = (before : List ℕ) × (after : List ℕ) × (text ≡ pair.0 ++ (codes "=" ++ (pair.1 ++ (before ++ (codes ";" ++ (after ++ more))))))
+    × IsFmtpKey pair.0 × IsFmtpValue pair.1 × AreBlanks before × AreBlanks after × StartsUnblank more
 
 -- one or more pairs, where F says how each stands before what follows it
 abbrev pub ArePairsOneByOne : (List ℕ → List ℕ × List ℕ → Option (List ℕ) → Type 0) → List ℕ → List (List ℕ × List ℕ) → Type 0
@@ -43,13 +43,13 @@ ArePairsOneByOne F text [] = ⊥
 ArePairsOneByOne F text (p ∷ []) = F text p None
 ArePairsOneByOne F text (p ∷ q ∷ qs) = (more : List ℕ) × F text p (Some more) × ArePairsOneByOne F more (q ∷ qs)
 
-abbrev pub ArePairs : List ℕ → List (List ℕ × List ℕ) → Type 0
-ArePairs = ArePairsOneByOne IsPair
+abbrev pub AreFmtpPairs : List ℕ → List (List ℕ × List ℕ) → Type 0
+AreFmtpPairs = ArePairsOneByOne IsFmtpPair
 
 -- SP and pairs, blanks before them
 abbrev pub IsPairsForm : List ℕ → List FormatParam → Type 0
 IsPairsForm more values = (blanks : List ℕ) × (text : List ℕ) × (pairs : List (List ℕ × List ℕ)) × (more ≡ codes " " ++ (blanks ++ text))
-    × AreBlanks blanks × ArePairs text pairs × AreRead pairs values
+    × AreBlanks blanks × AreFmtpPairs text pairs × AreRead pairs values
 
 -- SP and two or more payload types, parted by `/`: the first of them (RFC 2198, section 5)
 abbrev pub IsListForm : List ℕ → List FormatParam → Type 0

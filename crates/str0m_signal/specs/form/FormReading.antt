@@ -4,8 +4,8 @@ use Rattle.std.specs.Prelude.{ℕ, List, [], ◌∷◌, ◌==◌, Option, Some, 
 use Rattle.str0m_signal.specs.Prelude.{cut, is_rest, num, strip, when, ◌>>=◌}
 
 -- a value where the text is this word
-abbrev pub alone : {A : Type 0} → List ℕ → A → List ℕ → Option A
-alone word x text = when (bytes_eq text word) x
+abbrev pub word_alone_read : {A : Type 0} → List ℕ → A → List ℕ → Option A
+word_alone_read word x text = when (bytes_eq text word) x
 
 -- what f reads after a label
 abbrev pub behind : {A : Type 0} → List ℕ → (List ℕ → Option A) → List ℕ → Option A

@@ -1,8 +1,8 @@
 -- Tables of forms: what a text may begin with, what it stands for, and how it is read. One form states all three.
 use Rattle.std.specs.Prelude.{◌≡◌, ◌⊎◌, ◌++◌, ◌∷◌, [], ℕ, Bool, true, false, List, Option, Some, None, ◌==◌, ◌||◌, if◌then◌else◌}
 use Rattle.str0m_signal.specs.Prelude.{IsNum, IsRest, Parted, is_rest, num, when, ◌<|>◌, ◌>>=◌}
-use Rattle.str0m_signal.specs.form.FormReading.{alone, behind, text_read, two_read, tailed_read, parted_read}
-use Rattle.str0m_signal.specs.form.Forms.{Behind, IsText, Two, IsBeforeDroppedTail}
+use Rattle.str0m_signal.specs.form.FormReading.{word_alone_read, behind, text_read, two_read, tailed_read, parted_read}
+use Rattle.str0m_signal.specs.form.Forms.{Behind, IsText, TwoParts, IsBeforeDroppedTail}
 
 -- ---- parts of a text
 
@@ -16,15 +16,15 @@ a_text = record { Is = IsText; read = text_read }
 abbrev pub number : ℕ → Piece ℕ
 number limit = record { Is = IsNum limit; read = num limit }
 
-abbrev pub two : {A B : Type 0} → ℕ → Piece A → Piece B → Piece (A × B)
-two c first second = record { Is = Two c first.Is second.Is; read = two_read c first.read second.read }
+abbrev pub two_pieces : {A B : Type 0} → ℕ → Piece A → Piece B → Piece (A × B)
+two_pieces c first second = record { Is = TwoParts c first.Is second.Is; read = two_read c first.read second.read }
 
 abbrev pub tailed_piece : {A : Type 0} → ℕ → Piece A → Piece A
 tailed_piece c piece = record { Is = IsBeforeDroppedTail c piece.Is; read = tailed_read c piece.read }
 
 -- two texts, with a space between them
 abbrev pub two_texts : Piece (List ℕ × List ℕ)
-two_texts = two 32 a_text a_text
+two_texts = two_pieces 32 a_text a_text
 
 abbrev pub parted : {A : Type 0} → ℕ → Piece A → Piece (List A)
 parted c piece = record { Is = Parted c piece.Is; read = parted_read c piece.read }
@@ -58,7 +58,7 @@ labelled label piece make = made_as (form_led_by label piece) make
 
 -- a word alone, after which the line ends
 abbrev pub word : {A : Type 0} → List ℕ → A → Form A
-word name x = record { labels = (name ++ (10 ∷ [])) ∷ []; Is = λ text y. (text ≡ name) × (y ≡ x); read = alone name x }
+word name x = record { labels = (name ++ (10 ∷ [])) ∷ []; Is = λ text y. (text ≡ name) × (y ≡ x); read = word_alone_read name x }
 
 -- P holds of one of these
 abbrev pub AnyOfForms {ℓ} : {X : Type ℓ} → (X → Type 0) → List X → Type 0
@@ -76,16 +76,16 @@ first_read (form ∷ []) text = form.read text
 first_read (form ∷ other ∷ forms) text = form.read text <|> first_read (other ∷ forms) text
 
 -- one of these forms
-abbrev pub any : {A : Type 0} → List (Form A) → Form A
-any forms = record { labels = labels_of forms; Is = λ text x. AnyOfForms (λ form. form.Is text x) forms; read = first_read forms }
+abbrev pub any_form : {A : Type 0} → List (Form A) → Form A
+any_form forms = record { labels = labels_of forms; Is = λ text x. AnyOfForms (λ form. form.Is text x) forms; read = first_read forms }
 
-abbrev pub words_of : {A : Type 0} → List (List ℕ × A) → List (Form A)
-words_of [] = []
-words_of (row ∷ rows) = word row.0 row.1 ∷ words_of rows
+abbrev pub word_forms_of : {A : Type 0} → List (List ℕ × A) → List (Form A)
+word_forms_of [] = []
+word_forms_of (row ∷ rows) = word row.0 row.1 ∷ word_forms_of rows
 
 -- a table of words
-abbrev pub any_word : {A : Type 0} → List (List ℕ × A) → Form A
-any_word rows = any (words_of rows)
+abbrev pub any_word_form : {A : Type 0} → List (List ℕ × A) → Form A
+any_word_form rows = any_form (word_forms_of rows)
 
 -- each label with this piece after it
 abbrev pub labelled_by : {A B : Type 0} → Piece B → List (List ℕ × (B → A)) → List (Form A)
@@ -94,11 +94,11 @@ labelled_by piece (row ∷ rows) = labelled row.0 piece row.1 ∷ labelled_by pi
 
 -- a table of labels with a text after
 abbrev pub texts : {A : Type 0} → List (List ℕ × (List ℕ → A)) → Form A
-texts rows = any (labelled_by a_text rows)
+texts rows = any_form (labelled_by a_text rows)
 
 -- a table of labels with two texts after
-abbrev pub pairs : {A : Type 0} → List (List ℕ × (List ℕ × List ℕ → A)) → Form A
-pairs rows = any (labelled_by two_texts rows)
+abbrev pub pair_forms : {A : Type 0} → List (List ℕ × (List ℕ × List ℕ → A)) → Form A
+pair_forms rows = any_form (labelled_by two_texts rows)
 
 -- any text, as it stands
 abbrev pub IsUnused : {A : Type 0} → (List ℕ → A) → List ℕ → A → Type 0
@@ -123,12 +123,12 @@ form_if true form forms = form ∷ forms
 form_if false form forms = forms
 
 -- the forms with a label that begins with this letter
-abbrev pub beginning : {A : Type 0} → ℕ → List (Form A) → List (Form A)
-beginning letter [] = []
-beginning letter (form ∷ forms) = form_if (form_begins_with letter form.labels) form (beginning letter forms)
+abbrev pub forms_beginning : {A : Type 0} → ℕ → List (Form A) → List (Form A)
+forms_beginning letter [] = []
+forms_beginning letter (form ∷ forms) = form_if (form_begins_with letter form.labels) form (forms_beginning letter forms)
 
 abbrev pub letter_read : {A : Type 0} → List (Form A) → ℕ → List ℕ → Option A
-letter_read forms letter text = first_read (beginning letter forms) text
+letter_read forms letter text = first_read (forms_beginning letter forms) text
 
 -- only the forms of the text's first letter are asked
 abbrev pub by_letter : {A : Type 0} → List ℕ → List (Form A) → ℕ → List ℕ → Option A

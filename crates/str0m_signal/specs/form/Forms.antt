@@ -11,8 +11,8 @@ abbrev pub IsText : List ℕ → List ℕ → Type 0
 IsText text x = IsRest text × (x ≡ text)
 
 -- what stands before the first c, and what stands after it, each with its value
-abbrev pub Two : {A B : Type 0} → ℕ → (List ℕ → A → Type 0) → (List ℕ → B → Type 0) → List ℕ → A × B → Type 0
-Two c F G text pair = (front : List ℕ) × (rest : List ℕ) × (text ≡ front ++ (c ∷ rest)) × Lacks c front × F front pair.0 × G rest pair.1
+abbrev pub TwoParts : {A B : Type 0} → ℕ → (List ℕ → A → Type 0) → (List ℕ → B → Type 0) → List ℕ → A × B → Type 0
+TwoParts c F G text pair = (front : List ℕ) × (rest : List ℕ) × (text ≡ front ++ (c ∷ rest)) × Lacks c front × F front pair.0 × G rest pair.1
 
 -- nothing, or c and one or more characters, which aren't kept
 abbrev pub IsDroppedTail : ℕ → List ℕ → Type 0

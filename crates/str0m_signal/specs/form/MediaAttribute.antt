@@ -5,7 +5,7 @@ use Rattle.str0m_sdp.specs.declared.label.TheConstants as label
 use Rattle.str0m_signal.specs.Prelude.{FirstFit, IsLongestBeginning, IsRest, MediaAttribute, text_beginning_of, is_rest, media_words, when, ◌<|>◌}
 use Rattle.str0m_signal.specs.form.Fmtp.{IsFmtp}
 use Rattle.str0m_signal.specs.form.FmtpReading.{fmtp_fields_read}
-use Rattle.str0m_signal.specs.form.FormTable.{Piece, Form, own, a_text, number, two, tailed_piece, parted, labelled, made_as, any, any_word, texts, pairs, IsUnused, unused_read, first_byte, by_letter}
+use Rattle.str0m_signal.specs.form.FormTable.{Piece, Form, own, a_text, number, two_pieces, tailed_piece, parted, labelled, made_as, any_form, any_word_form, texts, pair_forms, IsUnused, unused_read, first_byte, by_letter}
 use Rattle.str0m_signal.specs.form.FormTransport.{ice_texts, candidate, fingerprint, setup}
 use Rattle.str0m_signal.specs.form.Rid.{IsRid}
 use Rattle.str0m_signal.specs.form.RidReading.{rid_fields_read}
@@ -42,13 +42,13 @@ sctp_init = labelled label.SCTP_INIT.now a_text SctpInit
 
 abbrev pub ext_map : Form MediaAttribute
 ext_map =
-    labelled label.EXTMAP.now (two 32 (tailed_piece 47 (number 255)) (tailed_piece 32 a_text)) (λ p. ExtMap p.0 (record { uri = p.1; serialized = true }))
+    labelled label.EXTMAP.now (two_pieces 32 (tailed_piece 47 (number 255)) (tailed_piece 32 a_text)) (λ p. ExtMap p.0 (record { uri = p.1; serialized = true }))
 
 abbrev pub rtpmap : Form MediaAttribute
 rtpmap = made_as (own label.RTPMAP.now (λ text p. IsRtpMap text p.0 p.1) rtpmap_fields_read) (λ p. RtpMap p.0 p.1)
 
 abbrev pub rtcp_fb : Form MediaAttribute
-rtcp_fb = labelled label.RTCP_FB.now (two 32 (number 127) a_text) (λ p. RtcpFb p.0 p.1)
+rtcp_fb = labelled label.RTCP_FB.now (two_pieces 32 (number 127) a_text) (λ p. RtcpFb p.0 p.1)
 
 abbrev pub fmtp : Form MediaAttribute
 fmtp = made_as (own label.FMTP.now (λ text p. IsFmtp text p.0 p.1) fmtp_fields_read) (λ p. Fmtp p.0 p.1)
@@ -60,10 +60,10 @@ abbrev pub simulcast : Form MediaAttribute
 simulcast = labelled label.SIMULCAST.now (record { Is = IsSimulcast; read = simulcast_fields_read }) Simulcast
 
 abbrev pub ssrc_group : Form MediaAttribute
-ssrc_group = labelled label.SSRC_GROUP.now (two 32 a_text (parted 32 (number 4294967295))) (λ p. SsrcGroup p.0 p.1)
+ssrc_group = labelled label.SSRC_GROUP.now (two_pieces 32 a_text (parted 32 (number 4294967295))) (λ p. SsrcGroup p.0 p.1)
 
 abbrev pub ssrc : Form MediaAttribute
-ssrc = labelled label.SSRC.now (two 32 (number 4294967295) (two 58 a_text a_text)) (λ p. Ssrc p.0 p.1.0 p.1.1)
+ssrc = labelled label.SSRC.now (two_pieces 32 (number 4294967295) (two_pieces 58 a_text a_text)) (λ p. Ssrc p.0 p.1.0 p.1.1)
 
 -- those that are neither a mapping nor a format
 abbrev pub other_forms : List (Form MediaAttribute)
@@ -77,14 +77,14 @@ other_forms =
     ∷ texts media_texts
     ∷ made_as fingerprint Fingerprint
     ∷ mid
-    ∷ pairs media_pairs
+    ∷ pair_forms media_pairs
     ∷ rid
     ∷ rtcp
     ∷ simulcast
     ∷ sctp_port
     ∷ max_message_size
     ∷ sctp_init
-    ∷ any_word media_words
+    ∷ any_word_form media_words
     ∷ []
 
 -- each attribute but `Unused`
@@ -93,7 +93,7 @@ media_forms = rtpmap ∷ fmtp ∷ other_forms
 
 -- the text stands for the attribute: `Unused` only where no other form holds
 abbrev pub MediaForm : List ℕ → MediaAttribute → Type 0
-MediaForm = FirstFit (any media_forms).Is (IsUnused Unused)
+MediaForm = FirstFit (any_form media_forms).Is (IsUnused Unused)
 
 -- a line of a section is `a=` and the text of an attribute
 abbrev pub IsMediaLine : List ℕ → MediaAttribute → Type 0

@@ -1,8 +1,8 @@
 -- The form of the line of a stream that may be restricted (RFC 8851, section 10).
 use Rattle.std.specs.Prelude.{◌≡◌, ◌≢◌, ◌⊎◌, ◌++◌, true, ℕ, List, [], ◌∷◌, codes}
 use Rattle.str0m_signal.specs.Prelude.{IsPt, Parted, RestrictionId}
-use Rattle.str0m_signal.specs.form.Fmtp.{AreBlanks, IsKey, IsValue}
-use Rattle.str0m_signal.specs.form.Forms.{Behind, Two}
+use Rattle.str0m_signal.specs.form.Fmtp.{AreBlanks, IsFmtpKey, IsFmtpValue}
+use Rattle.str0m_signal.specs.form.Forms.{Behind, TwoParts}
 use Rattle.str0m_signal.specs.form.RidStreamName.{IsStreamName}
 
 -- a name, which is active
@@ -11,7 +11,7 @@ IsActive text id = (text ≡ id.0) × IsStreamName id.0 × (id.1 ≡ true)
 
 -- blanks, key `=` value
 abbrev pub IsRestriction : List ℕ → List ℕ × List ℕ → Type 0
-IsRestriction text pair = (blanks : List ℕ) × (text ≡ blanks ++ (pair.0 ++ (codes "=" ++ pair.1))) × AreBlanks blanks × IsKey pair.0 × IsValue pair.1
+IsRestriction text pair = (blanks : List ℕ) × (text ≡ blanks ++ (pair.0 ++ (codes "=" ++ pair.1))) × AreBlanks blanks × IsFmtpKey pair.0 × IsFmtpValue pair.1
 
 -- nothing, or restrictions with `;` between each two
 abbrev pub AreRestrictions : List ℕ → List (List ℕ × List ℕ) → Type 0
@@ -20,7 +20,7 @@ AreRestrictions text (pair ∷ pairs) = Parted 59 IsRestriction text (pair ∷ p
 
 -- payload types with `,` between each two, and after them nothing, or `;` and restrictions
 abbrev pub AreTyped : List ℕ → List ℕ × List (List ℕ × List ℕ) → Type 0
-AreTyped text lists = (Parted 44 IsPt text lists.0 × (lists.1 ≡ [])) ⊎ Two 59 (Parted 44 IsPt) AreRestrictions text lists
+AreTyped text lists = (Parted 44 IsPt text lists.0 × (lists.1 ≡ [])) ⊎ TwoParts 59 (Parted 44 IsPt) AreRestrictions text lists
 
 -- payload types where the text begins with their label, else restrictions alone
 abbrev pub AreRidLists : List ℕ → List ℕ × List (List ℕ × List ℕ) → Type 0
@@ -41,4 +41,4 @@ IsDirected text fields = (more : List ℕ) × (text ≡ fields.0 ++ more) × IsD
 
 -- the name, a space, the direction and more
 abbrev pub IsRid : List ℕ → RestrictionId × (List ℕ × (List ℕ × List (List ℕ × List ℕ))) → Type 0
-IsRid = Two 32 IsActive IsDirected
+IsRid = TwoParts 32 IsActive IsDirected

@@ -53,11 +53,11 @@ abbrev pub more_read : List ℕ → Option (List ℕ × List (List ℕ × List �
 more_read text = if is_rest text then (strip (codes " ") text >>= lists_read) else Some ([], [])
 
 -- a word at the front, and what stands after it
-abbrev pub word_ahead : List ℕ → List ℕ → Option (List ℕ × List ℕ)
-word_ahead word text = strip word text >>= λ behind. Some (word, behind)
+abbrev pub rid_word_ahead : List ℕ → List ℕ → Option (List ℕ × List ℕ)
+rid_word_ahead word text = strip word text >>= λ behind. Some (word, behind)
 
 abbrev pub direction_read : List ℕ → Option (List ℕ × List ℕ)
-direction_read text = word_ahead (codes "send") text <|> word_ahead (codes "recv") text
+direction_read text = rid_word_ahead (codes "send") text <|> rid_word_ahead (codes "recv") text
 
 abbrev pub directed_read : List ℕ → Option (List ℕ × (List ℕ × List (List ℕ × List ℕ)))
 directed_read text = do

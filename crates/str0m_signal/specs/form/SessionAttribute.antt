@@ -3,7 +3,7 @@ use Rattle.std.specs.Prelude.{ℕ, List, [], ◌∷◌, Option, Some}
 use Rattle.str0m_sdp.specs.declared.attribute.SessionAttribute.TheVariants.{Group, MsidSemantic, IceUfrag, IcePwd, IceOptions, Fingerprint, Setup, Candidate, Unused}
 use Rattle.str0m_sdp.specs.declared.label.TheConstants as label
 use Rattle.str0m_signal.specs.Prelude.{FirstFit, SessionAttribute, session_words, ◌<|>◌, ◌>>=◌}
-use Rattle.str0m_signal.specs.form.FormTable.{Form, labelled, made_as, any, any_word, texts, IsUnused, unused_read}
+use Rattle.str0m_signal.specs.form.FormTable.{Form, labelled, made_as, any_form, any_word_form, texts, IsUnused, unused_read}
 use Rattle.str0m_signal.specs.form.FormTransport.{ice_texts, candidate, fingerprint, setup}
 use Rattle.str0m_signal.specs.line.Lines.{IsAttributeLine}
 use Rattle.str0m_signal.specs.line.Words.{IsGroup, IsMsidSemantic}
@@ -25,7 +25,7 @@ msid_semantic = labelled label.MSID_SEMANTIC.now (record { Is = IsMsidSemantic; 
 -- each attribute but `Unused`
 abbrev pub session_forms : List (Form SessionAttribute)
 session_forms =
-    any_word session_words
+    any_word_form session_words
     ∷ setup Setup
     ∷ group
     ∷ msid_semantic
@@ -36,10 +36,10 @@ session_forms =
 
 -- the text stands for the attribute: `Unused` only where no other form holds
 abbrev pub SessionForm : List ℕ → SessionAttribute → Type 0
-SessionForm = FirstFit (any session_forms).Is (IsUnused Unused)
+SessionForm = FirstFit (any_form session_forms).Is (IsUnused Unused)
 
 abbrev pub IsSessionLine : List ℕ → SessionAttribute → Type 0
 IsSessionLine = IsAttributeLine SessionForm
 
 abbrev pub session_read : List ℕ → Option SessionAttribute
-session_read text = (any session_forms).read text <|> unused_read Unused text
+session_read text = (any_form session_forms).read text <|> unused_read Unused text

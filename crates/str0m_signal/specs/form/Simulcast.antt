@@ -2,7 +2,7 @@
 use Rattle.std.specs.Prelude.{◌≡◌, ◌⊎◌, false, ℕ, List, [], ◌∷◌, None, codes}
 use Rattle.str0m_sdp.specs.attribute.Simulcast.{id_text}
 use Rattle.str0m_signal.specs.Prelude.{Parted, RestrictionId, Simulcast, SimulcastLayer}
-use Rattle.str0m_signal.specs.form.Forms.{Behind, Two}
+use Rattle.str0m_signal.specs.form.Forms.{Behind, TwoParts}
 use Rattle.str0m_signal.specs.form.RidStreamName.{IsStreamName}
 
 -- a name, after `~` where it isn't active
@@ -19,7 +19,7 @@ IsSide = Parted 59 IsLayer
 
 -- two sides, each after its word
 abbrev pub AreBothSides : List ℕ → List ℕ → List ℕ → List SimulcastLayer × List SimulcastLayer → Type 0
-AreBothSides first second = Behind first (Two 32 IsSide (Behind second IsSide))
+AreBothSides first second = Behind first (TwoParts 32 IsSide (Behind second IsSide))
 
 -- one side, or both in any order
 abbrev pub AreSides : List ℕ → List SimulcastLayer → List SimulcastLayer → Type 0

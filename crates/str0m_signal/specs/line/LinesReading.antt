@@ -52,9 +52,9 @@ abbrev pub ReadsTo : {A : Type 0} → (List ℕ → Option A) → List Line → 
 ReadsTo f lines value rest = line_read f lines ≡ Some (value, rest)
 
 -- what was found is put in its place; or nothing was found, and the place stays as it is
-abbrev pub Takes : {A P : Type 0} → (P → A → P → Type 0) → Option A → P → P → Bool → Type 0
-Takes {A} Puts found old new true = (value : A) × (found ≡ Some value) × Puts old value new
-Takes Puts found old new false = (found ≡ None) × (new ≡ old)
+abbrev pub TakesPart : {A P : Type 0} → (P → A → P → Type 0) → Option A → P → P → Bool → Type 0
+TakesPart {A} Puts found old new true = (value : A) × (found ≡ Some value) × Puts old value new
+TakesPart Puts found old new false = (found ≡ None) × (new ≡ old)
 
 -- what f reads of the first line stands after the others, and this text is left; or f reads nothing, and nothing is added
 abbrev pub TakesLine : {A : Type 0} → (List ℕ → Option A) → List Line → List A → List A → Option (Bor (List ℕ)) → Type 0
@@ -62,8 +62,8 @@ TakesLine f lines old new None = (None ≡ line_read f lines) × (new ≡ old)
 TakesLine {A} f lines old new (Some rest) = (value : A) × ReadsTo f lines value (lines_of rest.now) × (new ≡ old ++ value ∷ [])
 
 -- a value and what is left of the text, as lines
-abbrev pub left : {A : Type 0} → A × Bor (List ℕ) → A × List Line
-left x = (x.0, lines_of x.1.now)
+abbrev pub lines_left : {A : Type 0} → A × Bor (List ℕ) → A × List Line
+lines_left x = (x.0, lines_of x.1.now)
 
 abbrev pub both_lines_left : Bor (List ℕ) × Bor (List ℕ) → List ℕ × List Line
 both_lines_left x = (x.0.now, lines_of x.1.now)

@@ -26,12 +26,12 @@ pub record IsOrigin (content : List ℕ) (id : ℕ) : Type 0 where
   pub more_is : IsRest more
 
 -- a field of one of these letters
-abbrev pub IsOneField : List (List ℕ) → List ℕ → List ℕ → Type 0
-IsOneField [] content text = ⊥
-IsOneField (letter ∷ letters) content text = IsField letter content text ⊎ IsOneField letters content text
+abbrev pub IsHeaderField : List (List ℕ) → List ℕ → List ℕ → Type 0
+IsHeaderField [] content text = ⊥
+IsHeaderField (letter ∷ letters) content text = IsField letter content text ⊎ IsHeaderField letters content text
 
 abbrev pub IsInfo : List ℕ → List ℕ → Type 0
-IsInfo = IsOneField (codes "i=" ∷ codes "u=" ∷ codes "e=" ∷ codes "p=" ∷ codes "c=" ∷ codes "z=" ∷ codes "k=" ∷ [])
+IsInfo = IsHeaderField (codes "i=" ∷ codes "u=" ∷ codes "e=" ∷ codes "p=" ∷ codes "c=" ∷ codes "z=" ∷ codes "k=" ∷ [])
 
 -- `v=0`, the origin and the name
 pub record IsHeaderOpening (lines : List Line) (id : ℕ) (rest : List Line) : Type 0 where

@@ -19,11 +19,11 @@ abbrev pub TextBegins : List ℕ → List ℕ → Type 0
 TextBegins front text = (rest : List ℕ) × (text ≡ front ++ rest)
 
 -- the first of the three with which the text begins is the whole of it, or it begins with none
-abbrev pub IsKind : List ℕ → MediaType → Type 0
-IsKind text Audio = text ≡ AUDIO.now
-IsKind text Video = text ≡ VIDEO.now
-IsKind text Application = text ≡ APPLICATION.now
-IsKind text (Unknown name) = (text ≡ name) × IsRest text
+abbrev pub IsMediaKindText : List ℕ → MediaType → Type 0
+IsMediaKindText text Audio = text ≡ AUDIO.now
+IsMediaKindText text Video = text ≡ VIDEO.now
+IsMediaKindText text Application = text ≡ APPLICATION.now
+IsMediaKindText text (Unknown name) = (text ≡ name) × IsRest text
     × (TextBegins AUDIO.now text → ⊥) × (TextBegins VIDEO.now text → ⊥) × (TextBegins APPLICATION.now text → ⊥)
 
 abbrev pub IsProto : List ℕ → Proto → Type 0
@@ -48,7 +48,7 @@ pub record IsHead (content : List ℕ) (head : Head) : Type 0 where
   pub protocol : List ℕ
   pub types : List ℕ
   pub joined : content ≡ codes "m=" ++ (kind ++ (codes " " ++ (port ++ (codes " " ++ (protocol ++ (codes " " ++ types))))))
-  pub kind_is : IsWord kind × IsKind kind head.typ
+  pub kind_is : IsWord kind × IsMediaKindText kind head.typ
   pub port_is : IsWord port × (IsTrue head.disabled ↔ (port ≡ codes "0"))
   pub protocol_is : IsWord protocol × IsProto protocol head.proto
   pub types_are : FirstFit (Parted 32 (IsNum 255)) NoTypes types head.pts

@@ -2,11 +2,11 @@
 
 ghost use Rattle.std.specs.Prelude.{◌≡◌, IfOk};
 ghost use Rattle.str0m_sdp.specs.declared.attribute.MediaAttribute.TheVariants.{Fingerprint, Setup, Candidate, Unused};
-ghost use Rattle.str0m_signal.specs.form.FormTable.{made_as, pairs, texts, unused_read, first_byte, letter_read};
+ghost use Rattle.str0m_signal.specs.form.FormTable.{made_as, pair_forms, texts, unused_read, first_byte, letter_read};
 ghost use Rattle.str0m_signal.specs.form.FormTransport.{candidate, fingerprint, setup};
 ghost use Rattle.str0m_signal.specs.form.MediaAttribute.{media_texts, media_pairs, rtcp, mid, sctp_port, sctp_init, max_message_size, media_forms, named_read, media_read, IsMediaLine};
 ghost use Rattle.str0m_signal.specs.line.Lines.{Run, OneLine};
-ghost use Rattle.str0m_signal.specs.line.LinesReading.{lines_of, Takes};
+ghost use Rattle.str0m_signal.specs.line.LinesReading.{lines_of, TakesPart};
 
 use crate::form::ext_map::ext_map;
 use crate::form::fingerprint::fingerprint;
@@ -15,7 +15,7 @@ use crate::form::rid::rid;
 use crate::form::rtp_map::rtp_map;
 use crate::form::simulcast::simulcast_line;
 use crate::form::sources::{rtcp_fb, ssrc, ssrc_group};
-use crate::line::fields::{both_texts_kept, kept, num_u64, role, short};
+use crate::line::fields::{both_texts_kept, kept_field, num_u64, role, short};
 use crate::session::attributes::{Attribute, Place, attribute_run, taken, taken_result};
 use std::alloc::{AllocError, Global};
 use str0m_sdp::{MediaAttribute, Msid, label};
@@ -27,13 +27,13 @@ use str0m_values::{Items, Text};
 fn media_text(alloc: Global, text: &str) -> Result<Option<MediaAttribute>, AllocError>
     ensures { IfOk result (λ found. found ≡ (texts media_texts).read text.now) }
 {
-    if let Some(value) = kept(alloc, text, label::ICE_UFRAG)? {
+    if let Some(value) = kept_field(alloc, text, label::ICE_UFRAG)? {
         return Ok(Some(MediaAttribute::IceUfrag(value)));
     }
-    if let Some(value) = kept(alloc, text, label::ICE_PWD)? {
+    if let Some(value) = kept_field(alloc, text, label::ICE_PWD)? {
         return Ok(Some(MediaAttribute::IcePwd(value)));
     }
-    match kept(alloc, text, label::ICE_OPTIONS)? {
+    match kept_field(alloc, text, label::ICE_OPTIONS)? {
         Some(value) => Ok(Some(MediaAttribute::IceOptions(value))),
         None => Ok(None),
     }
@@ -41,7 +41,7 @@ fn media_text(alloc: Global, text: &str) -> Result<Option<MediaAttribute>, Alloc
 
 /// The attributes that are a label and two texts.
 fn labelled_pair(alloc: Global, text: &str) -> Result<Option<MediaAttribute>, AllocError>
-    ensures { IfOk result (λ found. found ≡ (pairs media_pairs).read text.now) }
+    ensures { IfOk result (λ found. found ≡ (pair_forms media_pairs).read text.now) }
 {
     match both_texts_kept(alloc, text, label::MSID)? {
         Some((stream_id, track_id)) => Ok(Some(MediaAttribute::Msid(Msid {
@@ -55,7 +55,7 @@ fn labelled_pair(alloc: Global, text: &str) -> Result<Option<MediaAttribute>, Al
 fn rtcp(alloc: Global, text: &str) -> Result<Option<MediaAttribute>, AllocError>
     ensures { IfOk result (λ found. found ≡ rtcp.read text.now) }
 {
-    match kept(alloc, text, label::RTCP)? {
+    match kept_field(alloc, text, label::RTCP)? {
         Some(value) => Ok(Some(MediaAttribute::Rtcp(value))),
         None => Ok(None),
     }
@@ -71,7 +71,7 @@ fn sctp_port(text: &str) -> Option<MediaAttribute>
 fn sctp_init(alloc: Global, text: &str) -> Result<Option<MediaAttribute>, AllocError>
     ensures { IfOk result (λ found. found ≡ sctp_init.read text.now) }
 {
-    match kept(alloc, text, label::SCTP_INIT)? {
+    match kept_field(alloc, text, label::SCTP_INIT)? {
         Some(value) => Ok(Some(MediaAttribute::SctpInit(value))),
         None => Ok(None),
     }
@@ -125,7 +125,7 @@ fn forms_of_e<P: Place<MediaAttribute>>(
     text: &str,
     place: &mut P,
 ) -> Result<bool, AllocError>
-    ensures { IfOk result (Takes P.Puts (letter_read media_forms 101 text.now) place.old place.new) }
+    ensures { IfOk result (TakesPart P.Puts (letter_read media_forms 101 text.now) place.old place.new) }
 {
     if taken_result(ext_map(alloc, text), place)? {
         return Ok(true);
@@ -139,7 +139,7 @@ fn forms_of_f<P: Place<MediaAttribute>>(
     text: &str,
     place: &mut P,
 ) -> Result<bool, AllocError>
-    ensures { IfOk result (Takes P.Puts (letter_read media_forms 102 text.now) place.old place.new) }
+    ensures { IfOk result (TakesPart P.Puts (letter_read media_forms 102 text.now) place.old place.new) }
 {
     if taken_result(fmtp(alloc, text), place)? {
         return Ok(true);
@@ -153,7 +153,7 @@ fn forms_of_i<P: Place<MediaAttribute>>(
     text: &str,
     place: &mut P,
 ) -> Result<bool, AllocError>
-    ensures { IfOk result (Takes P.Puts (letter_read media_forms 105 text.now) place.old place.new) }
+    ensures { IfOk result (TakesPart P.Puts (letter_read media_forms 105 text.now) place.old place.new) }
 {
     if taken_result(media_text(alloc, text), place)? {
         return Ok(true);
@@ -167,7 +167,7 @@ fn with_m<P: Place<MediaAttribute>>(
     text: &str,
     place: &mut P,
 ) -> Result<bool, AllocError>
-    ensures { IfOk result (Takes P.Puts (letter_read media_forms 109 text.now) place.old place.new) }
+    ensures { IfOk result (TakesPart P.Puts (letter_read media_forms 109 text.now) place.old place.new) }
 {
     if taken(mid(text), place)? {
         return Ok(true);
@@ -184,7 +184,7 @@ fn forms_of_r<P: Place<MediaAttribute>>(
     text: &str,
     place: &mut P,
 ) -> Result<bool, AllocError>
-    ensures { IfOk result (Takes P.Puts (letter_read media_forms 114 text.now) place.old place.new) }
+    ensures { IfOk result (TakesPart P.Puts (letter_read media_forms 114 text.now) place.old place.new) }
 {
     if taken(rtp_map(text), place)? {
         return Ok(true);
@@ -207,7 +207,7 @@ fn forms_of_s<P: Place<MediaAttribute>>(
     text: &str,
     place: &mut P,
 ) -> Result<bool, AllocError>
-    ensures { IfOk result (Takes P.Puts (letter_read media_forms 115 text.now) place.old place.new) }
+    ensures { IfOk result (TakesPart P.Puts (letter_read media_forms 115 text.now) place.old place.new) }
 {
     if taken_result(ssrc(alloc, text), place)? {
         return Ok(true);
@@ -245,7 +245,7 @@ fn media_named<P: Place<MediaAttribute>>(
     text: &str,
     place: &mut P,
 ) -> Result<bool, AllocError>
-    ensures { IfOk result (Takes P.Puts (named_read text.now) place.old place.new) }
+    ensures { IfOk result (TakesPart P.Puts (named_read text.now) place.old place.new) }
 {
     match first_byte(text) {
         b'c' => taken_result(media_candidate(alloc, text), place),

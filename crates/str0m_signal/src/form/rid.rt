@@ -160,7 +160,7 @@ fn typed(alloc: Global, text: &str) -> Result<Option<Lists>, AllocError>
 }
 
 /// The lists after the direction and a space.
-fn listed(alloc: Global, text: &str) -> Result<Option<Lists>, AllocError>
+fn rid_lists(alloc: Global, text: &str) -> Result<Option<Lists>, AllocError>
     ensures { IfOk result (λ found. option_map rid_lists_of found ≡ lists_read text.now) }
 {
     if let Some(body) = strip(text, "pt=") {
@@ -191,7 +191,7 @@ fn more(alloc: Global, text: &str) -> Result<Option<Lists>, AllocError>
         }));
     }
     match strip(text, " ") {
-        Some(body) => listed(alloc, body),
+        Some(body) => rid_lists(alloc, body),
         None => Ok(None),
     }
 }
@@ -208,7 +208,7 @@ fn direction(text: &str) -> Option<(&'static str, &str)>
 }
 
 /// The name of the stream, its direction, and what stands after them.
-fn fields(text: &str) -> Option<(&str, &'static str, &str)>
+fn rid_fields(text: &str) -> Option<(&str, &'static str, &str)>
     ensures { option_map (λ x. (x.0.now, (x.1.now, x.2.now))) result ≡ behind label.RID.now (two_read 32 (λ name. when (is_stream_name name) name) direction_read) text.now }
 {
     let body = strip(text, label::RID)?;
@@ -236,7 +236,7 @@ fn made(name: Text, word: &'static str, lists: Lists) -> MediaAttribute
 pub(crate) fn rid(alloc: Global, text: &str) -> Result<Option<MediaAttribute>, AllocError>
     ensures { IfOk result (λ found. found ≡ rid.read text.now) }
 {
-    let Some((name, word, behind)) = fields(text) else {
+    let Some((name, word, behind)) = rid_fields(text) else {
         return Ok(None);
     };
     let Some(lists) = more(alloc, behind)? else {

@@ -2,7 +2,7 @@
 
 ghost use Rattle.std.specs.Prelude.{◌≡◌, IfOk};
 ghost use Rattle.str0m_sdp.specs.declared.attribute.SessionAttribute.TheVariants.{Setup, Fingerprint, Candidate, Unused};
-ghost use Rattle.str0m_signal.specs.form.FormTable.{made_as, any, texts, unused_read};
+ghost use Rattle.str0m_signal.specs.form.FormTable.{made_as, any_form, texts, unused_read};
 ghost use Rattle.str0m_signal.specs.form.FormTransport.{candidate, fingerprint, setup};
 ghost use Rattle.str0m_signal.specs.form.SessionAttribute.{session_texts, session_forms, session_read, IsSessionLine};
 ghost use Rattle.str0m_signal.specs.line.Lines.{Run, OneLine};
@@ -10,7 +10,7 @@ ghost use Rattle.str0m_signal.specs.line.LinesReading.{lines_of};
 
 use crate::form::fingerprint::fingerprint;
 use crate::form::groups::{group, msid_semantic};
-use crate::line::fields::{kept, role};
+use crate::line::fields::{kept_field, role};
 use crate::session::attributes::{Attribute, Place, attribute_run, taken};
 use std::alloc::{AllocError, Global};
 use str0m_sdp::{SessionAttribute, label};
@@ -29,13 +29,13 @@ fn session_setup(text: &str) -> Option<SessionAttribute>
 fn session_text(alloc: Global, text: &str) -> Result<Option<SessionAttribute>, AllocError>
     ensures { IfOk result (λ found. found ≡ (texts session_texts).read text.now) }
 {
-    if let Some(value) = kept(alloc, text, label::ICE_UFRAG)? {
+    if let Some(value) = kept_field(alloc, text, label::ICE_UFRAG)? {
         return Ok(Some(SessionAttribute::IceUfrag(value)));
     }
-    if let Some(value) = kept(alloc, text, label::ICE_PWD)? {
+    if let Some(value) = kept_field(alloc, text, label::ICE_PWD)? {
         return Ok(Some(SessionAttribute::IcePwd(value)));
     }
-    if let Some(value) = kept(alloc, text, label::ICE_OPTIONS)? {
+    if let Some(value) = kept_field(alloc, text, label::ICE_OPTIONS)? {
         return Ok(Some(SessionAttribute::IceOptions(value)));
     }
     Ok(None)
@@ -60,7 +60,7 @@ fn session_candidate(alloc: Global, text: &str) -> Result<Option<SessionAttribut
 }
 
 fn session_named(alloc: Global, text: &str) -> Result<Option<SessionAttribute>, AllocError>
-    ensures { IfOk result (λ found. found ≡ (any session_forms).read text.now) }
+    ensures { IfOk result (λ found. found ≡ (any_form session_forms).read text.now) }
 {
     if let Some(found) = SessionAttribute::from_word(text) {
         return Ok(Some(found));

@@ -75,7 +75,7 @@ impl Part for RestrictionId {
 }
 
 /// The first of several names; the others aren't kept.
-fn first_name(alloc: Global, text: &str) -> Result<Option<RestrictionId>, AllocError>
+fn first_layer_name(alloc: Global, text: &str) -> Result<Option<RestrictionId>, AllocError>
     ensures { IfOk result (λ found. found ≡ first_name_read text.now) }
 {
     let Some((first, others)) = cut(text, Separator::Comma) else {
@@ -105,7 +105,7 @@ impl Part for SimulcastLayer {
     }
 
     fn read(alloc: Global, text: &str) -> Result<Option<SimulcastLayer>, AllocError> {
-        match first_name(alloc, text)? {
+        match first_layer_name(alloc, text)? {
             Some(restriction_id) => Ok(Some(SimulcastLayer {
                 restriction_id,
                 attributes: None,

@@ -31,7 +31,7 @@ pub(crate) fn read_field<'a>(text: &'a str, label: &str) -> Option<(&'a str, &'a
 }
 
 /// A copy of what follows `label`, where that is not nothing.
-pub(crate) fn kept(alloc: Global, text: &str, label: &str) -> Result<Option<Text>, AllocError>
+pub(crate) fn kept_field(alloc: Global, text: &str, label: &str) -> Result<Option<Text>, AllocError>
     ensures { IfOk result (λ found. found ≡ behind label.now text_read text.now) }
 {
     match field(text, label) {

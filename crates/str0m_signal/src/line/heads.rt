@@ -1,7 +1,7 @@
 //! The m-lines of sections.
 
 ghost use Rattle.std.specs.Prelude.{◌≡◌, IfOk, codes, is_some, option_map, bytes_eq};
-ghost use Rattle.str0m_signal.specs.line.Heads.{kind_is, media_head};
+ghost use Rattle.str0m_signal.specs.line.Heads.{head_kind_is, media_head};
 ghost use Rattle.str0m_signal.specs.session.SectionReading.{unknown_read, media_kind_read, proto_read, types_read, head_read};
 
 use crate::line::parts::parts;
@@ -32,7 +32,7 @@ enum Kind<'a> {
 
 impl<'a> Kind<'a> {
     fn to_media_type(self, alloc: Global) -> Result<MediaType, AllocError>
-        ensures { IfOk result (λ typ. typ ≡ kind_is self.entry) }
+        ensures { IfOk result (λ typ. typ ≡ head_kind_is self.entry) }
     {
         match self {
             Kind::Audio => Ok(MediaType::Audio),
@@ -43,8 +43,8 @@ impl<'a> Kind<'a> {
     }
 }
 
-fn unknown(text: &str) -> Option<Kind<'_>>
-    ensures { option_map kind_is result ≡ unknown_read text.now }
+fn unknown_kind(text: &str) -> Option<Kind<'_>>
+    ensures { option_map head_kind_is result ≡ unknown_read text.now }
 {
     if strip(text, AUDIO).is_some()
         || strip(text, VIDEO).is_some()
@@ -56,14 +56,14 @@ fn unknown(text: &str) -> Option<Kind<'_>>
     Some(Kind::Unknown(text))
 }
 
-fn kind_of(text: &str) -> Option<Kind<'_>>
-    ensures { option_map kind_is result ≡ media_kind_read text.now }
+fn head_kind(text: &str) -> Option<Kind<'_>>
+    ensures { option_map head_kind_is result ≡ media_kind_read text.now }
 {
     match text {
         AUDIO => Some(Kind::Audio),
         VIDEO => Some(Kind::Video),
         APPLICATION => Some(Kind::Application),
-        _ => unknown(text),
+        _ => unknown_kind(text),
     }
 }
 
@@ -113,7 +113,7 @@ pub(crate) fn head(alloc: Global, line: &str) -> Result<Option<MediaHead>, Alloc
     let Some((protocol, body)) = cut(body, Separator::Space) else {
         return Ok(None);
     };
-    let Some(kind) = kind_of(kind_text) else {
+    let Some(kind) = head_kind(kind_text) else {
         return Ok(None);
     };
     if port.is_empty() {

@@ -69,7 +69,7 @@ fn is_blank(byte: u8) -> bool
 }
 
 /// A key: one or more characters other than space and tab.
-#[tactic(auto, using(crate::proofs::line::PairLaws::key_is))]
+#[tactic(auto, using(crate::proofs::line::PairLaws::pair_key_is))]
 pub(crate) fn key(text: &str) -> Option<&str>
     ensures { option_map (λ x. x.now) result ≡ fmtp_key_read text.now }
 {

@@ -2,7 +2,7 @@
 
 ghost use Rattle.std.specs.Prelude.{◌≡◌, ◌∷◌, ◌++◌, [], ℕ, List, Ok, Option, Some, IfOk, option_map};
 ghost use Rattle.str0m_signal.specs.line.Lines.{Run};
-ghost use Rattle.str0m_signal.specs.line.LinesReading.{lines_of, line_read, read_attribute, left, ReadsTo, Takes, TakesLine};
+ghost use Rattle.str0m_signal.specs.line.LinesReading.{lines_of, line_read, read_attribute, lines_left, ReadsTo, TakesPart, TakesLine};
 
 use crate::line::lines::{BYTES_OF_A_LINE, clean_line};
 use std::alloc::{AllocError, Global};
@@ -50,7 +50,7 @@ pub(crate) trait Attribute: Drop {
     fn take<P: Place<Self>>(alloc: Global, text: &str, place: &mut P) -> Result<bool, AllocError>
     where
         Self: Sized,
-        ensures { IfOk result (Takes P.Puts (reading text.now) place.old place.new) };
+        ensures { IfOk result (TakesPart P.Puts (reading text.now) place.old place.new) };
 }
 
 /// Puts what was found in its place; whether there was anything.
@@ -59,7 +59,7 @@ pub(crate) fn taken<A: Drop, P: Place<A>>(
     found: Option<A>,
     place: &mut P,
 ) -> Result<bool, AllocError>
-    ensures { IfOk result (Takes P.Puts found place.old place.new) }
+    ensures { IfOk result (TakesPart P.Puts found place.old place.new) }
 {
     match found {
         Some(item) => {
@@ -76,7 +76,7 @@ pub(crate) fn taken_result<A: Drop, P: Place<A>>(
     answer: Result<Option<A>, AllocError>,
     place: &mut P,
 ) -> Result<bool, AllocError>
-    ensures { IfOk result (λ taken. (found : Option A) × (answer ≡ Ok found) × Takes P.Puts found place.old place.new taken) }
+    ensures { IfOk result (λ taken. (found : Option A) × (answer ≡ Ok found) × TakesPart P.Puts found place.old place.new taken) }
 {
     taken(answer?, place)
 }
@@ -87,7 +87,7 @@ fn take_content<A: Attribute, P: Place<A>>(
     line: &str,
     place: &mut P,
 ) -> Result<bool, AllocError>
-    ensures { IfOk result (Takes P.Puts (read_attribute A.reading line.now) place.old place.new) }
+    ensures { IfOk result (TakesPart P.Puts (read_attribute A.reading line.now) place.old place.new) }
 {
     match strip(line, "a=") {
         Some(text) => A::take(alloc, text, place),
@@ -109,7 +109,7 @@ pub(crate) fn next_line<A: Attribute>(
     alloc: Global,
     text: &str,
 ) -> Result<Option<(A, &str)>, AllocError>
-    ensures { IfOk result (λ found. option_map left found ≡ line_read (read_attribute A.reading) (lines_of text.now)) }
+    ensures { IfOk result (λ found. option_map lines_left found ≡ line_read (read_attribute A.reading) (lines_of text.now)) }
 {
     let Some((content, rest)) = clean_line(text) else {
         return Ok(None);

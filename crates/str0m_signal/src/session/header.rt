@@ -4,7 +4,7 @@ ghost use Rattle.std.specs.Prelude.{◌≡◌, IfOk, List, ℕ, codes, option_ma
 ghost use Rattle.str0m_signal.specs.form.FormReading.{digits_read};
 ghost use Rattle.str0m_signal.specs.line.Heads.{session_head};
 ghost use Rattle.str0m_signal.specs.line.Lines.{Run, OneLine};
-ghost use Rattle.str0m_signal.specs.line.LinesReading.{lines_of, line_read, left, both_lines_left, NextPart};
+ghost use Rattle.str0m_signal.specs.line.LinesReading.{lines_of, line_read, lines_left, both_lines_left, NextPart};
 ghost use Rattle.str0m_signal.specs.session.Header.{IsInfo, IsHeader};
 ghost use Rattle.str0m_signal.specs.session.HeaderReading.{exact_read, origin_read, info_read, opening_read};
 ghost use Rattle.str0m_signal.specs.session.Section.{IsField};
@@ -56,14 +56,14 @@ fn origin(line: &str) -> Option<u64>
 }
 
 fn read_origin(text: &str) -> Option<(u64, &str)>
-    ensures { option_map left result ≡ line_read origin_read (lines_of text.now) }
+    ensures { option_map lines_left result ≡ line_read origin_read (lines_of text.now) }
 {
     let (line, rest) = clean_line(text)?;
     Some((origin(line)?, rest))
 }
 
 fn header_opening(text: &str) -> Option<(u64, &str)>
-    ensures { option_map left result ≡ opening_read (lines_of text.now) }
+    ensures { option_map lines_left result ≡ opening_read (lines_of text.now) }
 {
     let rest = exact_line(text, "v=0")?;
     let Some((id, rest)) = read_origin(rest) else {

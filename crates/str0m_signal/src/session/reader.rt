@@ -6,7 +6,7 @@ ghost use Rattle.str0m_signal.specs.form.CandidateLine.{IsCandidateLine};
 ghost use Rattle.str0m_signal.specs.form.MediaAttribute.{IsMediaLine};
 ghost use Rattle.str0m_signal.specs.form.SessionAttribute.{IsSessionLine};
 ghost use Rattle.str0m_signal.specs.line.Lines.{FirstLine};
-ghost use Rattle.str0m_signal.specs.line.LinesReading.{left, line_read, lines_of, read_attribute};
+ghost use Rattle.str0m_signal.specs.line.LinesReading.{lines_left, line_read, lines_of, read_attribute};
 ghost use Rattle.str0m_signal.specs.session.Reader.{IsFromLine, Sections, IsSession, IsReading, Reading, SessionReading};
 ghost use Rattle.str0m_signal.specs.session.ReaderAnswers.{Answers, AtMostOne, GivesRead, IsRefusal, unread};
 
@@ -30,7 +30,7 @@ pub(crate) fn refusal(alloc: Global, message: &str) -> SdpError
 
 /// The consistent sections that stand next.
 fn sections(alloc: Global, text: &str) -> Result<(Items<MediaLine>, &str), SdpError>
-    ensures { Answers left result (λ v. Sections (lines_of text.now) v.0 v.1) }
+    ensures { Answers lines_left result (λ v. Sections (lines_of text.now) v.0 v.1) }
 {
     let mut sections = Vec::new(alloc);
     let mut rest = text;
@@ -45,7 +45,7 @@ fn sections(alloc: Global, text: &str) -> Result<(Items<MediaLine>, &str), SdpEr
 }
 
 fn read_session(alloc: Global, text: &str) -> Result<(Session, &str), SdpError>
-    ensures { Answers left result (λ v. IsSession (lines_of text.now) v.0 v.1) }
+    ensures { Answers lines_left result (λ v. IsSession (lines_of text.now) v.0 v.1) }
 {
     let Some((head, rest)) = next_header(alloc, text)? else {
         return Err(refusal(alloc, "bad session header"));
@@ -56,7 +56,7 @@ fn read_session(alloc: Global, text: &str) -> Result<(Session, &str), SdpError>
 }
 
 fn read_sdp(alloc: Global, text: &str) -> Result<(Sdp, &str), SdpError>
-    ensures { Answers left result (λ v. IsReading (lines_of text.now) v.0 v.1) }
+    ensures { Answers lines_left result (λ v. IsReading (lines_of text.now) v.0 v.1) }
 {
     let (session, rest) = read_session(alloc, text)?;
     let (media_lines, rest) = sections(alloc, rest)?;
@@ -69,7 +69,7 @@ fn read_sdp(alloc: Global, text: &str) -> Result<(Sdp, &str), SdpError>
 
 /// The attribute of the first line, where it is one.
 fn first_attribute<A: Attribute>(alloc: Global, text: &str) -> Result<(A, &str), SdpError>
-    ensures { GivesRead left result (line_read (read_attribute A.reading) (lines_of text.now)) }
+    ensures { GivesRead lines_left result (line_read (read_attribute A.reading) (lines_of text.now)) }
 {
     match next_line(alloc, text)? {
         Some(found) => Ok(found),

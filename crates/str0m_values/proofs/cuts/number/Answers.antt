@@ -1,9 +1,9 @@
-use Rattle.str0m_values.proofs.CutsNearLaws.{written_fits}
+use Rattle.str0m_values.proofs.CutsNearLaws.{cuts_written_fits}
 use Rattle.str0m_values.proofs.CutsNumLaws.{parsed_ok, parsed_err}
 use Rattle.str0m_values.proofs.cuts.number.Goals as goal
 
 pub returns-then-number-from-clause-value : goal.returns-then-number-from-clause-value
-returns-then-number-from-clause-value c = written_fits c.args.limit c.args.text.now c.in-Some.number
+returns-then-number-from-clause-value c = cuts_written_fits c.args.limit c.args.text.now c.in-Some.number
     (rw c.as_bytes.ensures.value at c.in-Some.ensures) (rw c.from.ensures at c.if-number-from.true)
 
 pub returns-in-Ok-clause-value : goal.returns-in-Ok-clause-value

@@ -4,7 +4,7 @@ use Rattle.str0m_values.proofs.Common.{◌≡◌, ℕ, List, ◌∷◌, [], ◌+
 use Rattle.str0m_values.proofs.Common.{length_push, take_all}
 use Rattle.str0m_values.proofs.FingerprintZipLaws.{AllZip-push}
 use Rattle.str0m_values.proofs.fingerprint.read_pieces.Goals as goal
-use Rattle.str0m_values.specs.Fingerprint.{IsHexByte, pieces_of}
+use Rattle.str0m_values.specs.Fingerprint.{IsHexByte, hash_pieces}
 
 pub returns-in_default : goal.returns-in_default
 returns-in_default c =
@@ -17,7 +17,7 @@ pub loop-piece-preserved : goal.loop-piece-preserved
 loop-piece-preserved c =
     let turn = YieldsList-turn (YieldsList-from_str_split 58 c.args.text.now (lit< tt) (cc) (cc) (cc)) c.loop-piece.yielded _
     c.loop-piece.yielded_by _ _ c.in-Some.piece c.in-Some.is c.next.ensures.steps in
-    let pieces : List (List ℕ) = pieces_of c.args.text.now in
+    let pieces : List (List ℕ) = hash_pieces c.args.text.now in
     let e : take (length (c.loop-piece.yielded ++ c.in-Some.piece ∷ [])) pieces ≡ take (length c.loop-piece.yielded) pieces
     ++ c.in-Some.piece.now ∷ [] =
     ap (λ n. take n pieces) (length_push c.loop-piece.yielded c.in-Some.piece) ∙ take_more pieces _ c.in-Some.piece.now turn.0
@@ -33,6 +33,6 @@ pub returns : goal.returns
 returns c =
     let end = YieldsList-end (YieldsList-from_str_split 58 c.args.text.now (lit< tt) (cc) (cc) (cc)) c.loop-piece.yielded _
     c.loop-piece.yielded_by _ _ c.in-None.is c.next.ensures.steps in
-    let pieces : List (List ℕ) = pieces_of c.args.text.now in
+    let pieces : List (List ℕ) = hash_pieces c.args.text.now in
     subst (λ (ps : List (List ℕ)). AllZip IsHexByte ps c.loop-piece.bytes) (ap (λ n. take n pieces) end.1 ∙ take_all _ pieces (omega arith))
     c.loop-piece.invariant.2

@@ -1,5 +1,5 @@
 use Rattle.exchange.proofs.Common.{ap, replicate, take_all}
-use Rattle.exchange.proofs.answer.OfferedFeedbackLaws.{none_gathered, feedback_other_more, typed_more}
+use Rattle.exchange.proofs.answer.OfferedFeedbackLaws.{none_gathered, feedback_other_more, feedback_typed_more}
 use Rattle.exchange.proofs.answer.offered_feedback.gathered.Goals as goal
 use Rattle.exchange.specs.declared.answer.offered_feedback.OfferedFeedback.{OfferedFeedback}
 
@@ -17,8 +17,9 @@ loop-attr-preserved c =
     let is = c.attr-item.is in
     elim c.match-attr.branch [
       | goal.in-RtcpFb w ↦
-          rw (w.of_types-is, w.of_all-is, w.add_value.ensures.added, w.as_str.ensures.value)
-          (typed_more attrs of_types of_all i w.in-RtcpFb.pt w.in-RtcpFb.value attr lt is w.in-RtcpFb.is w.add_value.ensures.within
+          rw (w.of_types-is, w.of_all-is, w.add_feedback_value.ensures.added, w.as_str.ensures.value)
+          (feedback_typed_more attrs of_types of_all i w.in-RtcpFb.pt w.in-RtcpFb.value attr lt is w.in-RtcpFb.is
+          w.add_feedback_value.ensures.within
           c.loop-attr.invariant)
       | goal.in_default w ↦
           rw (w.of_types-is, w.of_all-is, w.with_line-of_all.ensures)

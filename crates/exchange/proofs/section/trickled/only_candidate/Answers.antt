@@ -4,7 +4,7 @@ use Rattle.exchange.proofs.section.trickled.only_candidate.Goals as goal
 
 pub returns-in-Ok : goal.returns-in-Ok
 returns-in-Ok c = trickled_only_candidate_so (FirstLine IsCandidateLine c.args.line.now) _ _ _ c.in-Ok.ensures.read c.in-Ok.ensures.one
-    c.alone.ensures
+    c.trickled_alone.ensures
 
 pub returns-in-Err : goal.returns-in-Err
 returns-in-Err c = trickled_no_candidate_so (FirstLine IsCandidateLine c.args.line.now) _ c.in-Err.ensures.read

@@ -3,8 +3,8 @@ use Rattle.exchange.proofs.state.read_back.read_back.Goals as goal
 
 pub returns-in-Ok : goal.returns-in-Ok
 returns-in-Ok c = record {
-  exact = read_so _ _ _ _ _ c.in-Ok.ensures.read c.in-Ok.ensures.one c.whole.ensures;
-  alike = read_back_alike_so _ _ _ _ c.whole.ensures;
+  exact = read_so _ _ _ _ _ c.in-Ok.ensures.read c.in-Ok.ensures.one c.whole_read_back.ensures;
+  alike = read_back_alike_so _ _ _ _ c.whole_read_back.ensures;
 }
 
 pub returns-in-Err : goal.returns-in-Err

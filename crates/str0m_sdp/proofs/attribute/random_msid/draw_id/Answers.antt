@@ -1,5 +1,5 @@
 use Rattle.str0m_sdp.proofs.Common.{arith, refl, common_steps}
-use Rattle.str0m_sdp.proofs.attribute.RandomMsidLaws.{no_letters, one_more_letter, one_more_word, after_words-none}
+use Rattle.str0m_sdp.proofs.attribute.RandomMsidLaws.{no_letters, one_more_letter, one_more_word, after_drawn_words-none}
 use Rattle.str0m_sdp.proofs.attribute.random_msid.draw_id.Goals as goal
 
 pub loop-i-init : goal.loop-i-init
@@ -7,7 +7,7 @@ loop-i-init g c = record {
   room = c.requires.room;
   len = grind (arith, common_steps);
   letters = no_letters _ _ c.requires.empty;
-  stream = rw after_words-none refl;
+  stream = rw after_drawn_words-none refl;
 }
 
 pub loop-i-preserved : goal.loop-i-preserved

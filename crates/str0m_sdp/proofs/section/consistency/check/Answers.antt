@@ -1,6 +1,6 @@
 use Rattle.str0m_sdp.proofs.Common.{◌∙◌, filter_map, sym, ap}
 use Rattle.str0m_sdp.proofs.section.consistency.check.Goals as goal
-use Rattle.str0m_sdp.proofs.session.FaultLaws.{passed}
+use Rattle.str0m_sdp.proofs.session.FaultLaws.{fault_earlier_passed}
 use Rattle.str0m_sdp.specs.Common.{first}
 use Rattle.str0m_sdp.specs.session.Fault.{after_mid, err_if, fault_beside, setup_fault, proto_fault, map_fault}
 
@@ -16,7 +16,7 @@ returns c =
     let apts = rw attrs at c.check_apts.ensures in
     apts ∙ ap err_if (sym (
     ap (λ o. after_mid o (fault_beside m)) (sym only)
-    ∙ passed (setup_fault m.attrs mid) _ setup
-    ∙ passed (proto_fault m mid m.proto) _ proto
-    ∙ passed (first (filter_map (map_fault m.attrs mid) m.pts)) _ maps
+    ∙ fault_earlier_passed (setup_fault m.attrs mid) _ setup
+    ∙ fault_earlier_passed (proto_fault m mid m.proto) _ proto
+    ∙ fault_earlier_passed (first (filter_map (map_fault m.attrs mid) m.pts)) _ maps
     ))

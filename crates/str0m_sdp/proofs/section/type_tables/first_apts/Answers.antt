@@ -1,6 +1,6 @@
 use Rattle.str0m_sdp.proofs.Common.{◌≡◌, ◌<◌, ℕ, List, Option, None, get_or, length, not, refl, sym, ap, ◌∙◌, get_or-replicate, length-set}
 use Rattle.str0m_sdp.proofs.Common.{is_some, get_or_read}
-use Rattle.str0m_sdp.proofs.section.TypeTableLaws.{table_first_apt_other, table_first_apt_kept, first_named}
+use Rattle.str0m_sdp.proofs.section.TypeTableLaws.{table_first_apt_other, table_first_apt_kept, table_first_apt_named}
 use Rattle.str0m_sdp.proofs.section.type_tables.first_apts.Goals as goal
 
 -- the place that is read, by any default
@@ -25,7 +25,8 @@ loop-attr-preserved c =
           ∙ ap not w.if-is_none.true in
           rw (w.firsts-is, w.apt_among.ensures) (
             length-set firsts n _ ∙ c.loop-attr.invariant.0,
-            λ pt lt. first_named attrs firsts i n w.as_slice.result.now c.attr-item.result c.loop-attr-test.true row c.attr-item.is variant
+            λ pt lt. table_first_apt_named attrs firsts i n w.as_slice.result.now c.attr-item.result c.loop-attr-test.true row
+                c.attr-item.is variant
                 empty pt (c.loop-attr.invariant.1 pt lt),
           )
       | goal.in-Fmtp+else-is_none w ↦

@@ -11,4 +11,4 @@ pub returns-clause-refuses : goal.returns-clause-refuses
 returns-clause-refuses c = laws.refuses c.args.text.now c.read.result c.read.ensures
 
 pub returns-clause-itself : goal.returns-clause-itself
-returns-clause-itself c = laws.itself c.args.text.now c.read.result c.read.ensures
+returns-clause-itself c = laws.fingerprint_itself c.args.text.now c.read.result c.read.ensures

@@ -1,5 +1,5 @@
 use Rattle.exchange.proofs.Common.{◌≡◌, ◌∙◌, Some, ap, length, option_map, subst, sym, AllTypesDistinct, LockedStay, types}
-use Rattle.exchange.proofs.state.ExchangeFollowLaws.{follows_done, open_names, sound_done}
+use Rattle.exchange.proofs.state.ExchangeFollowLaws.{follows_done, follows_open_names, sound_done}
 use Rattle.exchange.proofs.state.exchange.Exchange.accept_answer.Goals as goal
 use Rattle.exchange.specs.declared.offer.pending.Pending.{Pending}
 use Rattle.exchange.specs.declared.state.exchange.Exchange.{Exchange}
@@ -22,7 +22,7 @@ returns-clause-sound c = λ sound.
     let open_so : pending_sdp c.args.self.now ≡ Some taken.offer.sdp = ap (option_map (λ (offer : Pending). offer.sdp)) taken.open_so in
     let named : c.in_ok-found.found.names ≡ grown_names c.args.self.now.names taken.offer.sdp.media_lines =
     c.in_ok-found.ensures.names ∙ ap (λ sdp. grown_names c.args.self.now.names (sections_of sdp)) open_so in
-    sound_done _ c.args.self.now.names taken.offer.sdp (open_names c.args.self.now taken.offer sound taken.open_so)
+    sound_done _ c.args.self.now.names taken.offer.sdp (follows_open_names c.args.self.now taken.offer sound taken.open_so)
     (ap (λ (after : Exchange). after.local) c.settle.ensures ∙ (c.taken-local.ensures.was ∙ open_so))
     (ap (λ (after : Exchange). after.names) c.settle.ensures ∙ named)
     (ap (λ (after : Exchange). after.pending) c.settle.ensures ∙ c.taken-local.ensures.none)

@@ -4,7 +4,7 @@ use Rattle.str0m_formats.proofs.round.SettlingPass.{settled_if_locked, settled_s
 use Rattle.str0m_formats.proofs.round.claims.Claims.settle.Goals as goal
 use Rattle.str0m_formats.specs.declared.round.negotiation_error.NegotiationError.{NegotiationError}
 use Rattle.str0m_formats.specs.declared.round.negotiation_error.NegotiationError.TheVariants.{Exhausted}
-use Rattle.str0m_formats.specs.round.Claimed.{TypeSet, with_type, with_option}
+use Rattle.str0m_formats.specs.round.Claimed.{TypeSet, with_type, claimed_with_option}
 use Rattle.str0m_formats.specs.round.Claims.{ClaimsServe}
 use Rattle.str0m_formats.specs.round.Rounds.{then_in_round, kept_rtx}
 
@@ -26,9 +26,10 @@ returns-in_err-resend-clause-value g c = λ locked taken serves.
     let unlocked : TypeSet = holds c.args.self.now.unlocked in
     let row = c.args.row.now in
     let pt : c.keep.result ≡ Some c.in_ok-pt.pt = search rules in
-    let After : Option ℕ → Type 0 = λ given. ClaimsServe (holds c.keep.new.self.claimed) unlocked locked (with_option taken given) in
+    let After : Option ℕ → Type 0 =
+    λ given. ClaimsServe (holds c.keep.new.self.claimed) unlocked locked (claimed_with_option taken given) in
     let one : TypeSet = with_type taken c.in_ok-pt.pt in
-    let two : TypeSet = with_option one c.keep_red-red.result in
+    let two : TypeSet = claimed_with_option one c.keep_red-red.result in
     let same1 = ap holds c.keep.ensures.unlocked in
     let same2 = ap holds c.keep_red-red.ensures.unlocked in
     let red = red_step (holds c.keep.new.self.claimed) (holds c.keep_red-red.new.self.claimed) unlocked (holds c.keep.new.self.unlocked)
@@ -46,9 +47,10 @@ returns-clause-value g c = λ locked taken serves.
     let unlocked : TypeSet = holds c.args.self.now.unlocked in
     let row = c.args.row.now in
     let pt : c.keep.result ≡ Some c.in_ok-pt.pt = search rules in
-    let After : Option ℕ → Type 0 = λ given. ClaimsServe (holds c.keep.new.self.claimed) unlocked locked (with_option taken given) in
+    let After : Option ℕ → Type 0 =
+    λ given. ClaimsServe (holds c.keep.new.self.claimed) unlocked locked (claimed_with_option taken given) in
     let one : TypeSet = with_type taken c.in_ok-pt.pt in
-    let two : TypeSet = with_option one c.keep_red-red.result in
+    let two : TypeSet = claimed_with_option one c.keep_red-red.result in
     let same1 = ap holds c.keep.ensures.unlocked in
     let same2 = ap holds c.keep_red-red.ensures.unlocked in
     let red = red_step (holds c.keep.new.self.claimed) (holds c.keep_red-red.new.self.claimed) unlocked (holds c.keep.new.self.unlocked)
@@ -63,16 +65,17 @@ returns-clause-claimed g c = λ locked taken serves.
     let holds = g.C.Claimed.holds in
     let unlocked : TypeSet = holds c.args.self.now.unlocked in
     let pt : c.keep.result ≡ Some c.in_ok-pt.pt = search rules in
-    let After : Option ℕ → Type 0 = λ given. ClaimsServe (holds c.keep.new.self.claimed) unlocked locked (with_option taken given) in
+    let After : Option ℕ → Type 0 =
+    λ given. ClaimsServe (holds c.keep.new.self.claimed) unlocked locked (claimed_with_option taken given) in
     let one : TypeSet = with_type taken c.in_ok-pt.pt in
-    let two : TypeSet = with_option one c.keep_red-red.result in
+    let two : TypeSet = claimed_with_option one c.keep_red-red.result in
     let same1 = ap holds c.keep.ensures.unlocked in
     let same2 = ap holds c.keep_red-red.ensures.unlocked in
     let red = red_step (holds c.keep.new.self.claimed) (holds c.keep_red-red.new.self.claimed) unlocked (holds c.keep.new.self.unlocked)
     (holds c.keep_red-red.new.self.unlocked) locked one c.keep_red-red.result c.args.row.now.red
     same1 same2 (subst After pt (c.keep.ensures.claimed locked taken serves)) c.keep_red-red.ensures.value c.keep_red-red.ensures.claimed in
     let Unlocked : TypeSet → Type 0 =
-    λ u. ClaimsServe (holds c.keep_rtx.new.self.claimed) u locked (with_option two c.in_ok-resend.resend) in
+    λ u. ClaimsServe (holds c.keep_rtx.new.self.claimed) u locked (claimed_with_option two c.in_ok-resend.resend) in
     let Taken : TypeSet → Type 0 = λ set. ClaimsServe (holds c.keep_rtx.new.self.claimed) unlocked locked set in
     rw c.if-row.false (subst Taken (with_row_types taken c.in_ok-pt.pt c.in_ok-resend.resend c.keep_red-red.result)
     (subst Unlocked (same2 ∙ same1) (c.in_ok-resend.ensures.claimed locked two red.1)))

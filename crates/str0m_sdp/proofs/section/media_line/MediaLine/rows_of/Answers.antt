@@ -1,6 +1,6 @@
 use Rattle.str0m_sdp.proofs.Common.{◌++◌, ◌==◌, ℕ, List, replicate, filter, filter_map, option_to_list, refl, rules, tests, sym, ap, ◌∙◌}
 use Rattle.str0m_sdp.proofs.Common.{Bor, list_any, take_all, All-same, line_values, FormatParam, CodecSpec, PayloadParams, IsBounded}
-use Rattle.str0m_sdp.proofs.section.MappingsFilterMap.{kept_item, filter_map_left_out}
+use Rattle.str0m_sdp.proofs.section.MappingsFilterMap.{filter_map_kept, filter_map_left_out}
 use Rattle.str0m_sdp.proofs.section.SectionRowsBoundLaws.{rows_bounded}
 use Rattle.str0m_sdp.proofs.section.SectionRowsGatherLaws.{TypeMarks, nothing_gathered, all_gathered}
 use Rattle.str0m_sdp.proofs.section.media_line.MediaLine.rows_of.Goals as goal
@@ -42,7 +42,7 @@ loop-pt-preserved c =
             rw w.rows-is (
                 w.in_ok-push_row.ensures m say (w.in_ok-format.ensures.format m.attrs known own)
                 ∙ ap (λ (rows : List PayloadParams). rows ++ option_to_list (row m item)) c.loop-pt.invariant.1
-                ∙ sym (kept_item (is_kept m) (row m) types i item c.loop-pt-test.true c.loop-pt-item.is
+                ∙ sym (filter_map_kept (is_kept m) (row m) types i item c.loop-pt-test.true c.loop-pt-item.is
                 (sym (c.is_kept.ensures m say) ∙ w.if-is_kept.true))
                 ),
           )
