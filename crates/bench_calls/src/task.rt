@@ -42,7 +42,7 @@ fn run_once<T: Task>(offer: &SdpOffer) -> Option<usize>
 }
 
 /// Does a task once, and then as often again as `more` says.
-fn often<T: Task>(offer: &SdpOffer, more: u32) -> Option<usize>
+fn run_often<T: Task>(offer: &SdpOffer, more: u32) -> Option<usize>
     ensures { IfSome result (λ answer. answer ≡ T.answer offer.now) }
 {
     for _ in 0..more {
@@ -52,11 +52,11 @@ fn often<T: Task>(offer: &SdpOffer, more: u32) -> Option<usize>
 }
 
 /// The same over a text, which is read once.
-pub(crate) fn done<T: Task>(alloc: Global, text: &[u8], more: u32) -> Option<usize>
+pub(crate) fn done_task<T: Task>(alloc: Global, text: &[u8], more: u32) -> Option<usize>
     ensures { IfSome result (HasAnswer text.now T.answer) }
 {
     match offer_in(alloc, text) {
-        Some(offer) => match often::<T>(&offer, more) {
+        Some(offer) => match run_often::<T>(&offer, more) {
             Some(answer) => Some(answer),
             None => None,
         },

@@ -89,8 +89,8 @@ abbrev pub BeginsExchange : OwnNumbers → OwnTexts → Option CodecConfig → O
 BeginsExchange numbers texts config after = (own : OwnSide) × SaysOwnSide numbers texts own × Of config (λ it. after ≡ Some (exchange_begun own it))
 
 -- this side is ready for a direction in the section of a name, from its next description on (RFC 3264, section 8.4)
-abbrev pub turned : List ℕ → Direction → Exchange → Exchange
-turned mid direction before =
+abbrev pub turned_exchange : List ℕ → Direction → Exchange → Exchange
+turned_exchange mid direction before =
     record before { own = record before.own { directions = with_entry mid direction before.own.directions } }
 
 -- what a handle held becomes this, and another handle gets that

@@ -23,9 +23,9 @@ CantListOutcomes rows own at =
     (frame : MediaLine) × (slice_get own.media_lines at ≡ Some frame) × ((locked_of_type frame.typ rows ≡ []) ⊎ (Writable own at → ⊥))
 
 -- a section that lists what is agreed, of what two handles own
-abbrev pub Answered : Option CodecConfig → Option Sdp → ℕ → Option Sdp → Type 0
-Answered (Some config) (Some before) at (Some after) = ListsOutcomes config.params.items before at after
-Answered _ _ at _ = ⊥
+abbrev pub AnsweredRound : Option CodecConfig → Option Sdp → ℕ → Option Sdp → Type 0
+AnsweredRound (Some config) (Some before) at (Some after) = ListsOutcomes config.params.items before at after
+AnsweredRound _ _ at _ = ⊥
 
 -- nothing can be listed there, of what two handles own
 abbrev pub CantAnswer : Option CodecConfig → Option Sdp → ℕ → Type 0

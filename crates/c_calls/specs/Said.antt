@@ -11,16 +11,16 @@ put_into before (Some items) =
     if nat_le (length items) (length before.0) then (done, room_begun_with items before.0, length items) else (no_room, before.0, length items)
 
 -- a call that takes no memory answers so
-abbrev pub Puts : {X : Type 0} → Option (List X) → List X × ℕ → ℕ × List X × ℕ → Type 0
-Puts found before after = after ≡ put_into before found
+abbrev pub PutsText : {X : Type 0} → Option (List X) → List X × ℕ → ℕ × List X × ℕ → Type 0
+PutsText found before after = after ≡ put_into before found
 
 -- and one that takes memory, unless it is refused: then room and count stay
 abbrev pub Says : {X : Type 0} → Option (List X) → List X × ℕ → ℕ × List X × ℕ → Type 0
-Says found before after = Puts found before after ⊎ (after ≡ (no_memory, before.0, before.1))
+Says found before after = PutsText found before after ⊎ (after ≡ (no_memory, before.0, before.1))
 
 -- the same of some text that is such
 abbrev pub SaysSome : (List ℕ → Type 0) → List ℕ × ℕ → ℕ × List ℕ × ℕ → Type 0
-SaysSome IsSuch before after = ((text : List ℕ) × IsSuch text × Puts (Some text) before after) ⊎ (after ≡ (no_memory, before.0, before.1))
+SaysSome IsSuch before after = ((text : List ℕ) × IsSuch text × PutsText (Some text) before after) ⊎ (after ≡ (no_memory, before.0, before.1))
 
 -- one thing is written where it is found; else the place stays
 abbrev pub GivesOne : {X : Type 0} → Option X → X → ℕ × X → Type 0

@@ -4,7 +4,7 @@ ghost use Rattle.c_calls.specs.Common.{Of};
 ghost use Rattle.c_calls.specs.Prelude.{IsRoomFull, all_candidates, candidate_text, distinct, same_candidate};
 ghost use Rattle.c_calls.specs.Said.{Says};
 ghost use Rattle.c_calls.specs.Told.{done, no_memory};
-ghost use Rattle.c_calls.specs.TransportCalls.{candidate_texts, lent};
+ghost use Rattle.c_calls.specs.TransportCalls.{candidate_texts, lent_credential};
 ghost use Rattle.std.specs.Prelude.{◌≡◌, ◌≢◌, ◌⊎◌, IfOk, length, map, slice_get};
 
 use crate::said::{DONE, NO_MEMORY, NO_SECTION, put_made};
@@ -13,8 +13,8 @@ use std::alloc::{AllocError, Global};
 use str0m_signal::{Candidate, Sdp};
 
 /// The candidates of a description, each once.
-fn gathered<'a>(alloc: Global, sdp: &'a Sdp) -> Result<Vec<&'a Candidate>, AllocError>
-    ensures { IfOk result (λ found. lent found.items ≡ distinct same_candidate (all_candidates sdp.now)) }
+fn gathered_candidates<'a>(alloc: Global, sdp: &'a Sdp) -> Result<Vec<&'a Candidate>, AllocError>
+    ensures { IfOk result (λ found. lent_credential found.items ≡ distinct same_candidate (all_candidates sdp.now)) }
 {
     let mut found = Vec::new(alloc);
     for candidate in sdp.ice_candidates()? {
@@ -28,7 +28,7 @@ fn count_candidates(alloc: Global, sdp: &Sdp, count: &mut usize) -> u32
     ensures counted { result ≡ done → count.new ≡ length (candidate_texts sdp.now) }
     ensures kept { result ≢ done → count.new ≡ count.old }
 {
-    match gathered(alloc, sdp) {
+    match gathered_candidates(alloc, sdp) {
         Ok(found) => {
             *count = found.len();
             DONE
@@ -63,7 +63,7 @@ fn put_candidate_text(
     room: &mut [u8],
     needed: &mut usize,
 ) -> u32
-    ensures { Says (slice_get (map candidate_text (lent candidates.now)) index) (room.old, needed.old) (result, room.new, needed.new) }
+    ensures { Says (slice_get (map candidate_text (lent_credential candidates.now)) index) (room.old, needed.old) (result, room.new, needed.new) }
 {
     if index >= candidates.len() {
         return NO_SECTION;
@@ -74,7 +74,7 @@ fn put_candidate_text(
 fn put_candidate(alloc: Global, sdp: &Sdp, index: usize, room: &mut [u8], needed: &mut usize) -> u32
     ensures { Says (slice_get (candidate_texts sdp.now) index) (room.old, needed.old) (result, room.new, needed.new) }
 {
-    match gathered(alloc, sdp) {
+    match gathered_candidates(alloc, sdp) {
         Ok(found) => put_candidate_text(alloc, found.as_slice(), index, room, needed),
         Err(_) => NO_MEMORY,
     }

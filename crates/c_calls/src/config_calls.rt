@@ -13,7 +13,7 @@ use std::alloc::{AllocError, Global};
 use std::str;
 use str0m_signal::{Codec, CodecConfig, FormatParams, Frequency, Pt};
 
-fn give(alloc: Global, handle: &mut ConfigHandle, config: CodecConfig) -> u32
+fn give_config(alloc: Global, handle: &mut ConfigHandle, config: CodecConfig) -> u32
     requires { handle.old.inner ≡ None }
     ensures made { result ≡ done → Of handle.new.inner (λ given. given ≡ config) }
     ensures empty { result ≢ done → handle.new.inner ≡ None }
@@ -37,7 +37,7 @@ pub extern "C" fn zaxp_config_defaults(alloc: Global, handle: &mut ConfigHandle)
     ensures refused { result ≢ done → result ≡ no_memory }
 {
     match CodecConfig::new_with_defaults(alloc) {
-        Ok(config) => give(alloc, handle, config),
+        Ok(config) => give_config(alloc, handle, config),
         Err(_) => NO_MEMORY,
     }
 }
@@ -50,11 +50,11 @@ pub extern "C" fn zaxp_config_empty(alloc: Global, handle: &mut ConfigHandle) ->
     ensures empty { result ≢ done → handle.new.inner ≡ None }
     ensures refused { result ≢ done → result ≡ no_memory }
 {
-    give(alloc, handle, CodecConfig::empty(alloc))
+    give_config(alloc, handle, CodecConfig::empty(alloc))
 }
 
 /// Takes out the rows of a codec and, where it is enabled, puts its default rows last; `None` where it has none.
-fn enable(
+fn enable_config(
     config: &mut CodecConfig,
     codec: Codec,
     enabled: bool,
@@ -91,7 +91,7 @@ fn enable_at(config: &mut CodecConfig, number: u8, enabled: bool, use_red: bool)
     let Some(codec) = codec_at(number) else {
         return WRONG_ARGUMENT;
     };
-    match enable(config, codec, enabled, use_red) {
+    match enable_config(config, codec, enabled, use_red) {
         Some(Ok(())) => DONE,
         Some(Err(_)) => NO_MEMORY,
         None => WRONG_ARGUMENT,

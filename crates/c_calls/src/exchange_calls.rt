@@ -50,7 +50,7 @@ pub(crate) fn place_for_description(alloc: Global) -> Result<Box<Sdp>, AllocErro
 }
 
 /// What this side says, with a place for its exchange.
-fn prepared(
+fn prepared_exchange(
     alloc: Global,
     numbers: &OwnNumbers,
     texts: &OwnTexts<'_>,
@@ -99,7 +99,7 @@ pub extern "C" fn zaxp_exchange_new(
         extensions,
         candidates,
     };
-    match prepared(alloc, numbers, &texts) {
+    match prepared_exchange(alloc, numbers, &texts) {
         Ok((own, mut place)) => {
             *place = Exchange::new(own, Box::into_inner(config.take(alloc)));
             handle.put(place);

@@ -1,7 +1,7 @@
 //! Calls of exchanges in which this side offers.
 
 ghost use Rattle.c_calls.specs.Common.{Of};
-ghost use Rattle.c_calls.specs.ExchangeCalls.{AcceptsAnswer, CreatesOffer, ExchangeGoes, turned};
+ghost use Rattle.c_calls.specs.ExchangeCalls.{AcceptsAnswer, CreatesOffer, ExchangeGoes, turned_exchange};
 ghost use Rattle.c_calls.specs.Prelude.{IsRoomFull, RefusesAnswer, RefusesBoth, RefusesChannels, RefusesMedia, RefusesToOffer, direction_numbered, kind_numbered, kind_rows, with_channels, with_media};
 ghost use Rattle.c_calls.specs.Told.{done, no_memory, no_utf8, wrong_argument};
 ghost use Rattle.c_parts.specs.Fault.{RefusesCall, RefusesBytes, ToldFault, FaultToldAt};
@@ -217,7 +217,7 @@ pub extern "C" fn zaxp_exchange_set_direction(
 ) -> u32
     requires { IsRoomFull handle.old.inner }
     ensures turned { result ≡ done → Of handle.old.inner (λ before.
-        handle.new.inner ≡ Some (turned mid.now (direction_numbered direction) before)) }
+        handle.new.inner ≡ Some (turned_exchange mid.now (direction_numbered direction) before)) }
     ensures same { result ≢ done → handle.new.inner ≡ handle.old.inner }
     ensures statuses { (result ≡ done) ⊎ (result ≡ no_memory) ⊎ (result ≡ no_utf8) ⊎ (result ≡ wrong_argument) }
     ensures wrong { (result ≡ wrong_argument) ↔ (16 < length mid.now) }

@@ -2,7 +2,7 @@
 
 ghost use Rattle.c_calls.specs.Common.{Of};
 ghost use Rattle.c_calls.specs.Prelude.{Described, IsRoomFull, MediaLine, RefusesReading, Sdp, Writable, c_outcome, made};
-ghost use Rattle.c_calls.specs.RoundCalls.{Answered, CantAnswer, CantListOutcomes, ListsOutcomes, locked_of_type, RanRounds, RanHeldRound, cut_to_room};
+ghost use Rattle.c_calls.specs.RoundCalls.{AnsweredRound, CantAnswer, CantListOutcomes, ListsOutcomes, locked_of_type, RanRounds, RanHeldRound, cut_to_room};
 ghost use Rattle.c_calls.specs.Told.{done, no_memory, no_section, no_session, no_utf8, nothing_agreed};
 ghost use Rattle.std.specs.Prelude.{◌≡◌, ◌≢◌, ◌↔◌, ◌⊎◌, [], IfErr, IfNone, IfOk, IfSome, OnErr, OnOk, List, None, Some, ℕ, length, map, slice_get, IsUtf8};
 ghost use Rattle.str0m_signal.specs.session.ReaderAnswers.{Refuses};
@@ -176,7 +176,7 @@ pub extern "C" fn zaxp_config_answer(
     requires own { IsRoomFull own.old.inner }
     ensures same { handle.new.inner ≡ handle.old.inner }
     ensures statuses { (result ≡ done) ⊎ (result ≡ no_memory) ⊎ (result ≡ no_section) ⊎ (result ≡ nothing_agreed) }
-    ensures answered { result ≡ done → Answered handle.old.inner own.old.inner at own.new.inner }
+    ensures answered { result ≡ done → AnsweredRound handle.old.inner own.old.inner at own.new.inner }
     ensures kept { result ≢ done → own.new.inner ≡ own.old.inner }
     ensures missing { Of own.old.inner (λ sdp. (result ≡ no_section) ↔ (slice_get sdp.media_lines at ≡ None)) }
     ensures nothing { result ≡ nothing_agreed → CantAnswer handle.old.inner own.old.inner at }

@@ -1,7 +1,7 @@
 //! What a call answers.
 
 ghost use Rattle.c_calls.specs.Prelude.{Described, RefusesReading, Sdp};
-ghost use Rattle.c_calls.specs.Said.{Puts, Says};
+ghost use Rattle.c_calls.specs.Said.{PutsText, Says};
 ghost use Rattle.c_calls.specs.Told.{done, no_session, no_utf8};
 ghost use Rattle.std.specs.Prelude.{◌≡◌, ◌≢◌, IfOk, Some, List, ℕ, string_bytes, IsUtf8};
 
@@ -26,7 +26,7 @@ pub(crate) const WRONG_ARGUMENT: u32 = 7;
 /// Writes items into the caller's room where they fit, and always how many there are.
 #[tactic(auto, using(crate::proofs::SaidPutting::put_fits, crate::proofs::SaidPutting::put_full))]
 pub(crate) fn put<T: Copy>(items: &[T], room: &mut [T], needed: &mut usize) -> u32
-    ensures { Puts (Some items.now) (room.old, needed.old) (result, room.new, needed.new) }
+    ensures { PutsText (Some items.now) (room.old, needed.old) (result, room.new, needed.new) }
 {
     if copied(items, room, needed) {
         DONE

@@ -2,7 +2,7 @@
 
 ghost use Rattle.c_calls.specs.Common.{Of};
 ghost use Rattle.c_calls.specs.Prelude.{IsRoomFull, first, last, msid_of, simulcast_of};
-ghost use Rattle.c_calls.specs.Said.{Puts, Says};
+ghost use Rattle.c_calls.specs.Said.{PutsText, Says};
 ghost use Rattle.c_calls.specs.SectionTexts.{ids_text, layer_name, layers_both_ways, section_text, text_at, text_numbered};
 ghost use Rattle.std.specs.Prelude.{◌≡◌, ◌++◌, IfOk, Some, filter_map, option_copied, option_map, slice_get, string_bytes};
 
@@ -77,7 +77,7 @@ fn layer_at(simulcast: &Simulcast, index: usize) -> Option<&SimulcastLayer>
 }
 
 fn put_name(simulcast: &Simulcast, index: usize, room: &mut [u8], needed: &mut usize) -> u32
-    ensures { Puts (option_map layer_name (slice_get (layers_both_ways (Some simulcast.now)) index)) (room.old, needed.old) (result, room.new, needed.new) }
+    ensures { PutsText (option_map layer_name (slice_get (layers_both_ways (Some simulcast.now)) index)) (room.old, needed.old) (result, room.new, needed.new) }
 {
     match layer_at(simulcast, index) {
         Some(layer) => put(layer.restriction_id.0.as_str().as_bytes(), room, needed),

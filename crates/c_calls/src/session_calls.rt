@@ -2,7 +2,7 @@
 
 ghost use Rattle.c_calls.specs.Common.{Of};
 ghost use Rattle.c_calls.specs.Prelude.{Described, IsRoomFull, IsJsonText, Reading, Sdp, sdp_text, versioned_text};
-ghost use Rattle.c_calls.specs.Said.{Puts, Says, SaysSome};
+ghost use Rattle.c_calls.specs.Said.{PutsText, Says, SaysSome};
 ghost use Rattle.c_calls.specs.SectionCalls.{mid_at};
 ghost use Rattle.c_calls.specs.SessionCalls.{mid_named, mid_or_empty};
 ghost use Rattle.c_calls.specs.Told.{done, no_session, no_utf8};
@@ -145,7 +145,7 @@ fn mid_named(section: &MediaLine) -> Option<Mid>
 }
 
 fn put_mid(section: &MediaLine, room: &mut [u8], needed: &mut usize) -> u32
-    ensures { Puts (Some (mid_or_empty section.now)) (room.old, needed.old) (result, room.new, needed.new) }
+    ensures { PutsText (Some (mid_or_empty section.now)) (room.old, needed.old) (result, room.new, needed.new) }
 {
     match mid_named(section) {
         Some(mid) => put(mid.as_str().as_bytes(), room, needed),
@@ -154,7 +154,7 @@ fn put_mid(section: &MediaLine, room: &mut [u8], needed: &mut usize) -> u32
 }
 
 fn put_mid_at(sdp: &Sdp, at: usize, room: &mut [u8], needed: &mut usize) -> u32
-    ensures { Puts (mid_at sdp.now at) (room.old, needed.old) (result, room.new, needed.new) }
+    ensures { PutsText (mid_at sdp.now at) (room.old, needed.old) (result, room.new, needed.new) }
 {
     match sdp.media_lines.get(at) {
         Some(section) => put_mid(section, room, needed),
@@ -173,7 +173,7 @@ pub extern "C" fn zaxp_session_mid(
 ) -> u32
     requires { IsRoomFull handle.old.inner }
     ensures same { handle.new.inner ≡ handle.old.inner }
-    ensures says { Of handle.old.inner (λ sdp. Puts (mid_at sdp at) (room.old, needed.old) (result, room.new, needed.new)) }
+    ensures says { Of handle.old.inner (λ sdp. PutsText (mid_at sdp at) (room.old, needed.old) (result, room.new, needed.new)) }
 {
     let sdp = handle.take(alloc);
     let code = put_mid_at(&sdp, at, room, needed);

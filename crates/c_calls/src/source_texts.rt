@@ -1,7 +1,7 @@
 //! What calls write of the sources of a section.
 
 ghost use Rattle.c_calls.specs.Prelude.{infos};
-ghost use Rattle.c_calls.specs.Said.{Puts, Says};
+ghost use Rattle.c_calls.specs.Said.{PutsText, Says};
 ghost use Rattle.c_calls.specs.SourceTexts.{source_text};
 ghost use Rattle.std.specs.Prelude.{◌≡◌, option_map, slice_get};
 
@@ -41,7 +41,7 @@ fn put_source(
     room: &mut [u8],
     needed: &mut usize,
 ) -> u32
-    ensures { Puts (option_map (source_text what) (slice_get infos.now index)) (room.old, needed.old) (result, room.new, needed.new) }
+    ensures { PutsText (option_map (source_text what) (slice_get infos.now index)) (room.old, needed.old) (result, room.new, needed.new) }
 {
     match infos.get(index) {
         Some(info) => put(source_text(info, what).as_bytes(), room, needed),

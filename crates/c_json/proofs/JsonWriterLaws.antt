@@ -1,9 +1,9 @@
 -- Each token that may come next leads to the levels behind it.
 use Rattle.c_json.specs.Description.{IsJsonText}
-use Rattle.c_json.specs.JsonWriter.{Level, object, named, list, closed, json_valued, after_token, open_levels, InObject, InList}
+use Rattle.c_json.specs.JsonWriter.{Level, object, named, list, json_closed, json_valued, after_token, open_levels, InObject, InList}
 use Rattle.c_json.specs.JsonWriter.{WantsJsonValue}
 use Rattle.c_json.specs.JsonWriter.{MayBeJson}
-use Rattle.c_json.specs.JsonWriter.{IsJsonValue, AreMembers, AreJsonItems, IsJsonFront, Leads, IsJsonBegun}
+use Rattle.c_json.specs.JsonWriter.{IsJsonValue, AreMembers, AreJsonItems, IsJsonFront, LeadsJson, IsJsonBegun}
 use Rattle.json.specs.Json as json
 use Rattle.json.specs.Lex.{tokens}
 use Rattle.json.specs.Print.{print, IsPrintable}
@@ -53,8 +53,8 @@ member ts vs k before value rest more same =
 json_no_items : AreJsonItems []
 json_no_items rest more same = record { items = more; written = rest; tokens = refl; same = same }
 
-item : (ts vs : List Token) → AreJsonItems ts → IsJsonValue vs → AreJsonItems (ts ++ vs)
-item ts vs before value rest more same =
+json_item : (ts vs : List Token) → AreJsonItems ts → IsJsonValue vs → AreJsonItems (ts ++ vs)
+json_item ts vs before value rest more same =
     let whole = before (json.item value.written rest) (serde.item value.value more) (ap₂ json.item value.same same) in
     record {
       items = whole.items;
@@ -85,7 +85,7 @@ list_value ts are =
 
 -- ---- a value within levels
 
-json_put_within : (ls : List Level) (ts vs : List Token) → IsJsonFront ls ts → IsJsonValue vs → Leads ls (ts ++ vs)
+json_put_within : (ls : List Level) (ts vs : List Token) → IsJsonFront ls ts → IsJsonValue vs → LeadsJson ls (ts ++ vs)
 json_put_within [] ts vs front value = record {
   value = value.value;
   written = value.written;
@@ -105,48 +105,49 @@ json_put_within (list ∷ ls) ts vs (outer, items, front, are, is) value = (
   outer,
   items ++ vs,
   front,
-  item items vs are value,
+  json_item items vs are value,
   ap (λ t. t ++ vs) is ∙ append_assoc outer (begin_array ∷ items) vs,
 )
 
-put_scalar : (ls : List Level) (ts : List Token) (t : Token) → Leads ls ts → WantsJsonValue ls → IsJsonValue (t ∷ [])
-    → Leads (json_valued ls) (ts ++ t ∷ [])
+put_scalar : (ls : List Level) (ts : List Token) (t : Token) → LeadsJson ls ts → WantsJsonValue ls → IsJsonValue (t ∷ [])
+    → LeadsJson (json_valued ls) (ts ++ t ∷ [])
 put_scalar [] ts t leads wants value = absurd wants
 put_scalar (object ∷ ls) ts t leads wants value = absurd wants
 put_scalar (named ∷ ls) ts t leads wants value = json_put_within (object ∷ ls) ts (t ∷ []) leads value
 put_scalar (list ∷ ls) ts t leads wants value = json_put_within (list ∷ ls) ts (t ∷ []) leads value
 
-begin_members : (ls : List Level) (ts : List Token) → Leads ls ts → WantsJsonValue ls
-    → Leads (object ∷ json_valued ls) (ts ++ begin_object ∷ [])
+begin_members : (ls : List Level) (ts : List Token) → LeadsJson ls ts → WantsJsonValue ls
+    → LeadsJson (object ∷ json_valued ls) (ts ++ begin_object ∷ [])
 begin_members [] ts leads wants = absurd wants
 begin_members (object ∷ ls) ts leads wants = absurd wants
 begin_members (named ∷ ls) ts leads wants = (ts, [], leads, no_members, refl)
 begin_members (list ∷ ls) ts leads wants = (ts, [], leads, no_members, refl)
 
-json_begin_items : (ls : List Level) (ts : List Token) → Leads ls ts → WantsJsonValue ls
-    → Leads (list ∷ json_valued ls) (ts ++ begin_array ∷ [])
+json_begin_items : (ls : List Level) (ts : List Token) → LeadsJson ls ts → WantsJsonValue ls
+    → LeadsJson (list ∷ json_valued ls) (ts ++ begin_array ∷ [])
 json_begin_items [] ts leads wants = absurd wants
 json_begin_items (object ∷ ls) ts leads wants = absurd wants
 json_begin_items (named ∷ ls) ts leads wants = (ts, [], leads, json_no_items, refl)
 json_begin_items (list ∷ ls) ts leads wants = (ts, [], leads, json_no_items, refl)
 
-end_members : (ls : List Level) (ts : List Token) → Leads ls ts → InObject ls → Leads (closed ls) (ts ++ end_object ∷ [])
+end_members : (ls : List Level) (ts : List Token) → LeadsJson ls ts → InObject ls → LeadsJson (json_closed ls) (ts ++ end_object ∷ [])
 end_members [] ts leads inside = absurd inside
 end_members (object ∷ ls) ts (outer, members, front, are, is) inside =
-    subst (Leads ls) (sym (ap (λ t. t ++ end_object ∷ []) is ∙ append_assoc outer (begin_object ∷ members) (end_object ∷ [])))
+    subst (LeadsJson ls) (sym (ap (λ t. t ++ end_object ∷ []) is ∙ append_assoc outer (begin_object ∷ members) (end_object ∷ [])))
     (json_put_within ls outer (begin_object ∷ (members ++ end_object ∷ [])) front (object_value members are))
 end_members (named ∷ ls) ts leads inside = absurd inside
 end_members (list ∷ ls) ts leads inside = absurd inside
 
-json_end_items : (ls : List Level) (ts : List Token) → Leads ls ts → InList ls → Leads (closed ls) (ts ++ end_array ∷ [])
+json_end_items : (ls : List Level) (ts : List Token) → LeadsJson ls ts → InList ls → LeadsJson (json_closed ls) (ts ++ end_array ∷ [])
 json_end_items [] ts leads inside = absurd inside
 json_end_items (object ∷ ls) ts leads inside = absurd inside
 json_end_items (named ∷ ls) ts leads inside = absurd inside
 json_end_items (list ∷ ls) ts (outer, items, front, are, is) inside =
-    subst (Leads ls) (sym (ap (λ t. t ++ end_array ∷ []) is ∙ append_assoc outer (begin_array ∷ items) (end_array ∷ [])))
+    subst (LeadsJson ls) (sym (ap (λ t. t ++ end_array ∷ []) is ∙ append_assoc outer (begin_array ∷ items) (end_array ∷ [])))
     (json_put_within ls outer (begin_array ∷ (items ++ end_array ∷ [])) front (list_value items are))
 
-put_key : (ls : List Level) (ts : List Token) (k : List ℕ) → Leads ls ts → InObject ls → Leads (named ∷ closed ls) (ts ++ key k ∷ [])
+put_key : (ls : List Level) (ts : List Token) (k : List ℕ) → LeadsJson ls ts → InObject ls
+    → LeadsJson (named ∷ json_closed ls) (ts ++ key k ∷ [])
 put_key [] ts k leads inside = absurd inside
 put_key (object ∷ ls) ts k (outer, members, front, are, is) inside = (
   outer,
@@ -159,7 +160,7 @@ put_key (object ∷ ls) ts k (outer, members, front, are, is) inside = (
 put_key (named ∷ ls) ts k leads inside = absurd inside
 put_key (list ∷ ls) ts k leads inside = absurd inside
 
-put_token : (ls : List Level) (ts : List Token) (t : Token) → Leads ls ts → MayBeJson ls t → Leads (after_token ls t) (ts ++ t ∷ [])
+put_token : (ls : List Level) (ts : List Token) (t : Token) → LeadsJson ls ts → MayBeJson ls t → LeadsJson (after_token ls t) (ts ++ t ∷ [])
 put_token ls ts begin_object leads may = begin_members ls ts leads may
 put_token ls ts end_object leads may = end_members ls ts leads may
 put_token ls ts begin_array leads may = json_begin_items ls ts leads may
@@ -189,21 +190,21 @@ may_be_printed ls bad may = absurd may
 pub levels_push : (old new : List Token) (t : Token) → new ≡ old ++ t ∷ [] → open_levels new ≡ after_token (open_levels old) t
 levels_push old new t is = ap open_levels is ∙ fold_push after_token [] old t
 
-json_led : (old new : List Token) (t : Token) → new ≡ old ++ t ∷ [] → Leads (after_token (open_levels old) t) (old ++ t ∷ [])
-    → Leads (open_levels new) new
-json_led old new t is leads = subst (λ ts. Leads (open_levels ts) ts) (sym is)
-    (subst (λ ls. Leads ls (old ++ t ∷ [])) (sym (fold_push after_token [] old t)) leads)
+json_led : (old new : List Token) (t : Token) → new ≡ old ++ t ∷ [] → LeadsJson (after_token (open_levels old) t) (old ++ t ∷ [])
+    → LeadsJson (open_levels new) new
+json_led old new t is leads = subst (λ ts. LeadsJson (open_levels ts) ts) (sym is)
+    (subst (λ ls. LeadsJson ls (old ++ t ∷ [])) (sym (fold_push after_token [] old t)) leads)
 
 json_begun_behind : {E : Type 0} (r : Result (Unit {0}) E) (old new : Written) (t : Token) → Writes r old new t
     → IsJsonBegun old.before old.tokens
-    → Leads (after_token (open_levels old.tokens) t) (old.tokens ++ t ∷ []) → IsJsonBegun new.before new.tokens
+    → LeadsJson (after_token (open_levels old.tokens) t) (old.tokens ++ t ∷ []) → IsJsonBegun new.before new.tokens
 json_begun_behind (Ok done) old new t writes is leads = record {
   empty = writes.room.0 ∙ is.empty;
   leads = json_led old.tokens new.tokens t writes.ok leads;
 }
 json_begun_behind (Err error) old new t writes is leads = record {
   empty = writes.room.0 ∙ is.empty;
-  leads = subst (λ ts. Leads (open_levels ts) ts) (sym writes.err) is.leads;
+  leads = subst (λ ts. LeadsJson (open_levels ts) ts) (sym writes.err) is.leads;
 }
 
 pub begun_token : {E : Type 0} (r : Result (Unit {0}) E) (old new : Written) (t : Token) → Writes r old new t
@@ -222,11 +223,11 @@ begun_number r old new n fits writes is wants = json_begun_behind r old new _ wr
 pub begun_object : (before : List ℕ) (ts : List Token) → before ≡ [] → ts ≡ begin_object ∷ [] → IsJsonBegun before ts
 begun_object before ts empty is = record {
   empty = empty;
-  leads = subst (λ t. Leads (open_levels t) t) (sym is) ([], [], refl, no_members, refl);
+  leads = subst (λ t. LeadsJson (open_levels t) t) (sym is) ([], [], refl, no_members, refl);
 }
 
 -- a member, and an item, lead where they began
-pub behind_member : (ls : List Level) → InObject ls → object ∷ closed ls ≡ ls
+pub behind_member : (ls : List Level) → InObject ls → object ∷ json_closed ls ≡ ls
 behind_member [] inside = absurd inside
 behind_member (object ∷ ls) inside = refl
 behind_member (named ∷ ls) inside = absurd inside
@@ -255,4 +256,4 @@ json_value_text text ts is read value =
 pub whole_json_text : (before text : List ℕ) (ts : List Token) → IsJsonBegun before ts → open_levels ts ≡ [] → text ≡ before ++ print ts
     → tokens (print ts) ≡ ts → IsJsonText text
 whole_json_text before text ts begun none is read = json_value_text text ts (is ∙ ap (λ b. b ++ print ts) begun.empty) read
-    (subst (λ ls. Leads ls ts) none begun.leads)
+    (subst (λ ls. LeadsJson ls ts) none begun.leads)

@@ -13,9 +13,9 @@ pub data Level : Type 0 where
   list : Level
 
 -- without the innermost one
-abbrev pub closed : List Level → List Level
-closed [] = []
-closed (l ∷ ls) = ls
+abbrev pub json_closed : List Level → List Level
+json_closed [] = []
+json_closed (l ∷ ls) = ls
 
 -- behind a value
 abbrev pub json_valued : List Level → List Level
@@ -27,10 +27,10 @@ json_valued (list ∷ ls) = list ∷ ls
 -- behind a token
 abbrev pub after_token : List Level → Token → List Level
 after_token ls begin_object = object ∷ json_valued ls
-after_token ls end_object = closed ls
+after_token ls end_object = json_closed ls
 after_token ls begin_array = list ∷ json_valued ls
-after_token ls end_array = closed ls
-after_token ls (key k) = named ∷ closed ls
+after_token ls end_array = json_closed ls
+after_token ls (key k) = named ∷ json_closed ls
 after_token ls (string s) = json_valued ls
 after_token ls (number s) = json_valued ls
 after_token ls (boolean b) = json_valued ls
@@ -114,13 +114,13 @@ IsJsonFront (named ∷ ls) ts = ⊥
 IsJsonFront (list ∷ ls) ts = (outer : List Token) × (items : List Token) × IsJsonFront ls outer × AreJsonItems items × (ts ≡ outer ++ begin_array ∷ items)
 
 -- the tokens that lead there; where none is open any more, a value
-abbrev pub Leads : List Level → List Token → Type 0
-Leads [] ts = IsJsonValue ts
-Leads (object ∷ ls) ts = (outer : List Token) × (members : List Token) × IsJsonFront ls outer × AreMembers members × (ts ≡ outer ++ begin_object ∷ members)
-Leads (named ∷ ls) ts = IsJsonFront (object ∷ ls) ts
-Leads (list ∷ ls) ts = IsJsonFront (list ∷ ls) ts
+abbrev pub LeadsJson : List Level → List Token → Type 0
+LeadsJson [] ts = IsJsonValue ts
+LeadsJson (object ∷ ls) ts = (outer : List Token) × (members : List Token) × IsJsonFront ls outer × AreMembers members × (ts ≡ outer ++ begin_object ∷ members)
+LeadsJson (named ∷ ls) ts = IsJsonFront (object ∷ ls) ts
+LeadsJson (list ∷ ls) ts = IsJsonFront (list ∷ ls) ts
 
 -- what is written leads to its levels, in a room that was empty
 pub record IsJsonBegun (before : List ℕ) (tokens : List Token) : Type 0 where
   pub empty : before ≡ []
-  pub leads : Leads (open_levels tokens) tokens
+  pub leads : LeadsJson (open_levels tokens) tokens

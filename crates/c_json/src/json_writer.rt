@@ -1,7 +1,7 @@
 //! JSON as it is written: objects and lists, one in another, each member and each item straight into the text.
 
 ghost use Rattle.c_json.specs.Description.{IsJsonText};
-ghost use Rattle.c_json.specs.JsonWriter.{object, list, closed, json_valued, after_token, InObject, InList, WantsJsonValue, MayBeJson};
+ghost use Rattle.c_json.specs.JsonWriter.{object, list, json_closed, json_valued, after_token, InObject, InList, WantsJsonValue, MayBeJson};
 ghost use Rattle.json.specs.Reads.{token_of};
 ghost use Rattle.std.specs.Prelude.{◌≡◌, ◌∷◌, [], IfOk, OnOk};
 ghost use Rattle.std.specs.String.{string_bytes};
@@ -206,7 +206,7 @@ impl JsonWriter {
     /// The end of the innermost object.
     pub(crate) fn end_object(&mut self) -> Result<(), AllocError>
         requires { InObject self.old }
-        ensures { OnOk result (self.new ≡ closed self.old) }
+        ensures { OnOk result (self.new ≡ json_closed self.old) }
     {
         self.put(Token::EndObject)
     }
@@ -214,7 +214,7 @@ impl JsonWriter {
     /// The end of the innermost list.
     pub(crate) fn end_list(&mut self) -> Result<(), AllocError>
         requires { InList self.old }
-        ensures { OnOk result (self.new ≡ closed self.old) }
+        ensures { OnOk result (self.new ≡ json_closed self.old) }
     {
         self.put(Token::EndArray)
     }

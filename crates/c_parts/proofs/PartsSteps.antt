@@ -102,14 +102,14 @@ module _ {M : Type 1} {𝓤 : Ura M} (𝓛 : Logic 𝓤) {K : Type 0} {Γ : List
       await t soaks $ pick t (λ r. split t $ split t $ move t (2 ∷ 1 ∷ 0 ∷ []) $ pick t (λ ls. split t $ drop t $ k r ls))
 
 module _ {M : Type 1} {𝓤 : Ura M} {𝓛 : Logic 𝓤} {K : Type 0} {Γ : List (Item 𝓤)} {G : Goal 𝓤 𝓛.H} where
-  pub takes : K → {P : Fml} {tokens : Item 𝓤} → Step K 𝓛 (‵ P ∷ tokens ∷ Γ) G ((tokens ⊛ ‵ (fsep P ftrue)) ∷ Γ) G
-  takes t = step (λ s. split t $ move t (1 ∷ []) $ fsplit t $ move t (1 ∷ []) $ drop t $ s)
+  pub takes_parts : K → {P : Fml} {tokens : Item 𝓤} → Step K 𝓛 (‵ P ∷ tokens ∷ Γ) G ((tokens ⊛ ‵ (fsep P ftrue)) ∷ Γ) G
+  takes_parts t = step (λ s. split t $ move t (1 ∷ []) $ fsplit t $ move t (1 ∷ []) $ drop t $ s)
 
-  pub hands : K → {P : Fml} {tokens : Item 𝓤} → Step K 𝓛 ((tokens ⊛ ‵ (fsep P ftrue)) ∷ Γ) G (‵ P ∷ tokens ∷ Γ) G
-  hands t = step (λ s. nothing t $ move t (1 ∷ 0 ∷ []) $ fjoin t $ move t (1 ∷ 0 ∷ []) $ join t $ s)
+  pub hands_parts : K → {P : Fml} {tokens : Item 𝓤} → Step K 𝓛 ((tokens ⊛ ‵ (fsep P ftrue)) ∷ Γ) G (‵ P ∷ tokens ∷ Γ) G
+  hands_parts t = step (λ s. nothing t $ move t (1 ∷ 0 ∷ []) $ fjoin t $ move t (1 ∷ 0 ∷ []) $ join t $ s)
 
-  pub spent : K → Step K 𝓛 (‵ (fsep ftrue ftrue) ∷ Γ) G Γ G
-  spent t = step (λ s. nothing t $ nothing t $ fjoin t $ s)
+  pub spent_parts : K → Step K 𝓛 (‵ (fsep ftrue ftrue) ∷ Γ) G Γ G
+  spent_parts t = step (λ s. nothing t $ nothing t $ fjoin t $ s)
 
 module _ {M : Type 1} {𝓤 : Ura M} {𝓛 : Logic 𝓤} {K : Type 0} {Γ : List (Item 𝓤)} where
   open 𝓛 use {H}

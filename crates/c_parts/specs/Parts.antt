@@ -7,9 +7,9 @@ use base.Fml.{Fml, ftrue}
 use denote.RattleType.{RattleType}
 use denote.RawPtr.{Ptr}
 
-abbrev pub owned : (R : RattleType) → Global → Ptr → Option R.Denot → Fml
-owned R alloc p None = ftrue
-owned R alloc p (Some x) = box_owns (ghosts.dealloc_token alloc) R p x
+abbrev pub parts_owned : (R : RattleType) → Global → Ptr → Option R.Denot → Fml
+parts_owned R alloc p None = ftrue
+parts_owned R alloc p (Some x) = box_owns (ghosts.dealloc_token alloc) R p x
 
 -- ---- handles that own something
 

@@ -1,7 +1,7 @@
 //! Copies of parts of a description, each by the call of its own type.
 
 use crate::lines::push_printed;
-use crate::spoken::fail;
+use crate::spoken::fail_to_speak;
 use format_cases::Answer;
 use std::alloc::AllocError;
 use std::fmt::Display;
@@ -12,13 +12,13 @@ use str0m_signal::{
 
 /// A line for each copy: of the session's bandwidth and its attributes, of the first section's media type, stream, attributes and
 /// layers.
-pub(crate) fn copied(answer: &mut Answer, text: &str) {
+pub(crate) fn copied_layer(answer: &mut Answer, text: &str) {
     match &sdp_parser(answer.alloc(), text) {
         Ok((sdp, _)) => {
             copies_of_session(answer, &sdp.session);
             of_sections(answer, sdp.media_lines.as_slice());
         }
-        Err(error) => fail(answer, error),
+        Err(error) => fail_to_speak(answer, error),
     }
 }
 

@@ -23,7 +23,7 @@ pub(crate) fn answers(answer: &mut Answer, word: &str, text: &str) -> bool {
         "offer-text" => offer(answer, text),
         "answer-text" => answer_printed(answer, text),
         "cut" => cuts::cut(answer, text),
-        "copied-parts" => copied_parts::copied(answer, text),
+        "copied-parts" => copied_parts::copied_layer(answer, text),
         "without-memory" => without_memory::read(answer, text),
         _ => return of_lines(answer, word, text),
     }

@@ -117,11 +117,11 @@ fn in_rid(answer: &mut Answer, field: &str, text: &str) -> MediaAttribute {
         "rid" => rid_of(answer, text, "send", none),
         "rid-way" => rid_of(answer, "1", "x\r\na=mid:9", none),
         "rid-key" => {
-            let restriction = noted(answer, text, "2");
+            let restriction = noted_text(answer, text, "2");
             rid_of(answer, "1", "send", restriction)
         }
         "rid-value" => {
-            let restriction = noted(answer, "2", text);
+            let restriction = noted_text(answer, "2", text);
             rid_of(answer, "1", "send", restriction)
         }
         _ => in_line(field, text_of(answer, text)),
@@ -163,7 +163,7 @@ fn in_layer(answer: &mut Answer, field: &str, text: &str) -> MediaAttribute {
         "send" => (layer(answer, text, None), none),
         "recv" => (none, layer(answer, text, None)),
         _ => {
-            let notes = noted(answer, "x", text);
+            let notes = noted_text(answer, "x", text);
             (layer(answer, "1", Some(notes)), none)
         }
     };
@@ -189,7 +189,7 @@ fn layer(
 }
 
 /// A list of one key and its value.
-fn noted(answer: &mut Answer, key: &str, value: &str) -> Items<(Text, Text)> {
+fn noted_text(answer: &mut Answer, key: &str, value: &str) -> Items<(Text, Text)> {
     let (key, value) = (text_of(answer, key), text_of(answer, value));
     one(answer, (key, value))
 }

@@ -9,9 +9,9 @@ use str0m_signal::{Items, RestrictionId, SimulcastLayer, Text};
 pub(crate) fn answers(answer: &mut Answer, asked: &str, text: &str) -> bool {
     let alloc = answer.alloc();
     match asked {
-        "layer" => copied(answer, &layer_of(alloc, text)),
+        "layer" => copied_layer(answer, &layer_of(alloc, text)),
         "empty" => empty(answer),
-        "random-msid" => random_names::drawn(answer, text),
+        "random-msid" => random_names::drawn_name(answer, text),
         _ => return false,
     }
     true
@@ -39,7 +39,7 @@ fn layer_of(alloc: Global, text: &str) -> Result<SimulcastLayer, AllocError> {
 }
 
 /// The copy of a layer, and what is noted of it.
-fn copied(answer: &mut Answer, made: &Result<SimulcastLayer, AllocError>) {
+fn copied_layer(answer: &mut Answer, made: &Result<SimulcastLayer, AllocError>) {
     match made {
         Ok(layer) => shown(answer, &layer.clone()),
         Err(_) => answer.refuse(),

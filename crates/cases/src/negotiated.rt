@@ -1,6 +1,6 @@
 //! Rounds of negotiation with a whole text.
 
-use crate::spoken::{behind_header, fail, push_refused};
+use crate::spoken::{behind_header, fail_to_speak, push_refused};
 use format_cases::{Answer, configuration, is_same, show_rows};
 use str0m_signal::{
     CodecConfig, MediaKind, NegotiationError, SdpError, locked_rows, negotiate_text,
@@ -57,7 +57,7 @@ fn locked(answer: &mut Answer, own: &str, text: &str) {
     let mut config = configuration(answer, own);
     match &negotiate_text(&mut config, text) {
         Ok(outcomes) => show_outcomes(answer, outcomes.as_slice()),
-        Err(error) => fail(answer, error),
+        Err(error) => fail_to_speak(answer, error),
     }
     show_locked(answer, &config, "audio ", MediaKind::Audio);
     show_locked(answer, &config, "video ", MediaKind::Video);

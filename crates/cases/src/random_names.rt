@@ -45,7 +45,7 @@ impl Rng for Counter {
 }
 
 /// The names that are drawn of the number that the text says and those after it, and the number that comes next.
-pub(crate) fn drawn(answer: &mut Answer, text: &str) {
+pub(crate) fn drawn_name(answer: &mut Answer, text: &str) {
     match text.parse::<u32>() {
         Ok(first) => drawn_from(answer, first),
         Err(_) => answer.no_such("number"),
@@ -56,8 +56,8 @@ pub(crate) fn drawn(answer: &mut Answer, text: &str) {
 fn drawn_from(answer: &mut Answer, first: u32) {
     let mut counter = Counter(first);
     match &Msid::random(answer.alloc(), &mut counter) {
-        Ok(drawn) => {
-            answer.show(drawn);
+        Ok(drawn_name) => {
+            answer.show(drawn_name);
             answer.push(" ");
             answer.show(&counter.0);
         }

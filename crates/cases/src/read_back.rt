@@ -2,8 +2,8 @@
 
 use crate::made_sections::push_made;
 use crate::negotiated::show_outcomes;
-use crate::spoken::{description, fail};
-use crate::writable::changed;
+use crate::spoken::{description, fail_to_speak};
+use crate::writable::changed_attribute;
 use format_cases::{Answer, configuration, show_rows};
 use str0m_signal::{
     CodecConfig, PayloadParams, Sdp, SdpError, is_writable, negotiate_text, sdp_parser, section_of,
@@ -45,7 +45,7 @@ fn push_made_of_first(answer: &mut Answer, sdp: &Sdp, rows: &[PayloadParams]) {
 /// `read-back ROWS | INDEX LINES | CHANGE`: whether the rows come back from the section at the index.
 fn read_back(answer: &mut Answer, rows: &[PayloadParams], text: &str) {
     let (index, text) = text.split_once(' ').unwrap_or((text, ""));
-    if let Some(sdp) = &changed(answer, text) {
+    if let Some(sdp) = &changed_attribute(answer, text) {
         come_back_at(answer, sdp, index, rows);
     }
 }
@@ -68,7 +68,7 @@ fn negotiated_back(answer: &mut Answer, config: &mut CodecConfig, text: &str) {
 fn negotiated_and_back(answer: &mut Answer, config: &mut CodecConfig, text: &str) {
     match &negotiate_text(config, text) {
         Ok(outcomes) => show_outcomes(answer, outcomes.as_slice()),
-        Err(error) => fail(answer, error),
+        Err(error) => fail_to_speak(answer, error),
     }
 }
 
@@ -88,7 +88,7 @@ fn first_back(answer: &mut Answer, config: &mut CodecConfig, text: &str) {
 fn add_back(answer: &mut Answer, read: &Result<(Sdp, &str), SdpError>, rows: &[PayloadParams]) {
     match read {
         Ok((sdp, _)) => add_sections_back(answer, sdp, rows),
-        Err(error) => fail(answer, error),
+        Err(error) => fail_to_speak(answer, error),
     }
 }
 
@@ -150,7 +150,7 @@ fn compare_read(
     match read {
         Ok((sdp, rest)) if rest.is_empty() => compare_at(answer, sdp, index, rows),
         Ok(_) => answer.push("unread lines"),
-        Err(error) => fail(answer, error),
+        Err(error) => fail_to_speak(answer, error),
     }
 }
 
@@ -160,14 +160,14 @@ fn compare_at(answer: &mut Answer, sdp: &Sdp, index: usize, rows: &[PayloadParam
         Some(section) => {
             let found = section.rtp_params();
             if let Some(found) = answer.made(&found) {
-                compare(answer, found.as_slice(), rows);
+                compare_read_back(answer, found.as_slice(), rows);
             }
         }
-        None => compare(answer, &[], rows),
+        None => compare_read_back(answer, &[], rows),
     }
 }
 
-fn compare(answer: &mut Answer, found: &[PayloadParams], rows: &[PayloadParams]) {
+fn compare_read_back(answer: &mut Answer, found: &[PayloadParams], rows: &[PayloadParams]) {
     if found == rows {
         answer.push("equal");
     } else {

@@ -1,7 +1,7 @@
 //! What sessions say, and what descriptions say in their session or their sections.
 
 use crate::said_by_both::{add_credentials, add_fingerprint, add_flag, add_foundations, add_setup};
-use crate::spoken::{description, fail, session};
+use crate::spoken::{description, fail_to_speak, session};
 use format_cases::Answer;
 use str0m_signal::{DistinctCandidates, Sdp, SdpError, Session};
 
@@ -31,7 +31,7 @@ fn of_description(answer: &mut Answer, word: &str, text: &str) {
 fn asked(answer: &mut Answer, word: &str, sdp: &mut Sdp) {
     match word {
         "description-says" => description_says(answer, sdp),
-        "emptied" => emptied(answer, sdp),
+        "emptied" => emptied_session(answer, sdp),
         _ => consistency(answer, sdp),
     }
 }
@@ -94,12 +94,12 @@ fn consistency(answer: &mut Answer, sdp: &Sdp) {
     match &sdp.assert_consistency() {
         Ok(()) => answer.push("consistent"),
         Err(SdpError::Inconsistent(message)) => answer.push(message.as_str()),
-        Err(error) => fail(answer, error),
+        Err(error) => fail_to_speak(answer, error),
     }
 }
 
 /// The same of one whose first section was taken its attributes.
-fn emptied(answer: &mut Answer, sdp: &mut Sdp) {
+fn emptied_session(answer: &mut Answer, sdp: &mut Sdp) {
     if let Some(section) = sdp.media_lines.0.first_mut() {
         section.attrs.0.clear();
     }

@@ -1,6 +1,6 @@
 //! The rows that sections describe, as `sdpshow rows` prints them without the mid.
 
-use crate::spoken::{behind_header, fail, section};
+use crate::spoken::{behind_header, fail_to_speak, section};
 use format_cases::Answer;
 use std::fmt::Display;
 use str0m_signal::{
@@ -30,7 +30,7 @@ fn rows(answer: &mut Answer, text: &str) {
 fn rows_read(answer: &mut Answer, read: &Result<(Sdp, &str), SdpError>) {
     match read {
         Ok((sdp, rest)) => show_section_rows(answer, sdp, rest),
-        Err(error) => fail(answer, error),
+        Err(error) => fail_to_speak(answer, error),
     }
 }
 

@@ -15,7 +15,7 @@ pub(crate) fn behind_header(answer: &mut Answer, lines: &str) -> String {
 }
 
 /// Answers why a text is refused, and nothing else.
-pub(crate) fn fail(answer: &mut Answer, error: &SdpError) {
+pub(crate) fn fail_to_speak(answer: &mut Answer, error: &SdpError) {
     match error {
         SdpError::Memory => answer.refuse(),
         error => answer.fail(error),
@@ -28,7 +28,7 @@ pub(crate) fn description(answer: &mut Answer, lines: &str) -> Option<Sdp> {
     match sdp_parser(answer.alloc(), text.as_str()) {
         Ok((sdp, _)) => Some(sdp),
         Err(error) => {
-            fail(answer, &error);
+            fail_to_speak(answer, &error);
             None
         }
     }
@@ -40,7 +40,7 @@ pub(crate) fn session(answer: &mut Answer, lines: &str) -> Option<Session> {
     match session_parser(answer.alloc(), text.as_str()) {
         Ok((session, _)) => Some(session),
         Err(error) => {
-            fail(answer, &error);
+            fail_to_speak(answer, &error);
             None
         }
     }
@@ -50,7 +50,7 @@ pub(crate) fn session(answer: &mut Answer, lines: &str) -> Option<Session> {
 pub(crate) fn add_attribute(answer: &mut Answer, section: &mut MediaLine, line: &str) {
     match media_attribute_line(answer.alloc(), line) {
         Ok((attribute, _)) => answer.note(section.attrs.push(attribute)),
-        Err(error) => fail(answer, &error),
+        Err(error) => fail_to_speak(answer, &error),
     }
 }
 

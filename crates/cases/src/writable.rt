@@ -26,7 +26,7 @@ pub(crate) fn answers(answer: &mut Answer, word: &str, text: &str) -> bool {
 /// `INDEX LINES | CHANGE`: whether the changed description is writable at the index.
 fn writable(answer: &mut Answer, text: &str) {
     let (index, text) = text.split_once(' ').unwrap_or((text, ""));
-    if let Some(sdp) = &changed(answer, text) {
+    if let Some(sdp) = &changed_attribute(answer, text) {
         push_writable_at(answer, sdp, index);
     }
 }
@@ -86,7 +86,7 @@ fn added<'a>(printed: &'a str, before: &str, session: &str) -> &'a str {
 }
 
 /// `LINES | CHANGE`: the description of the lines, changed.
-pub(crate) fn changed(answer: &mut Answer, text: &str) -> Option<Sdp> {
+pub(crate) fn changed_attribute(answer: &mut Answer, text: &str) -> Option<Sdp> {
     let (lines, change) = text.split_once(" | ").unwrap_or((text, ""));
     let mut sdp = description(answer, lines);
     if let Some(sdp) = &mut sdp {

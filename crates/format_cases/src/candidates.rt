@@ -88,10 +88,14 @@ fn candidate_socket(answer: &mut Answer, socket: Option<SocketAddr>) {
 fn again(answer: &mut Answer, found: &Candidate) {
     let printed = printed(answer, found);
     let read = candidate(answer.alloc(), printed.as_str());
-    compared(answer, found, &read);
+    compared_candidates(answer, found, &read);
 }
 
-fn compared(answer: &mut Answer, found: &Candidate, read: &Result<Option<Candidate>, AllocError>) {
+fn compared_candidates(
+    answer: &mut Answer,
+    found: &Candidate,
+    read: &Result<Option<Candidate>, AllocError>,
+) {
     match read {
         Ok(Some(again)) if again == found => answer.push("the same"),
         Ok(Some(_)) => answer.push("another"),

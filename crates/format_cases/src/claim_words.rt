@@ -75,7 +75,7 @@ fn unclaimed_in<C: Claimed>(answer: &mut Answer, claimed: &str, unlocked: &str) 
 }
 
 /// `unclaimed SET | SET`: the first type that is in neither set, of which the second has the types of open rows.
-pub(crate) fn unclaimed(answer: &mut Answer, text: &str) {
+pub(crate) fn unclaimed_types(answer: &mut Answer, text: &str) {
     let (claimed, unlocked) = sides(answer, text);
     let table = unclaimed_in::<[bool; 128]>(answer, claimed, unlocked);
     let mask = unclaimed_in::<ClaimMask>(answer, claimed, unlocked);

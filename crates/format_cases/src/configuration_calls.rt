@@ -42,7 +42,7 @@ fn enable_other(
 }
 
 /// `enable CODEC`, `enable CODEC red` or `enable CODEC plain`: with RED, or without it where it could have one.
-fn enable(
+fn enable_codec(
     answer: &mut Answer,
     config: &mut CodecConfig,
     text: &str,
@@ -120,8 +120,8 @@ fn call(answer: &mut Answer, config: &mut CodecConfig, text: &str) -> Result<(),
     let (name, rest) = word(text);
     match name {
         "defaults" => set_defaults(answer, config),
-        "enable" => enable(answer, config, rest, true),
-        "disable" => enable(answer, config, rest, false),
+        "enable" => enable_codec(answer, config, rest, true),
+        "disable" => enable_codec(answer, config, rest, false),
         "add" => add(answer, config, rest),
         "h264" => add_h264(answer, config, rest),
         "h265" => add_triple(answer, config, rest, false),

@@ -84,7 +84,7 @@ fn pairs_of<'a>(answer: &mut Answer, text: &'a str) -> Vec<(&'a str, &'a str)> {
     pairs
 }
 
-fn joined(answer: &mut Answer, params: &Result<Vec<FormatParam>, AllocError>) {
+fn joined_words(answer: &mut Answer, params: &Result<Vec<FormatParam>, AllocError>) {
     match params {
         Ok(params) => show_params(answer, params.as_slice()),
         Err(_) => answer.refuse(),
@@ -105,7 +105,7 @@ fn show_params(answer: &mut Answer, params: &[FormatParam]) {
 pub(crate) fn pairs(answer: &mut Answer, text: &str) {
     let pairs = pairs_of(answer, text);
     let read = FormatParam::parse_pairs(answer.alloc(), pairs.as_slice());
-    joined(answer, &read);
+    joined_words(answer, &read);
 }
 
 /// The format that the line says.
@@ -124,7 +124,7 @@ pub(crate) fn line(answer: &mut Answer, text: &str) {
 pub(crate) fn parameters(answer: &mut Answer, text: &str) {
     let format = said(answer, text);
     let params = format.to_format_param(answer.alloc());
-    joined(answer, &params);
+    joined_words(answer, &params);
 }
 
 /// `triple LINE`: whose profile, tier and level the format of the line has.

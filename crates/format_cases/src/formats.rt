@@ -33,10 +33,10 @@ fn of_configurations(answer: &mut Answer, word: &str, text: &str) -> bool {
     match word {
         "configuration" => row_words::configuration(answer, text),
         "match" => row_words::best(answer, text),
-        "meet" => row_words::met(answer, text),
+        "meet" => row_words::met_row(answer, text),
         "kind" => row_words::kind(answer, text, false),
         "offer" => row_words::kind(answer, text, true),
-        "maximum" => row_words::maximum(answer, text),
+        "maximum" => row_words::maximum_score(answer, text),
         "has" => row_words::has(answer, text),
         _ => return false,
     }
@@ -59,9 +59,9 @@ fn of_rows(answer: &mut Answer, word: &str, text: &str) -> bool {
 fn of_rounds(answer: &mut Answer, word: &str, text: &str) -> bool {
     match word {
         "rounds" => round_words::rounds(answer, text),
-        "together" => round_words::together(answer, text),
+        "together" => round_words::run_rounds_together(answer, text),
         "claims" => claim_words::claims(answer, text),
-        "unclaimed" => claim_words::unclaimed(answer, text),
+        "unclaimed" => claim_words::unclaimed_types(answer, text),
         "distances" => round_words::distances(answer, text),
         _ => return false,
     }

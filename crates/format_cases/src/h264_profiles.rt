@@ -11,7 +11,7 @@ pub(crate) fn answers(answer: &mut Answer, asked: &str, text: &str) -> bool {
         "h264" => named(answer, text),
         "h264-fallback" => h264_shown(answer, H264ProfileLevel::FALLBACK),
         "h264-levels-of-high" => levels_of_high(answer),
-        "h264-lower" => lower(answer, text),
+        "h264-lower" => lower_profile(answer, text),
         _ => return false,
     }
     true
@@ -55,7 +55,7 @@ fn levels_of_high(answer: &mut Answer) {
 }
 
 /// The id of the lower of two levels, `OWN OTHER`, each in hexadecimal or `-` for none.
-fn lower(answer: &mut Answer, text: &str) {
+fn lower_profile(answer: &mut Answer, text: &str) {
     let (own, other) = word(text);
     match (id_or_dash(own), id_or_dash(other)) {
         (Some(own), Some(other)) => lower_of(answer, own, other),

@@ -13,7 +13,7 @@ pub(crate) fn answers(answer: &mut Answer, word: &str, text: &str) -> bool {
         "rid" => answer.push(Rid::from(text).as_str()),
         "rid-printed" => answer.show(&Rid::from(text)),
         "same-text" => answer.push(same_text(text)),
-        "receiving" => answer.push(receiving(text)),
+        "receiving" => answer.push(receiving_direction(text)),
         "direction" => ways(answer, direction(text)),
         "direction-answered" => answered(answer, text),
         _ => return of_held_texts(answer, word, text),
@@ -50,7 +50,7 @@ fn same_text(text: &str) -> &'static str {
 }
 
 /// Whether the side that describes itself so is ready to receive.
-fn receiving(text: &str) -> &'static str {
+fn receiving_direction(text: &str) -> &'static str {
     match direction(text) {
         Some(direction) if direction.sdp_is_receiving() => "yes",
         Some(_) => "no",

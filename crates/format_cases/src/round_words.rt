@@ -114,7 +114,7 @@ fn run_again(
 }
 
 /// `together ROWS | ROUND | ROUND`: rounds in one call, their outcomes and the rows that the last one leaves.
-pub(crate) fn together(answer: &mut Answer, text: &str) {
+pub(crate) fn run_rounds_together(answer: &mut Answer, text: &str) {
     let (own, said) = sides(answer, text);
     let mut config = config_of(answer, own);
     let rounds = rounds_of(answer, said);

@@ -80,7 +80,7 @@ pub(crate) fn best(answer: &mut Answer, text: &str) {
 }
 
 /// `meet DIRECTION ROWS | ROW`: the type under which the remote row of the direction is met.
-pub(crate) fn met(answer: &mut Answer, text: &str) {
+pub(crate) fn met_row(answer: &mut Answer, text: &str) {
     let (own, remote) = sides(answer, text);
     let (direction, own) = word(own);
     let direction = direction_of(answer, direction);
@@ -108,7 +108,7 @@ pub(crate) fn kind(answer: &mut Answer, text: &str, for_new_offer: bool) {
 }
 
 /// `maximum TYPE ROWS`: the highest telephone event of the row of the type.
-pub(crate) fn maximum(answer: &mut Answer, text: &str) {
+pub(crate) fn maximum_score(answer: &mut Answer, text: &str) {
     let (pt, rows) = word(text);
     let pt = type_of(answer, pt);
     let config = config_of(answer, rows);

@@ -34,7 +34,7 @@ fn of_codec<P: Numbered + Debug, T: Numbered + Debug, L: Leveled + Debug>(
         "" => shown_or_none(answer, named),
         "-numbers" => shown_or_none::<P, T, L>(answer, of_numbers(text)),
         "-fallback" => tiered_shown(answer, fallback),
-        "-profiles" | "-tiers" | "-levels" => listed(answer, word, fallback),
+        "-profiles" | "-tiers" | "-levels" => listed_profiles(answer, word, fallback),
         _ => return false,
     }
     true
@@ -92,7 +92,7 @@ fn asked<P: Numbered + Debug, T: Numbered + Debug, L: Leveled + Debug>(
 }
 
 /// Each profile, tier or level that a number names, as the word asks, with its number.
-fn listed<P: Numbered + Debug, T: Numbered + Debug, L: Leveled + Debug>(
+fn listed_profiles<P: Numbered + Debug, T: Numbered + Debug, L: Leveled + Debug>(
     answer: &mut Answer,
     word: &str,
     fallback: ProfileTierLevel<P, T, L>,

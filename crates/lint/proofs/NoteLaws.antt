@@ -70,8 +70,8 @@ keeps_none line what old new a last = record {
   last_stays = last;
 }
 
-clamped : (last line : ℕ) → IsNumbered last line → min (max line 1) last ≡ line
-clamped last line h = omega arith
+note_clamped : (last line : ℕ) → IsNumbered last line → min (max line 1) last ≡ line
+note_clamped last line h = omega arith
 
 -- a line that is kept unread
 pub unread_line_is_kept : (line : ℕ) (code : Code) (old new : Notes) → is_unread_code code ≡ true → IsNumbered old.last line
@@ -79,7 +79,7 @@ pub unread_line_is_kept : (line : ℕ) (code : Code) (old new : Notes) → is_un
     → KeepsUnread (line ∷ []) old new
 unread_line_is_kept line (Malformed misfit) old new is here a last = record {
   kept_are = added_lines is_unread_code line (Malformed misfit) old new a
-      ∙ ap (λ (n : ℕ). lines_kept old.findings ++ n ∷ []) (clamped old.last line here);
+      ∙ ap (λ (n : ℕ). lines_kept old.findings ++ n ∷ []) (note_clamped old.last line here);
   ends_stay = added_lines is_end line (Malformed misfit) old new a ∙ append-nil (end_lines old.findings);
   refused_stays = added_refusal line (Malformed misfit) old new a ∙ rows_or_false (is_refused old.findings);
   changed_stays = added_change line (Malformed misfit) old new a ∙ rows_or_false (is_changed old.findings);
@@ -87,7 +87,7 @@ unread_line_is_kept line (Malformed misfit) old new is here a last = record {
 }
 unread_line_is_kept line (Unknown unknown) old new is here a last = record {
   kept_are = added_lines is_unread_code line (Unknown unknown) old new a
-      ∙ ap (λ (n : ℕ). lines_kept old.findings ++ n ∷ []) (clamped old.last line here);
+      ∙ ap (λ (n : ℕ). lines_kept old.findings ++ n ∷ []) (note_clamped old.last line here);
   ends_stay = added_lines is_end line (Unknown unknown) old new a ∙ append-nil (end_lines old.findings);
   refused_stays = added_refusal line (Unknown unknown) old new a ∙ rows_or_false (is_refused old.findings);
   changed_stays = added_change line (Unknown unknown) old new a ∙ rows_or_false (is_changed old.findings);
@@ -106,7 +106,7 @@ pub one_end_noted : (line : ℕ) (unfit : Unfit) (old new : Notes) → IsNumbere
     → EndsReading line old new
 one_end_noted line unfit old new here a last = record {
   ends_are = added_lines is_end line (Unread unfit) old new a
-      ∙ ap (λ (n : ℕ). end_lines old.findings ++ n ∷ []) (clamped old.last line here);
+      ∙ ap (λ (n : ℕ). end_lines old.findings ++ n ∷ []) (note_clamped old.last line here);
   kept_stay = added_lines is_unread_code line (Unread unfit) old new a ∙ append-nil (lines_kept old.findings);
   refused_stays = added_refusal line (Unread unfit) old new a ∙ rows_or_false (is_refused old.findings);
   last_stays = last;

@@ -23,12 +23,12 @@ abbrev pub has_type : PayloadParams → ℕ → Bool
 has_type row pt = row.pt == pt || (is_type pt row.resend || is_type pt row.red)
 
 -- a locked row that doesn't fit has the type
-unfoldable pub blocks : PayloadParams → PayloadParams → Bool
-blocks theirs row = row.locked && (has_type row theirs.pt && not (is_some (score row.spec theirs.spec)))
+unfoldable pub blocks_type : PayloadParams → PayloadParams → Bool
+blocks_type theirs row = row.locked && (has_type row theirs.pt && not (is_some (score row.spec theirs.spec)))
 
 -- the remote receives, and such a row has the type
 abbrev pub is_type_taken : Bool → List PayloadParams → PayloadParams → Bool
-is_type_taken receives after theirs = receives && list_any (blocks theirs) after
+is_type_taken receives after theirs = receives && list_any (blocks_type theirs) after
 
 -- the type of the remote row with which a row goes: none where it stays open; where it was open and the remote receives, its own
 -- type now, since it has that of its choice then; else that of its choice

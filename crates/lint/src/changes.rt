@@ -33,7 +33,7 @@ fn next_printed<'a>(text: &'a str, letter: &str) -> Option<(&'a str, &'a str)> {
 }
 
 /// What a text becomes where it is printed.
-fn becomes(alloc: Global, text: &str, printed: &str) -> Result<String, AllocError> {
+fn becomes_printed(alloc: Global, text: &str, printed: &str) -> Result<String, AllocError> {
     let shown = Part::to_end(text).quoted(alloc)?;
     if printed.is_empty() {
         return format!(in alloc; "{shown} is left out");
@@ -54,7 +54,7 @@ fn note_change(
     ensures last { notes.new.last ≡ notes.old.last }
 {
     let (behind, printed) = ends;
-    let detail = becomes(notes.alloc(), behind, printed)?;
+    let detail = becomes_printed(notes.alloc(), behind, printed)?;
     let place = Place {
         line: number,
         column: column_of(line, behind),

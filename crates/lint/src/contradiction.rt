@@ -139,7 +139,10 @@ fn apt_of(values: &[FormatParam]) -> Option<Pt> {
 }
 
 /// The first payload type of which two format lines name different primary types, and these lines.
-fn clash(attributes: &[MediaAttribute], before: usize) -> Option<(Pt, FirstTwoLines)> {
+fn contradicting_formats(
+    attributes: &[MediaAttribute],
+    before: usize,
+) -> Option<(Pt, FirstTwoLines)> {
     let mut apts = [(0usize, 0u8); 256];
     let mut line = before;
     for attribute in attributes {
@@ -182,7 +185,7 @@ pub(crate) fn contradiction(section: &MediaLine, before: usize) -> Result<Fault,
         let detail = format!(in alloc; "type {pt}{comma}{lines}")?;
         return Ok(Fault { refusal, detail });
     }
-    let detail = match clash(attributes, before) {
+    let detail = match contradicting_formats(attributes, before) {
         Some((pt, pair)) => {
             let lines = pair.said(alloc)?;
             format!(in alloc; "type {pt}, {lines}")?

@@ -19,7 +19,7 @@ impl Parameter {
 }
 
 /// The parameters of a format, in the order in which they print.
-fn parameters(alloc: Global, format: FormatParams) -> Result<Vec<Parameter>, AllocError> {
+fn format_parameters(alloc: Global, format: FormatParams) -> Result<Vec<Parameter>, AllocError> {
     let mut all = Vec::new(alloc);
     let params = format.to_format_param(alloc)?;
     for param in &params {
@@ -73,8 +73,8 @@ impl<'a> Pair<'a> {
         Ok(Pair {
             ours,
             theirs,
-            own: parameters(alloc, ours.spec().format)?,
-            other: parameters(alloc, theirs.spec().format)?,
+            own: format_parameters(alloc, ours.spec().format)?,
+            other: format_parameters(alloc, theirs.spec().format)?,
         })
     }
 
@@ -193,7 +193,7 @@ impl<'a> Pair<'a> {
 }
 
 /// The row of the same codec that is nearest to a row of the other side, the first of several.
-pub(crate) fn nearest<'a>(
+pub(crate) fn nearest_row<'a>(
     alloc: Global,
     rows: &'a [PayloadParams],
     theirs: &'a PayloadParams,

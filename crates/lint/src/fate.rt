@@ -1,5 +1,5 @@
 //! What comes of a row of the other side in a round.
-ghost use Rattle.lint.specs.Fates.{ArePartners, IsPartner, accepted_fate, fate, fits_some, fitting_fate, has_codec, has_type, blocks, is_type_taken};
+ghost use Rattle.lint.specs.Fates.{ArePartners, IsPartner, accepted_fate, fate, fits_some, fitting_fate, has_codec, has_type, blocks_type, is_type_taken};
 ghost use Rattle.std.specs.List.{list_any};
 ghost use Rattle.std.specs.Prelude.{◌≡◌, IfOk, length};
 ghost use Rattle.str0m_sdp.specs.section.Companions.{is_type};
@@ -52,18 +52,18 @@ pub(crate) fn has_type(row: &PayloadParams, pt: Pt) -> bool
 }
 
 /// Whether a row is locked, doesn't fit, and has the type.
-#[tactic(auto, unfolding(crate::specs::Fates::blocks))]
-fn blocks(row: &PayloadParams, theirs: &PayloadParams) -> bool
-    ensures { result ≡ blocks theirs.now row.now }
+#[tactic(auto, unfolding(crate::specs::Fates::blocks_type))]
+fn blocks_type(row: &PayloadParams, theirs: &PayloadParams) -> bool
+    ensures { result ≡ blocks_type theirs.now row.now }
 {
     row.locked() && has_type(row, theirs.pt()) && row.match_score(theirs).is_none()
 }
 
 /// Whether a locked row that doesn't fit this one has its type.
 fn is_held(rows: &[PayloadParams], theirs: &PayloadParams) -> bool
-    ensures { result ≡ list_any (blocks theirs.now) rows.now }
+    ensures { result ≡ list_any (blocks_type theirs.now) rows.now }
 {
-    rows.iter().any(|row| blocks(row, theirs))
+    rows.iter().any(|row| blocks_type(row, theirs))
 }
 
 /// Whether a row goes with that of this type.

@@ -8,7 +8,7 @@ fn is_separator(byte: u8) -> bool {
 
 /// How many bytes of two lines are the same, up to the last separator before they differ; where the line goes on after what is printed
 /// with a separator, with that.
-fn common(line: &[u8], printed: &[u8]) -> usize {
+fn common_start(line: &[u8], printed: &[u8]) -> usize {
     let shorter = line.len().min(printed.len());
     let mut start = 0usize;
     for i in 0..shorter {
@@ -27,7 +27,7 @@ fn common(line: &[u8], printed: &[u8]) -> usize {
 
 /// What stands in two lines from the word on in which they differ.
 pub(crate) fn fork<'a, 'b>(line: &'a str, printed: &'b str) -> (&'a str, &'b str) {
-    let start = common(line.as_bytes(), printed.as_bytes());
+    let start = common_start(line.as_bytes(), printed.as_bytes());
     (
         line.get(start..).unwrap_or(""),
         printed.get(start..).unwrap_or(""),

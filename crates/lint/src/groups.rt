@@ -11,7 +11,7 @@ use str0m_sdp::{Sdp, SdpError, SessionAttribute};
 use str0m_values::Mid;
 
 /// The first mid of a group that no section has.
-fn stray(mids: &[Mid], names: &BTreeSet<&str>) -> Option<Mid> {
+fn stray_group_mid(mids: &[Mid], names: &BTreeSet<&str>) -> Option<Mid> {
     mids.iter()
         .copied()
         .find(|mid| !names.contains(mid.as_str()))
@@ -27,7 +27,7 @@ fn note_group(
     ensures others { OnOk result (SaysElse notes.old notes.new) }
     ensures last { notes.new.last ≡ notes.old.last }
 {
-    match stray(mids, names) {
+    match stray_group_mid(mids, names) {
         Some(mid) => note_mid(notes, number, Conflict::GroupOfNothing, mid),
         None => Ok(()),
     }
@@ -102,7 +102,7 @@ pub(crate) fn note_grouping(
             "",
         );
     };
-    if names.len() < sdp.media_lines.len() || stray(mids, names).is_some() {
+    if names.len() < sdp.media_lines.len() || stray_group_mid(mids, names).is_some() {
         return Ok(());
     }
     note_listing(notes, number_at(lines, i), sdp)

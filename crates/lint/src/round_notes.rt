@@ -4,7 +4,7 @@ ghost use Rattle.lint.specs.declared.code.Fate.{Fate};
 ghost use Rattle.std.specs.Prelude.{◌≡◌, Err, List, OnOk, Some, filter_map};
 
 use crate::code::{Code, Fate};
-use crate::difference::nearest;
+use crate::difference::nearest_row;
 use crate::fate::{Ran, has_type};
 use crate::notes::Notes;
 use crate::part::Place;
@@ -88,7 +88,7 @@ fn detail<'a>(
         Fate::Locked => locked(alloc, ran, partners, theirs),
         Fate::OtherRow => passed_over_detail(alloc, ran, partners, theirs),
         Fate::TakenType => taken_detail(alloc, ran, theirs),
-        Fate::OtherFormat => match nearest(alloc, ran.before, theirs)? {
+        Fate::OtherFormat => match nearest_row(alloc, ran.before, theirs)? {
             Some(pair) => pair.detail(alloc),
             None => Ok(String::new(alloc)),
         },

@@ -15,7 +15,7 @@ pub(crate) struct Types<'a> {
 }
 
 /// The primary type of retransmissions that a value names (RFC 4588, section 8.1).
-fn primary(value: FormatParam) -> Option<Pt> {
+fn primary_type_named(value: FormatParam) -> Option<Pt> {
     match value {
         FormatParam::Apt(pt) => Some(pt),
         _ => None,
@@ -23,7 +23,7 @@ fn primary(value: FormatParam) -> Option<Pt> {
 }
 
 /// The first type of redundant audio that a value names (RFC 2198, section 5).
-fn redundant(value: FormatParam) -> Option<Pt> {
+fn redundant_type_named(value: FormatParam) -> Option<Pt> {
     match value {
         FormatParam::BarePtList(pt) | FormatParam::Red(pt) => Some(pt),
         _ => None,
@@ -33,15 +33,17 @@ fn redundant(value: FormatParam) -> Option<Pt> {
 /// The type that a value names in the format of a codec that repeats others.
 fn repeated(codec: Codec, value: FormatParam) -> Option<Pt> {
     match codec {
-        Codec::Rtx => primary(value),
-        Codec::Red => redundant(value),
+        Codec::Rtx => primary_type_named(value),
+        Codec::Red => redundant_type_named(value),
         _ => None,
     }
 }
 
 /// Whether a format names a primary type of retransmissions.
 fn names_primary(values: &[FormatParam]) -> bool {
-    values.iter().any(|value| primary(*value).is_some())
+    values
+        .iter()
+        .any(|value| primary_type_named(*value).is_some())
 }
 
 /// Whether a codec carries another kind of media than sections of this type.

@@ -121,7 +121,7 @@ static OPTIONS: [(&str, &str, Takes, &str); 15] = [
 ];
 
 /// The option as `clap` has it, where it takes a value.
-fn valued<'a>(arg: Arg<'a>, value: &'a str, takes: Takes) -> Arg<'a> {
+fn valued_argument<'a>(arg: Arg<'a>, value: &'a str, takes: Takes) -> Arg<'a> {
     let arg = arg.value_name(value);
     match takes {
         Takes::Required => arg.action(ArgAction::Set).required(true),
@@ -159,7 +159,7 @@ pub(crate) fn command<'a>(alloc: Global) -> Result<Command<'a>, AllocError> {
         let arg = Arg::new(alloc, name).long(name).help(help);
         let arg = match takes {
             Takes::Nothing => arg.action(ArgAction::SetTrue),
-            _ => valued(arg, value, takes),
+            _ => valued_argument(arg, value, takes),
         };
         command = command.arg(arg)?;
     }

@@ -86,7 +86,7 @@ fn creds(alloc: Global, matches: &ArgMatches<'_>) -> Result<IceCreds, AllocError
 }
 
 /// The credentials after a restart of ICE: those of the options with the number of the offer after them.
-pub(crate) fn restarted(
+pub(crate) fn restarted_answer(
     alloc: Global,
     matches: &ArgMatches<'_>,
     number: usize,

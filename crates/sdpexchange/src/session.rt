@@ -1,7 +1,7 @@
 //! The steps of a session.
 
 use crate::fault::Fault;
-use crate::own::{direction_named, restarted};
+use crate::own::{direction_named, restarted_answer};
 use clap::ArgMatches;
 use exchange::{Exchange, is_ice_restart};
 use std::alloc::Global;
@@ -53,7 +53,7 @@ fn answer_to(
     let text = read(rt, file)?;
     // An answer to a restart says credentials of its own (RFC 8839, section 4.4.3.1).
     if is_restart(alloc, exchange, text.as_str())? {
-        exchange.restart_ice(restarted(alloc, matches, number)?);
+        exchange.restart_ice(restarted_answer(alloc, matches, number)?);
     }
     match exchange.accept_offer(text.as_str()) {
         Ok(answer) => Ok(answer.to_string(alloc)?),
@@ -79,7 +79,7 @@ pub(crate) fn offer(alloc: Global, exchange: &mut Exchange) -> Result<String, Fa
 }
 
 /// Adds what is named, as `audio`, `video,recvonly` or `channels`.
-fn add(alloc: Global, exchange: &mut Exchange, step: &str, what: &str) -> Result<(), Fault> {
+fn add_offer(alloc: Global, exchange: &mut Exchange, step: &str, what: &str) -> Result<(), Fault> {
     let (kind, direction) = what.split_once(',').unwrap_or((what, "sendrecv"));
     let Some(direction) = direction_named(direction) else {
         return Err(Fault::of_step(alloc, step));
@@ -94,7 +94,12 @@ fn add(alloc: Global, exchange: &mut Exchange, step: &str, what: &str) -> Result
 }
 
 /// Turns a section, as `0,inactive`.
-fn turn(alloc: Global, exchange: &mut Exchange, step: &str, said: &str) -> Result<(), Fault> {
+fn turn_session(
+    alloc: Global,
+    exchange: &mut Exchange,
+    step: &str,
+    said: &str,
+) -> Result<(), Fault> {
     let (mid, direction) = said.split_once(',').unwrap_or((said, ""));
     let Some(direction) = direction_named(direction) else {
         return Err(Fault::of_step(alloc, step));
@@ -114,7 +119,7 @@ fn take_word(
     match step {
         "offer" => return Ok(Some(offer(rt.alloc(), exchange)?)),
         "rollback" => exchange.rollback(),
-        "restart" => exchange.restart_ice(restarted(rt.alloc(), matches, number)?),
+        "restart" => exchange.restart_ice(restarted_answer(rt.alloc(), matches, number)?),
         file => return Ok(Some(answer_to(rt, matches, exchange, number, file)?)),
     }
     Ok(None)
@@ -131,9 +136,9 @@ pub(crate) fn take(
     if let Some(file) = step.strip_prefix("answer=") {
         accept(rt, exchange, file)?;
     } else if let Some(what) = step.strip_prefix("add=") {
-        add(rt.alloc(), exchange, step, what)?;
+        add_offer(rt.alloc(), exchange, step, what)?;
     } else if let Some(said) = step.strip_prefix("direction=") {
-        turn(rt.alloc(), exchange, step, said)?;
+        turn_session(rt.alloc(), exchange, step, said)?;
     } else {
         return take_word(rt, matches, exchange, number, step);
     }

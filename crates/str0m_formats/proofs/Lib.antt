@@ -3,13 +3,13 @@ pub mod Common
 pub use Rattle.str0m_formats.proofs.codec.CodecNames.{read_as, read_only}
 pub use Rattle.str0m_formats.proofs.codec.CodecSpecStatic.{static_needs_none, static_is, static_small}
 pub use Rattle.str0m_formats.proofs.format.FormatKeyAgain.{IsKeyed, keyed_or_hidden}
-pub use Rattle.str0m_formats.proofs.format.FormatLineAgain.{linked, printed_pairs}
+pub use Rattle.str0m_formats.proofs.format.FormatLineAgain.{line_linked_texts, printed_pairs}
 pub use Rattle.str0m_formats.proofs.format.FormatLinePairs.{IsLineOf, IsOwnParam, line_all_of_both, format_said, line_of_pairs}
 pub use Rattle.str0m_formats.proofs.format.FormatLinePairs.{params_print}
 pub use Rattle.str0m_formats.proofs.format.FormatParamAgain.{decimal_reads, parsed_printed}
 pub use Rattle.str0m_formats.proofs.format.FormatParamEqual.{param_Decides}
 pub use Rattle.str0m_formats.proofs.format.FormatParamLaws.{parsed}
-pub use Rattle.str0m_formats.proofs.format.FormatParamsDerived.{Equality, eq_along, eq_word, equality}
+pub use Rattle.str0m_formats.proofs.format.FormatParamsDerived.{EqualityTest, eq_along, eq_word, equality}
 pub use Rattle.str0m_formats.proofs.format.FormatParamsShown.{IsSolidPair, decimal_solid, joined_pair}
 pub use Rattle.str0m_formats.proofs.format.MergedPairsKeys.{Pairs}
 pub use Rattle.str0m_formats.proofs.format.MergedPairsLaws.{bytes_itself}

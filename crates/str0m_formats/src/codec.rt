@@ -1,6 +1,6 @@
 //! Codecs.
 ghost use Rattle.std.specs.Prelude.{◌≡◌, ◌↔◌, IsTrue, Some};
-ghost use Rattle.str0m_formats.specs.codec.Codec.{codec_text, content, static_entry, audio, video, events, media_kind, codec_of, IsReadAs, printed_and_read};
+ghost use Rattle.str0m_formats.specs.codec.Codec.{codec_text, codec_content, static_entry, audio, video, events, media_kind, codec_of, IsReadAs, printed_and_read};
 ghost use Rattle.str0m_formats.specs.codec.CodecSpec.{is_spec_at, static_codec};
 
 use std::fmt;
@@ -69,7 +69,7 @@ const NAMED: [Codec; 15] = [
 impl Codec {
     /// Whether the codec carries audio: `Opus`, `PCMU`, `PCMA`, `G722`, `CN` or `AmrWb`.
     pub fn is_audio(self) -> bool
-        ensures { IsTrue result ↔ (content self ≡ audio) }
+        ensures { IsTrue result ↔ (codec_content self ≡ audio) }
     {
         matches!(
             self,
@@ -79,7 +79,7 @@ impl Codec {
 
     /// Whether the codec carries video: `H264`, `H265`, `H266`, `Vp8`, `Vp9` or `Av1`.
     pub fn is_video(self) -> bool
-        ensures { IsTrue result ↔ (content self ≡ video) }
+        ensures { IsTrue result ↔ (codec_content self ≡ video) }
     {
         matches!(
             self,
@@ -89,7 +89,7 @@ impl Codec {
 
     /// Whether the codec carries telephone events (RFC 4733).
     pub fn is_tele(self) -> bool
-        ensures { IsTrue result ↔ (content self ≡ events) }
+        ensures { IsTrue result ↔ (codec_content self ≡ events) }
     {
         matches!(self, Codec::Tele)
     }
@@ -97,7 +97,7 @@ impl Codec {
     /// The kind of the sections that the codec stands in: audio for what carries audio or telephone
     /// events, video for all else.
     pub fn kind(self) -> MediaKind
-        ensures { result ≡ media_kind (content self) }
+        ensures { result ≡ media_kind (codec_content self) }
     {
         if self.is_audio() || self.is_tele() {
             MediaKind::Audio

@@ -1,5 +1,5 @@
 -- What definitions and clauses cite of the crates below, passed on from one place. Declares nothing.
-pub use Rattle.str0m_formats.specs.codec.Codec.{codec_text, content}
+pub use Rattle.str0m_formats.specs.codec.Codec.{codec_text, codec_content}
 pub use Rattle.str0m_formats.specs.codec.CodecSpec.{IsStatic, rtp_rate, static_spec}
 pub use Rattle.str0m_formats.specs.declared.codec.Codec.{Codec}
 pub use Rattle.str0m_formats.specs.declared.codec.codec_spec.CodecSpec.{CodecSpec}

@@ -25,9 +25,10 @@ pub use Rattle.std.specs.Prelude.{codes, is_some, IsTrue, ◌↔◌, IsErrAnd, c
 pub use Rattle.std.specs.Prelude.{unwrap_or}
 pub use Rattle.std.specs.Str.{bytes_eq, IsCharBoundary, IsUtf8, encode_utf8_all, chars}
 pub use Rattle.std.specs.Str.Parse.{digits_value, IsNumeral, AllDigits}
-pub use Rattle.str0m_formats.proofs.{read_as, read_only, printed_pairs, linked, parsed_printed, decimal_reads, IsSolidPair, joined_pair}
+pub use Rattle.str0m_formats.proofs.{read_as, read_only, printed_pairs, line_linked_texts, parsed_printed, decimal_reads, IsSolidPair}
+pub use Rattle.str0m_formats.proofs.{joined_pair}
 pub use Rattle.str0m_formats.proofs.{decimal_solid, Pairs, pairs_read_is, pairs_read_only}
-pub use Rattle.str0m_formats.specs.codec.Codec.{printed_and_read, content, other, codec_text}
+pub use Rattle.str0m_formats.specs.codec.Codec.{printed_and_read, codec_content, other, codec_text}
 pub use Rattle.str0m_formats.specs.declared.codec.Codec.{Codec}
 pub use Rattle.str0m_formats.specs.declared.format.format_param.FormatParam.TheVariants.{Apt, BarePtList, BareRange, Red, TelephoneEvents}
 pub use Rattle.str0m_formats.specs.declared.format.format_param.FormatParam.TheVariants.{Unknown}
@@ -67,7 +68,8 @@ pub use Rattle.str0m_signal.specs.Prelude.{types}
 pub use Rattle.str0m_signal.specs.Prelude.{IsPlain, media_attribute_text, session_attribute_text, media_words, session_words}
 pub use Rattle.str0m_signal.specs.Prelude.{bandwidth_text, is_media, setup_text, MediaAttribute, SessionAttribute, Bandwidth, MediaType}
 pub use Rattle.str0m_signal.specs.Prelude.{Proto, RestrictionId, SimulcastLayer, MediaLine, Sdp, line_end, Consistent, is_mid, is_setup}
-pub use Rattle.str0m_signal.specs.Prelude.{is_direction, is_of_type, made, HasBoundedRows, sdp_text, Parted, IsCandidateText, before, cut}
+pub use Rattle.str0m_signal.specs.Prelude.{is_direction, is_of_type, made, HasBoundedRows, sdp_text, PartedAddress, IsCandidateText, before}
+pub use Rattle.str0m_signal.specs.Prelude.{cut}
 pub use Rattle.str0m_signal.specs.Prelude.{is_rest, lacks, num, strip, when, ◌<|>◌, ◌>>=◌, IsTheOnly, FirstFit, IsNum, IsPt, IsRest, IsWord}
 pub use Rattle.str0m_signal.specs.Prelude.{Lacks, IsWithout, code, text_beginning_of, IsLongestBeginning}
 pub use Rattle.str0m_values.proofs.AddressWords.{address_lacks_both}

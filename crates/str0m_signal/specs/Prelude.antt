@@ -25,7 +25,7 @@ pub use Rattle.str0m_sdp.specs.section.Consistency.{Consistent, is_direction, is
 pub use Rattle.str0m_sdp.specs.section.MadeSection.{is_of_type, made}
 pub use Rattle.str0m_sdp.specs.section.SectionRows.{HasBoundedRows, NamesOnePrimary, rows}
 pub use Rattle.str0m_sdp.specs.session.Session.{IsSessionNumber, sdp_text}
-pub use Rattle.str0m_values.specs.Address.{Parted}
+pub use Rattle.str0m_values.specs.Address.{PartedAddress}
 pub use Rattle.str0m_values.specs.Candidate.{IsCandidateText}
 pub use Rattle.str0m_values.specs.CandidateReading.{candidate_read}
 pub use Rattle.str0m_values.specs.Cuts.{IsTheOnly, before, cut, is_rest, lacks, num, parts, strip, when, ◌<|>◌, ◌>>=◌}

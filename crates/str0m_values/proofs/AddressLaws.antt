@@ -3,7 +3,8 @@ use Rattle.std.specs.Net.Grammar as net
 use Rattle.str0m_values.proofs.Common.{◌≡◌, ◌⊎◌, ℕ, ◌+◌, ◌-◌, ◌*◌, Bool, true, false, List, [], ◌∷◌, ◌++◌, length, replicate, refl, sym, ap}
 use Rattle.str0m_values.proofs.Common.{◌∙◌, subst, arith, inl, inr, append-nil, append_assoc, length-append, codes, length-replicate}
 use Rattle.str0m_values.proofs.Common.{IsTrue, segments_of}
-use Rattle.str0m_values.specs.Address.{Parted, IsOctet, IsV4Text, IsHexGroup, IsOneGroup, octet_pairs, IsV4Tail, IsAddressEnd, AreGroups}
+use Rattle.str0m_values.specs.Address.{PartedAddress, IsOctet, IsV4Text, IsHexGroup, IsOneGroup, octet_pairs, IsV4Tail, IsAddressEnd}
+use Rattle.str0m_values.specs.Address.{AreGroups}
 use Rattle.str0m_values.specs.Address.{AreAnyGroups, IsShortened, IsV6Text}
 
 -- ---- V4
@@ -11,7 +12,8 @@ use Rattle.str0m_values.specs.Address.{AreAnyGroups, IsShortened, IsV6Text}
 pub v4_from : (text octets : List ℕ) → net.IsDotted text octets → IsV4Text text octets
 v4_from text octets h = grind (arith, append_assoc)
 
-address_four_octets : (text : List ℕ) (a b c d : ℕ) → Parted 46 IsOctet text (a ∷ b ∷ c ∷ d ∷ []) → net.IsDotted text (a ∷ b ∷ c ∷ d ∷ [])
+address_four_octets : (text : List ℕ) (a b c d : ℕ) → PartedAddress 46 IsOctet text (a ∷ b ∷ c ∷ d ∷ [])
+    → net.IsDotted text (a ∷ b ∷ c ∷ d ∷ [])
 address_four_octets text a b c d h = grind (arith, append_assoc)
 
 pub v4_to : (text octets : List ℕ) → IsV4Text text octets → net.IsDotted text octets

@@ -1,7 +1,7 @@
 -- The text of an address is a word.
 use Rattle.str0m_values.proofs.Common.{◌≡◌, ◌≢◌, ℕ, ◌<◌, ◌≤◌, ◌+◌, ◌^◌, List, [], ◌∷◌, ◌++◌, length, ap, ◌∙◌, inl, inr, arith, lit≤}
 use Rattle.str0m_values.proofs.Common.{length-append, codes, decimal, digit_value, IsNumeral, AllDigits, decimal_is_IsNumeral}
-use Rattle.str0m_values.specs.Address.{Parted, IsOctet, IsV4Text, IsHexGroup, IsOneGroup, IsAddressEnd, AreGroups, AreAnyGroups}
+use Rattle.str0m_values.specs.Address.{PartedAddress, IsOctet, IsV4Text, IsHexGroup, IsOneGroup, IsAddressEnd, AreGroups, AreAnyGroups}
 use Rattle.str0m_values.specs.Address.{IsShortened}
 use Rattle.str0m_values.specs.Address.{IsIpText}
 use Rattle.str0m_values.specs.CutsParts.{Lacks, IsRest, IsWord}
@@ -29,7 +29,7 @@ pub decimal_word : (n : ℕ) → n < 2 ^ 64 → IsWord (decimal n)
 decimal_word n small = numeral_word 10 (decimal n) (lit≤ tt) (decimal_is_IsNumeral n small).0
 
 parted_word : (c : ℕ) (F : List ℕ → ℕ → Type 0) → c ≢ 32 → ((text : List ℕ) (x : ℕ) → F text x → IsWord text)
-    → (text : List ℕ) (xs : List ℕ) → Parted c F text xs → IsWord text
+    → (text : List ℕ) (xs : List ℕ) → PartedAddress c F text xs → IsWord text
 parted_word c F other word text [] h = absurd h
 parted_word c F other word text (x ∷ []) h = word text x h
 parted_word c F other word text (x ∷ y ∷ ys) h =
@@ -39,8 +39,8 @@ v4_word : (text octets : List ℕ) → IsV4Text text octets → IsWord text
 v4_word text octets h = parted_word 46 IsOctet (λ e. absurd (omega arith)) (λ t n o. rw o.0 (decimal_word n (omega (arith, o.1)))) text
     octets h.0
 
-colon : ◌≢◌ {A = ℕ} 58 32
-colon e = absurd (omega arith)
+address_colon_is_no_space : ◌≢◌ {A = ℕ} 58 32
+address_colon_is_no_space e = absurd (omega arith)
 
 group_word : (text : List ℕ) (n : ℕ) → IsHexGroup text n → IsWord text
 group_word text n h = numeral_word 16 text (lit≤ tt) h.numeral
@@ -55,7 +55,8 @@ module _ (Last : List ℕ → List ℕ → Type 0) (last_word : (text groups : L
   groups_word : (text groups : List ℕ) → AreGroups Last text groups → IsWord text
   groups_word text [] h = absurd h
   groups_word text (n ∷ groups) (inl h) = last_word text (n ∷ groups) h
-  groups_word text (n ∷ groups) (inr h) = rw h.2 (word_then h.0 58 h.1 (group_word h.0 n h.3) colon (groups_word h.1 groups h.4).1)
+  groups_word text (n ∷ groups) (inr h) = rw h.2
+      (word_then h.0 58 h.1 (group_word h.0 n h.3) address_colon_is_no_space (groups_word h.1 groups h.4).1)
 
   address_any_groups_lack : (text groups : List ℕ) → AreAnyGroups Last text groups → Lacks 32 text
   address_any_groups_lack text groups h = elim h [ inl k ↦ rw k.0 tt | inr k ↦ (groups_word text groups k).1 ]
@@ -64,7 +65,9 @@ short_word : (text groups : List ℕ) → IsShortened text groups → IsWord tex
 short_word text groups h =
     let front = address_any_groups_lack IsOneGroup one_word h.front_text h.front h.front_is in
     let back = address_any_groups_lack IsAddressEnd end_word h.back_text h.back h.back_is in
-    let lacks : Lacks 32 text = rw h.joined (address_lacks_both 32 h.front_text (codes "::" ++ h.back_text) front (colon, (colon, back))) in
+    let lacks : Lacks 32 text = rw h.joined
+    (address_lacks_both 32 h.front_text (codes "::" ++ h.back_text) front
+    (address_colon_is_no_space, (address_colon_is_no_space, back))) in
     let len : length text ≡ length h.front_text + length (codes "::" ++ h.back_text) =
     ap length h.joined ∙ length-append h.front_text (codes "::" ++ h.back_text) in
     let rest : IsRest text = omega arith in

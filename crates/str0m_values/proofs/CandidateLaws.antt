@@ -5,12 +5,14 @@ use Rattle.str0m_values.proofs.Common.{rules, ◌≡◌, ℕ, cond, List, [], �
 use Rattle.str0m_values.proofs.Common.{append-nil, subst, arith, codes}
 use Rattle.str0m_values.proofs.CutsBothWays.{Reads, some_is}
 use Rattle.str0m_values.proofs.CutsNumLaws.{num_rest_true}
-use Rattle.str0m_values.proofs.LabelLaws.{label_option_bound, bind_is, IsWordEnd, EndsWithoutLabel, Starts, starts_all, starts_optional}
+use Rattle.str0m_values.proofs.LabelLaws.{label_option_bound, bind_is, IsWordEnd, EndsWithoutLabel, StartsWithLabel, starts_all}
+use Rattle.str0m_values.proofs.LabelLaws.{starts_optional}
 use Rattle.str0m_values.proofs.LabelLaws.{LabelFront}
 use Rattle.str0m_values.proofs.LabelLaws.{labelled_front, part_front, optional_front}
 use Rattle.str0m_values.specs.Candidate.{IsSocket, IsRelatedAddress, AreIceNames, IsCandidateText}
 use Rattle.str0m_values.specs.CandidateKind.{IsKindText}
-use Rattle.str0m_values.specs.CandidateReading.{Lead, Extras, protocol_read, candidate_kind_read, socket_read, related_read, tcp_part_read}
+use Rattle.str0m_values.specs.CandidateReading.{CandidateLead, CandidateExtras, protocol_read, candidate_kind_read, socket_read}
+use Rattle.str0m_values.specs.CandidateReading.{related_read, tcp_part_read}
 use Rattle.str0m_values.specs.CandidateReading.{ice_names_read, lead_read, last_read, extras_read, candidate_of, candidate_read}
 use Rattle.str0m_values.specs.Cuts.{num, is_rest}
 use Rattle.str0m_values.specs.CutsParts.{IsNum}
@@ -36,7 +38,8 @@ from_generation = candidate_label.GENERATION.now ∷ from_names
 abbrev from_tcp_type : List (List ℕ)
 from_tcp_type = candidate_label.TCP_TYPE.now ∷ from_generation
 
-starts_names : (part rest : List ℕ) (x : Option (List ℕ)) → AreIceNames part x → Starts from_cost rest → Starts from_names (part ++ rest)
+starts_names : (part rest : List ℕ) (x : Option (List ℕ)) → AreIceNames part x → StartsWithLabel from_cost rest
+    → StartsWithLabel from_names (part ++ rest)
 starts_names part rest x (inl h) s =
     grind (
       arith,
@@ -56,7 +59,7 @@ ends_socket part rest x h = grind arith
 
 -- ---- the parts in front of the address
 
-record IsLead (text : List ℕ) (x : Lead) (rest : List ℕ) : Type 0 where
+record IsLead (text : List ℕ) (x : CandidateLead) (rest : List ℕ) : Type 0 where
   foundation : List ℕ
   component : List ℕ
   protocol : List ℕ
@@ -67,7 +70,7 @@ record IsLead (text : List ℕ) (x : Lead) (rest : List ℕ) : Type 0 where
   protocol_is : IsLabelled (codes " ") IsProtocolText protocol x.proto
   priority_is : IsLabelled (codes " ") (IsNum 4294967295) priority x.prio
 
-lead_sound : (text : List ℕ) (x : Lead × List ℕ) → lead_read text ≡ Some x → IsLead text x.0 x.1
+lead_sound : (text : List ℕ) (x : CandidateLead × List ℕ) → lead_read text ≡ Some x → IsLead text x.0 x.1
 lead_sound text x e =
     label_option_bound (labelled_read candidate_label.CANDIDATE.now text) _ _ e λ foundation e₁ k₁.
     label_option_bound (part_read (codes " ") (num 65535) foundation.1) _ _ k₁ λ component e₂ k₂.
@@ -77,7 +80,7 @@ lead_sound text x e =
     let p₂ = (part_front (codes " ") (num_both 65535)).sound foundation.1 component e₂ in
     let p₃ = (part_front (codes " ") protocol_both).sound component.1 protocol e₃ in
     let p₄ = (part_front (codes " ") (num_both 4294967295)).sound protocol.1 priority e₄ in
-    let made : Lead = record { foundation = foundation.0; component_id = component.0; proto = protocol.0; prio = priority.0 } in
+    let made : CandidateLead = record { foundation = foundation.0; component_id = component.0; proto = protocol.0; prio = priority.0 } in
     rw (← some_is (made, priority.1) x same) (record {
       foundation = p₁.0;
       component = p₂.0;
@@ -90,7 +93,7 @@ lead_sound text x e =
       priority_is = p₄.2;
     })
 
-lead_complete : (text : List ℕ) (x : Lead) (rest : List ℕ) → IsLead text x rest → IsWordEnd rest → lead_read text ≡ Some (x, rest)
+lead_complete : (text : List ℕ) (x : CandidateLead) (rest : List ℕ) → IsLead text x rest → IsWordEnd rest → lead_read text ≡ Some (x, rest)
 lead_complete text x rest h ends =
     let r₄ : List ℕ = h.priority ++ rest in
     let r₃ : List ℕ = h.protocol ++ r₄ in
@@ -141,17 +144,17 @@ last_sound text x e =
       cost_is = (cost.0, p₃.2);
     })
 
-cost_starts : (cost : List ℕ) → IsOptionalUnkept candidate_label.NETWORK_COST.now cost → Starts from_cost cost
+cost_starts : (cost : List ℕ) → IsOptionalUnkept candidate_label.NETWORK_COST.now cost → StartsWithLabel from_cost cost
 cost_starts cost h = grind arith
 
 cost_complete : (cost : List ℕ) (h : IsOptionalUnkept candidate_label.NETWORK_COST.now cost)
     → optional_read candidate_label.NETWORK_COST.now cost ≡ Some (h.0, [])
 cost_complete cost h = grind (arith, append-nil cost, optional_front candidate_label.NETWORK_COST.now)
 
-names_start : (text : List ℕ) (x : Option (List ℕ)) (h : IsLastUfrag text x) → Starts from_names (h.names ++ h.cost)
+names_start : (text : List ℕ) (x : Option (List ℕ)) (h : IsLastUfrag text x) → StartsWithLabel from_names (h.names ++ h.cost)
 names_start text x h = starts_names h.names h.cost x h.names_are (cost_starts h.cost h.cost_is)
 
-last_starts : (text : List ℕ) (x : Option (List ℕ)) → IsLastUfrag text x → Starts from_generation text
+last_starts : (text : List ℕ) (x : Option (List ℕ)) → IsLastUfrag text x → StartsWithLabel from_generation text
 last_starts text x h =
     search (
       rules,
@@ -174,7 +177,7 @@ candidate_last_ufrag_complete text x h =
 
 -- ---- the parts after the kind
 
-record IsExtras (text : List ℕ) (x : Extras) : Type 0 where
+record IsExtras (text : List ℕ) (x : CandidateExtras) : Type 0 where
   related : List ℕ
   tcp_type : List ℕ
   last : List ℕ
@@ -183,14 +186,14 @@ record IsExtras (text : List ℕ) (x : Extras) : Type 0 where
   tcp_type_is : IsOptional candidate_label.TCP_TYPE.now IsTcpTypeText tcp_type x.tcptype
   last_is : IsLastUfrag last x.ufrag
 
-extras_sound : (text : List ℕ) (x : Extras) → extras_read text ≡ Some x → IsExtras text x
+extras_sound : (text : List ℕ) (x : CandidateExtras) → extras_read text ≡ Some x → IsExtras text x
 extras_sound text x e =
     label_option_bound (related_read text) _ _ e λ related e₁ k₁.
     label_option_bound (tcp_part_read related.1) _ _ k₁ λ tcp_type e₂ k₂.
     label_option_bound (last_read tcp_type.1) _ _ k₂ λ ufrag e₃ same.
     let p₁ = candidate_related_front.sound text related e₁ in
     let p₂ = tcp_front.sound related.1 tcp_type e₂ in
-    let made : Extras = record { raddr = related.0; tcptype = tcp_type.0; ufrag = ufrag } in
+    let made : CandidateExtras = record { raddr = related.0; tcptype = tcp_type.0; ufrag = ufrag } in
     subst (IsExtras text) (some_is made x same) (record {
       related = p₁.0;
       tcp_type = p₂.0;
@@ -201,7 +204,7 @@ extras_sound text x e =
       last_is = last_sound tcp_type.1 ufrag e₃;
     })
 
-tcp_type_starts : (text : List ℕ) (x : Extras) (h : IsExtras text x) → Starts from_tcp_type (h.tcp_type ++ h.last)
+tcp_type_starts : (text : List ℕ) (x : CandidateExtras) (h : IsExtras text x) → StartsWithLabel from_tcp_type (h.tcp_type ++ h.last)
 tcp_type_starts text x h =
     search (
       rules,
@@ -209,10 +212,10 @@ tcp_type_starts text x h =
       last_starts h.last x.ufrag h.last_is,
     )
 
-extras_end : (text : List ℕ) (x : Extras) → IsExtras text x → IsWordEnd text
+extras_end : (text : List ℕ) (x : CandidateExtras) → IsExtras text x → IsWordEnd text
 extras_end text x h = grind arith
 
-extras_complete : (text : List ℕ) (x : Extras) → IsExtras text x → extras_read text ≡ Some x
+extras_complete : (text : List ℕ) (x : CandidateExtras) → IsExtras text x → extras_read text ≡ Some x
 extras_complete text x h =
     grind (
       arith,
@@ -276,7 +279,7 @@ candidate_complete text c h =
     let r₃ : List ℕ = h.related ++ (h.tcp_type ++ (h.generation ++ (h.names ++ h.cost))) in
     let r₂ : List ℕ = h.kind ++ r₃ in
     let r₁ : List ℕ = h.address ++ r₂ in
-    let lead : Lead = record { foundation = c.foundation; component_id = c.component_id; proto = c.proto; prio = c.prio } in
+    let lead : CandidateLead = record { foundation = c.foundation; component_id = c.component_id; proto = c.proto; prio = c.prio } in
     let lead-is : IsLead text lead r₁ = record {
       foundation = h.foundation;
       component = h.component;
@@ -297,7 +300,7 @@ candidate_complete text c h =
       names_are = h.names_are;
       cost_is = h.cost_is;
     } in
-    let extras : Extras = record { raddr = c.raddr; tcptype = c.tcptype; ufrag = c.ufrag } in
+    let extras : CandidateExtras = record { raddr = c.raddr; tcptype = c.tcptype; ufrag = c.ufrag } in
     let extras-are : IsExtras r₃ extras = record {
       related = h.related;
       tcp_type = h.tcp_type;

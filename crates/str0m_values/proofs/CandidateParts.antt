@@ -96,35 +96,35 @@ tcp_front = record { sound = tcp_sound; complete = tcp_complete }
 
 -- ---- a network's id and a name fragment
 
-abbrev network : List ℕ
-network = candidate_label.NETWORK_ID.now
+abbrev candidate_network_id_label : List ℕ
+candidate_network_id_label = candidate_label.NETWORK_ID.now
 
 abbrev ufrag : List ℕ
 ufrag = candidate_label.UFRAG.now
 
 -- neither of them follows
 abbrev pub EndsNames : List ℕ → Type 0
-EndsNames rest = IsWordEnd rest × (strip network rest ≡ None) × (strip ufrag rest ≡ None)
+EndsNames rest = IsWordEnd rest × (strip candidate_network_id_label rest ≡ None) × (strip ufrag rest ≡ None)
 
 -- what is read after the first two
 abbrev behind_read : Option (List ℕ) → Option (List ℕ) × List ℕ → Option (Option (List ℕ) × List ℕ)
 behind_read first named =
     if is_some first || is_none named.0 then Some named
-    else (optional_read network named.1 >>= λ last. Some (named.0, last.1))
+    else (optional_read candidate_network_id_label named.1 >>= λ last. Some (named.0, last.1))
 
 ice_names_found : (text : List ℕ) (x : Option (List ℕ) × List ℕ) (first : Option (List ℕ)) (named : Option (List ℕ) × List ℕ) (p q : List ℕ)
-    → text ≡ p ++ (q ++ named.1) → IsOptional network IsSameLabel p first → IsOptional ufrag IsSameLabel q named.0
+    → text ≡ p ++ (q ++ named.1) → IsOptional candidate_network_id_label IsSameLabel p first → IsOptional ufrag IsSameLabel q named.0
     → behind_read first named ≡ Some x
     → (part : List ℕ) × (text ≡ part ++ x.1) × AreIceNames part x.0
 ice_names_found text x (Some word) named p q joined p-is q-is e =
     rw (← some_is named x e) (p ++ q, joined ∙ sym (append_assoc p q named.1), inl (p, q, refl, (Some word, p-is), q-is))
 ice_names_found text x None (None, rest) p q joined p-is q-is e = grind arith
 ice_names_found text x None (Some fragment, rest) p q joined p-is q-is e =
-    label_option_bound (optional_read network rest) _ _ e λ last e₁ same.
-    let found = (optional_front network).sound rest last e₁ in
+    label_option_bound (optional_read candidate_network_id_label rest) _ _ e λ last e₁ same.
+    let found = (optional_front candidate_network_id_label).sound rest last e₁ in
     rw (← some_is (Some fragment, last.1) x same) (last_found last.0 last.1 found.0 found.1 found.2)
   where
-    last_found : (word : Option (List ℕ)) (more r : List ℕ) → rest ≡ r ++ more → IsOptional network IsSameLabel r word
+    last_found : (word : Option (List ℕ)) (more r : List ℕ) → rest ≡ r ++ more → IsOptional candidate_network_id_label IsSameLabel r word
         → (part : List ℕ) × (text ≡ part ++ more) × AreIceNames part (Some fragment)
     last_found None more r rest-is r-is =
         let whole : text ≡ (p ++ q) ++ more = joined ∙ ap (λ (t : List ℕ). p ++ (q ++ t)) (rest-is ∙ ap (λ (t : List ℕ). t ++ more) r-is)
@@ -138,15 +138,15 @@ ice_names_found text x None (Some fragment, rest) p q joined p-is q-is e =
 names_sound : (text : List ℕ) (x : Option (List ℕ) × List ℕ) → ice_names_read text ≡ Some x
     → (part : List ℕ) × (text ≡ part ++ x.1) × AreIceNames part x.0
 names_sound text x e =
-    label_option_bound (optional_read network text) _ _ e λ first e₁ k.
+    label_option_bound (optional_read candidate_network_id_label text) _ _ e λ first e₁ k.
     label_option_bound (optional_read ufrag first.1) _ _ k λ named e₂ last.
-    let one = (optional_front network).sound text first e₁ in
+    let one = (optional_front candidate_network_id_label).sound text first e₁ in
     let two = (optional_front ufrag).sound first.1 named e₂ in
     ice_names_found text x first.0 named one.0 two.0 (one.1 ∙ ap (λ (t : List ℕ). one.0 ++ t) two.1) one.2 two.2 last
 
 -- a name fragment or what follows it doesn't begin as a network's id
 name_ends : (part : List ℕ) (x : Option (List ℕ)) (rest : List ℕ) → IsOptional ufrag IsSameLabel part x → EndsNames rest
-    → EndsWithoutLabel network (part ++ rest)
+    → EndsWithoutLabel candidate_network_id_label (part ++ rest)
 name_ends part x rest h ends = grind arith
 
 candidate_no_ice_names_behind : (first x : Option (List ℕ)) (rest : List ℕ) → EndsNames rest → behind_read first (x, rest) ≡ Some (x, rest)
@@ -160,18 +160,18 @@ names_complete part x rest (inl h) ends =
       append_assoc h.0 h.1 rest,
       bind_is,
       optional_front ufrag,
-      optional_front network,
+      optional_front candidate_network_id_label,
       name_ends h.1 x rest h.4 ends,
       candidate_no_ice_names_behind h.3.0 x rest ends,
     )
 names_complete part x rest (inr h) ends =
     let whole : part ++ rest ≡ h.0 ++ (h.1 ++ rest) = ap (λ (t : List ℕ). t ++ rest) h.4 ∙ append_assoc h.0 h.1 rest in
-    let first : EndsWithoutLabel network (h.0 ++ (h.1 ++ rest)) = rw h.5.1 (refl, refl) in
+    let first : EndsWithoutLabel candidate_network_id_label (h.0 ++ (h.1 ++ rest)) = rw h.5.1 (refl, refl) in
     let second : EndsWithoutLabel ufrag (h.1 ++ rest) = rw h.6.1 (refl, refl) in
     ap ice_names_read whole
-    ∙ bind_is _ _ _ _ ((optional_front network).complete [] None (h.0 ++ (h.1 ++ rest)) refl first)
+    ∙ bind_is _ _ _ _ ((optional_front candidate_network_id_label).complete [] None (h.0 ++ (h.1 ++ rest)) refl first)
     (bind_is _ _ _ _ ((optional_front ufrag).complete h.0 (Some h.3) (h.1 ++ rest) h.5 second)
-    (bind_is _ _ _ _ ((optional_front network).complete h.1 (Some h.2) rest h.6 (ends.0, ends.1))
+    (bind_is _ _ _ _ ((optional_front candidate_network_id_label).complete h.1 (Some h.2) rest h.6 (ends.0, ends.1))
     (ap (λ (u : Option (List ℕ)). Some (u, rest)) (sym h.7))))
 
 pub names_front : LabelFront AreIceNames EndsNames ice_names_read

@@ -7,7 +7,7 @@ use Rattle.str0m_values.proofs.FingerprintZipLaws.{AllZip-at}
 use Rattle.str0m_values.specs.Cuts.{cut}
 use Rattle.str0m_values.specs.CutsParts.{Lacks}
 use Rattle.str0m_values.specs.Fingerprint.{IsNamed, IsHexByte, hash_pieces, IsFingerprint, HasBadByte, IsBytesReading, IsFingerprintReading}
-use Rattle.str0m_values.specs.Fingerprint.{Gives, CanBeReadBack, fingerprint_text, pairs_text}
+use Rattle.str0m_values.specs.Fingerprint.{GivesFingerprint, CanBeReadBack, fingerprint_text, pairs_text}
 use Rattle.str0m_values.specs.declared.fingerprint.Fingerprint.{Fingerprint}
 use Rattle.str0m_values.specs.declared.fingerprint.FingerprintError.{FingerprintError}
 use Rattle.str0m_values.specs.declared.fingerprint.FingerprintError.TheVariants.{NoSpace, BadByte, Memory}
@@ -54,7 +54,7 @@ fingerprint_good text f h bad = grind (
 )
 
 pub one_fingerprint : (text : List ℕ) (r : Result Fingerprint FingerprintError) → IsFingerprintReading text r → (f : Fingerprint)
-    → IsFingerprint text f → Gives f r
+    → IsFingerprint text f → GivesFingerprint f r
 one_fingerprint text (Ok g) h f is = same_fingerprint text g f h is
 one_fingerprint text (Err NoSpace) h f is = absurd (named_space text f.hash_func is.0 is.1 h)
 one_fingerprint text (Err BadByte) h f is = absurd (fingerprint_good text f is h)
@@ -64,9 +64,10 @@ pub no_space : (text : List ℕ) (r : Result Fingerprint FingerprintError) → I
     → (IsErrOf r NoSpace → Lacks 32 text) × (Lacks 32 text → IsErrOf r NoSpace)
 no_space text r h = grind (arith, named_space)
 
-pub refuses : (text : List ℕ) (r : Result Fingerprint FingerprintError) → IsFingerprintReading text r → HasBadByte text → IsErr r
-refuses text (Ok f) h bad = absurd (fingerprint_good text f h bad)
-refuses text (Err e) h bad = refl
+pub fingerprint_refused : (text : List ℕ) (r : Result Fingerprint FingerprintError) → IsFingerprintReading text r → HasBadByte text
+    → IsErr r
+fingerprint_refused text (Ok f) h bad = absurd (fingerprint_good text f h bad)
+fingerprint_refused text (Err e) h bad = refl
 
 -- a fingerprint with a byte and no space in its name is what its printed text is read as
 print_reads_back : (f : Fingerprint) (bytes : List ℕ) → f.bytes ≡ bytes → CanBeReadBack f → IsFingerprint (fingerprint_text f) f
@@ -79,7 +80,7 @@ print_reads_back f (first ∷ more) e can =
 
 pub fingerprint_itself : (text : List ℕ) (r : Result Fingerprint FingerprintError) → IsFingerprintReading text r → (f : Fingerprint)
     → CanBeReadBack f
-    → text ≡ fingerprint_text f → Gives f r
+    → text ≡ fingerprint_text f → GivesFingerprint f r
 fingerprint_itself text r h f can e = one_fingerprint text r h f
     (subst (λ (t : List ℕ). IsFingerprint t f) (sym e) (print_reads_back f f.bytes refl can))
 

@@ -12,8 +12,8 @@ record IsLastSeam (text : List ℕ) (i at : ℕ) : Type 0 where
   seam : (at ≡ 0) ⊎ IsCharBoundary text at
   last : (j : ℕ) → at < j → j ≤ i → IsCharBoundary text j → ⊥
 
-starts : (b : ℕ) → is_char_start b ≡ true → 128 ≤ b → 192 ≤ b
-starts b e high = grind (arith, ltb-true, leb-true)
+character_starts : (b : ℕ) → is_char_start b ≡ true → 128 ≤ b → 192 ≤ b
+character_starts b e high = grind (arith, ltb-true, leb-true)
 
 no_start_inside : (b : ℕ) → is_char_start b ≡ false → (128 ≤ b → 192 ≤ b) → ⊥
 no_start_inside b e h = grind arith
@@ -21,7 +21,7 @@ no_start_inside b e h = grind arith
 floor_is : (text : List ℕ) (i : ℕ) → i < length text → IsLastSeam text i (floor_char_boundary text i)
 unfolding floor_char_boundary
 floor_is text zero within = record { bound = omega arith; seam = inl refl; last = λ j above below is. absurd (omega arith) }
-floor_is text (suc i) within = grind (arith, cases_Bool, starts, floor_is text i, cases_lt, no_start_inside)
+floor_is text (suc i) within = grind (arith, cases_Bool, character_starts, floor_is text i, cases_lt, no_start_inside)
 
 -- the function gives a longest beginning
 pub beginning_is : (room : ℕ) (text : List ℕ) → IsLongestBeginning room text (text_beginning_of room text)

@@ -21,18 +21,18 @@ bind_is o x f y e more = ap (λ p. p >>= f) e ∙ more
 -- ---- what may stand after a part
 
 -- nothing, or text that begins with one of the labels
-abbrev pub Starts : List (List ℕ) → List ℕ → Type 0
-Starts [] text = text ≡ []
-Starts (label ∷ labels) text = ((more : List ℕ) × (text ≡ label ++ more)) ⊎ Starts labels text
+abbrev pub StartsWithLabel : List (List ℕ) → List ℕ → Type 0
+StartsWithLabel [] text = text ≡ []
+StartsWithLabel (label ∷ labels) text = ((more : List ℕ) × (text ≡ label ++ more)) ⊎ StartsWithLabel labels text
 
 -- what holds of nothing and of what begins with a label
 pub starts_all : (P : List ℕ → Type 0) (labels : List (List ℕ)) → P []
-    → AllByRecursion (λ label. (more : List ℕ) → P (label ++ more)) labels → (text : List ℕ) → Starts labels text → P text
+    → AllByRecursion (λ label. (more : List ℕ) → P (label ++ more)) labels → (text : List ℕ) → StartsWithLabel labels text → P text
 starts_all P [] none all text s = rw s none
 starts_all P (label ∷ labels) none all text s = elim s [ inl h ↦ rw h.1 (all.0 h.0) | inr h ↦ starts_all P labels none all.1 text h ]
 
 pub starts_optional : {B : Type 0} (F : List ℕ → B → Type 0) (label : List ℕ) (labels : List (List ℕ)) (part rest : List ℕ) (x : Option B)
-    → IsOptional label F part x → Starts labels rest → Starts (label ∷ labels) (part ++ rest)
+    → IsOptional label F part x → StartsWithLabel labels rest → StartsWithLabel (label ∷ labels) (part ++ rest)
 starts_optional F label labels part rest x h s = grind (arith, append_assoc)
 
 -- the word before ends there

@@ -16,10 +16,10 @@ joined_by c (text ∷ []) = text
 joined_by c (text ∷ more ∷ texts) = text ++ (c ∷ joined_by c (more ∷ texts))
 
 -- one or more parts with c between them, each with its value by F
-abbrev pub Parted : {B : Type 0} → ℕ → (List ℕ → B → Type 0) → List ℕ → List B → Type 0
-Parted c F text [] = ⊥
-Parted c F text (x ∷ []) = F text x
-Parted c F text (x ∷ y ∷ ys) = (part : List ℕ) × (rest : List ℕ) × (text ≡ part ++ (c ∷ rest)) × F part x × Parted c F rest (y ∷ ys)
+abbrev pub PartedAddress : {B : Type 0} → ℕ → (List ℕ → B → Type 0) → List ℕ → List B → Type 0
+PartedAddress c F text [] = ⊥
+PartedAddress c F text (x ∷ []) = F text x
+PartedAddress c F text (x ∷ y ∷ ys) = (part : List ℕ) × (rest : List ℕ) × (text ≡ part ++ (c ∷ rest)) × F part x × PartedAddress c F rest (y ∷ ys)
 
 -- ---- what a text stands for
 
@@ -29,7 +29,7 @@ IsOctet text n = (text ≡ decimal n) × (n < 2 ^ 8)
 
 -- four of them parted by dots
 abbrev pub IsV4Text : List ℕ → List ℕ → Type 0
-IsV4Text text octets = Parted 46 IsOctet text octets × (length octets ≡ 4)
+IsV4Text text octets = PartedAddress 46 IsOctet text octets × (length octets ≡ 4)
 
 -- one to four hex digits
 pub record IsHexGroup (text : List ℕ) (n : ℕ) : Type 0 where
@@ -111,14 +111,14 @@ first_group_run len [] = 0
 first_group_run len (n ∷ groups) = if zeros_at_front (n ∷ groups) == len then 0 else first_group_run len groups + 1
 
 -- `::` in place of len groups from start on
-abbrev pub shortened : ℕ → ℕ → List ℕ → List ℕ
-shortened start len groups = groups_text (take start groups) ++ (codes "::" ++ groups_text (drop (start + len) groups))
+abbrev pub shortened_address : ℕ → ℕ → List ℕ → List ℕ
+shortened_address start len groups = groups_text (take start groups) ++ (codes "::" ++ groups_text (drop (start + len) groups))
 
 -- groups with `::` in place of the longest run of two or more zero groups, and of such runs the first
 unfoldable pub v6_text : List ℕ → List ℕ
 v6_text groups =
     let len = longest_run groups in
-    if nat_lt 1 len then shortened (first_group_run len groups) len groups else groups_text groups
+    if nat_lt 1 len then shortened_address (first_group_run len groups) len groups else groups_text groups
 
 -- what is printed of an address
 abbrev pub ip_text : IpAddr → List ℕ

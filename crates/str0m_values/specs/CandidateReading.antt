@@ -52,13 +52,13 @@ ice_names_read text = do
       else (optional_read candidate_label.NETWORK_ID.now name.1 >>= λ behind. Some (name.0, behind.1))
 
 -- what stands in front of the address
-pub record Lead : Type 0 where
+pub record CandidateLead : Type 0 where
   pub foundation : List ℕ
   pub component_id : ℕ
   pub proto : Protocol
   pub prio : ℕ
 
-abbrev pub lead_read : List ℕ → Option (Lead × List ℕ)
+abbrev pub lead_read : List ℕ → Option (CandidateLead × List ℕ)
 lead_read text = do
   foundation ← labelled_read candidate_label.CANDIDATE.now text
   component ← part_read (codes " ") (num 65535) foundation.1
@@ -75,12 +75,12 @@ last_read text = do
   if is_rest cost.1 then None else Some names.0
 
 -- what is kept of the parts after the kind
-pub record Extras : Type 0 where
+pub record CandidateExtras : Type 0 where
   pub raddr : Option SocketAddr
   pub tcptype : Option TcpType
   pub ufrag : Option (List ℕ)
 
-abbrev pub extras_read : List ℕ → Option Extras
+abbrev pub extras_read : List ℕ → Option CandidateExtras
 extras_read text = do
   related ← related_read text
   tcp_type ← tcp_part_read related.1
@@ -88,7 +88,7 @@ extras_read text = do
   Some (record { raddr = related.0; tcptype = tcp_type.0; ufrag = ufrag })
 
 -- the candidate that has these parts
-abbrev pub candidate_of : Lead → SocketAddr → CandidateKind → Extras → Candidate
+abbrev pub candidate_of : CandidateLead → SocketAddr → CandidateKind → CandidateExtras → Candidate
 candidate_of lead addr kind extras = record {
   foundation = lead.foundation;
   component_id = lead.component_id;

@@ -56,9 +56,9 @@ abbrev pub HasBadByte : List ℕ → Type 0
 HasBadByte text = (name : List ℕ) × (rest : List ℕ) × IsNamed text name rest × HasBadHashPiece rest
 
 -- the answer is this fingerprint, memory aside
-abbrev pub Gives : Fingerprint → Result Fingerprint FingerprintError → Type 0
-Gives f (Ok g) = g ≡ f
-Gives f (Err e) = e ≡ Memory
+abbrev pub GivesFingerprint : Fingerprint → Result Fingerprint FingerprintError → Type 0
+GivesFingerprint f (Ok g) = g ≡ f
+GivesFingerprint f (Err e) = e ≡ Memory
 
 -- what the bytes of a text are read as, or why they aren't
 abbrev pub IsBytesReading : List ℕ → Result (List ℕ) FingerprintError → Type 0

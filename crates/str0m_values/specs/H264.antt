@@ -10,11 +10,11 @@ use Rattle.str0m_values.specs.declared.h264.H264ProfileLevel.{H264ProfileLevel}
 -- ---- profiles
 
 -- a profile, the first byte, which bits of the second byte count, and what those are
-abbrev pub Pattern : Type 0
-Pattern = H264Profile × ℕ × ℕ × ℕ
+abbrev pub H264Pattern : Type 0
+H264Pattern = H264Profile × ℕ × ℕ × ℕ
 
-abbrev pub patterns : List Pattern
-patterns =
+abbrev pub h264_patterns : List H264Pattern
+h264_patterns =
     (ConstrainedBaseline, 0x42, 0b0100_1111, 0b0100_0000)
     ∷ (ConstrainedBaseline, 0x4D, 0b1000_1111, 0b1000_0000)
     ∷ (ConstrainedBaseline, 0x58, 0b1100_1111, 0b1100_0000)
@@ -27,12 +27,12 @@ patterns =
     ∷ []
 
 -- the first byte is that of the pattern, and so are those bits of the second that count
-abbrev pub fits_pattern : ℕ → ℕ → Pattern → Bool
+abbrev pub fits_pattern : ℕ → ℕ → H264Pattern → Bool
 fits_pattern idc iop pattern = pattern.1 == idc && bit_and iop pattern.2 == pattern.3
 
 -- the profile of the first pattern that fits
 abbrev pub profile_of : ℕ → ℕ → Option H264Profile
-profile_of idc iop = option_map (λ pattern. pattern.0) (find (fits_pattern idc iop) patterns)
+profile_of idc iop = option_map (λ pattern. pattern.0) (find (fits_pattern idc iop) h264_patterns)
 
 -- ---- levels
 

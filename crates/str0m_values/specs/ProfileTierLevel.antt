@@ -27,7 +27,7 @@ abbrev pub value_in : {A : Type 0} → List (A × ℕ) → ℕ → Option A
 value_in rows n = option_map (λ it. it.0) (find (λ it. it.1 == n) rows)
 
 -- the number of each profile, tier and level of a codec, the tables of them, and the numbers that absent texts stand for
-pub record Tables (P T L : Type 0) : Type 0 where
+pub record ProfileTables (P T L : Type 0) : Type 0 where
   pub profile_id : P → ℕ
   pub tier_flag : T → ℕ
   pub level_id : L → ℕ

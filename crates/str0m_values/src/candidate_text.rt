@@ -12,9 +12,9 @@ use crate::address::{IpAddr, SocketAddr};
 use crate::candidate::Candidate;
 use crate::candidate_kind::CandidateKind;
 use crate::candidate_label;
+use crate::candidate_protocol::{Protocol, TcpType};
 use crate::cuts::{num_u16, num_u32, strip};
 use crate::labels::{labelled, optional};
-use crate::protocol::{Protocol, TcpType};
 use crate::text::Text;
 use std::alloc::{AllocError, Global};
 
@@ -51,7 +51,7 @@ fn component(text: &str) -> Option<(u16, &str)>
     Some((num_u16(word)?, rest))
 }
 
-fn protocol(text: &str) -> Option<(Protocol, &str)>
+fn candidate_protocol(text: &str) -> Option<(Protocol, &str)>
     ensures { option_map (λ x. (x.0, x.1.now)) result ≡ part_read (codes " ") protocol_read text.now }
 {
     let (word, rest) = labelled(text, " ")?;
@@ -126,7 +126,7 @@ fn before_address(text: &str) -> Option<(Lead<'_>, &str)>
 {
     let (foundation, rest) = labelled(text, candidate_label::CANDIDATE)?;
     let (component_id, rest) = component(rest)?;
-    let (proto, rest) = protocol(rest)?;
+    let (proto, rest) = candidate_protocol(rest)?;
     let (prio, rest) = priority(rest)?;
     Some((
         Lead {

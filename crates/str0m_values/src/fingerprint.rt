@@ -3,7 +3,7 @@ ghost use Rattle.std.specs.Fmt.{digit_glyph};
 ghost use Rattle.std.specs.List.{AllZip};
 ghost use Rattle.std.specs.Prelude.{◌≡◌, ◌<◌, ◌∷◌, ◌↔◌, IfOk, IfSome, IsErr, IsErrOf, IsTrue, Some, true, flat_map};
 ghost use Rattle.str0m_values.specs.CutsParts.{Lacks};
-ghost use Rattle.str0m_values.specs.Fingerprint.{IsFingerprint, IsHexByte, IsFingerprintWrittenBy, HasBadByte, IsBytesReading, IsFingerprintReading, Gives, CanBeReadBack, fingerprint_text, hex_pair, pairs_text, hash_pieces, preference_of};
+ghost use Rattle.str0m_values.specs.Fingerprint.{IsFingerprint, IsHexByte, IsFingerprintWrittenBy, HasBadByte, IsBytesReading, IsFingerprintReading, GivesFingerprint, CanBeReadBack, fingerprint_text, hex_pair, pairs_text, hash_pieces, preference_of};
 ghost use Rattle.str0m_values.specs.declared.fingerprint.Fingerprint.{Fingerprint};
 ghost use Rattle.str0m_values.specs.declared.fingerprint.FingerprintError.TheVariants.{NoSpace, BadByte, Memory};
 
@@ -64,13 +64,13 @@ impl Fingerprint {
     /// there is no room for the name or the bytes.
     pub fn from_str(alloc: Global, text: &str) -> Result<Fingerprint, FingerprintError>
         ensures reads { IfOk result (IsFingerprint text.now) }
-        ensures only { (f : Fingerprint) → IsFingerprint text.now f → Gives f result }
+        ensures only { (f : Fingerprint) → IsFingerprint text.now f → GivesFingerprint f result }
         ensures no_space { IsErrOf result NoSpace ↔ Lacks 32 text.now }
         ensures bad_byte { IsErrOf result BadByte → HasBadByte text.now }
         ensures refuses { HasBadByte text.now → IsErr result }
 
         // What is printed reads as itself.
-        ensures itself { (f : Fingerprint) → CanBeReadBack f → text.now ≡ fingerprint_text f → Gives f result }
+        ensures itself { (f : Fingerprint) → CanBeReadBack f → text.now ≡ fingerprint_text f → GivesFingerprint f result }
 
         // Equal fingerprints hash alike.
         ensures alike { (f g : Fingerprint) → IsTrue (⟦<Fingerprint as PartialEq>⟧.eq f g) →

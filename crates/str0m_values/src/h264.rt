@@ -3,7 +3,7 @@ ghost use Rattle.std.specs.List.{range_with_len};
 ghost use Rattle.std.specs.Ordering.{nat_cmp};
 ghost use Rattle.std.specs.Prelude.{◌≡◌, ◌≤◌, ℕ, count_by, map};
 ghost use Rattle.std.specs.Result.{result_ok};
-ghost use Rattle.str0m_values.specs.H264.{fits_pattern, level_of, level_ordinal, levels, lower_level, marks_1b, named, patterns, profile_level_of, profile_level_of_bytes, profile_of};
+ghost use Rattle.str0m_values.specs.H264.{fits_pattern, level_of, level_ordinal, levels, lower_level, marks_1b, named, h264_patterns, profile_level_of, profile_level_of_bytes, profile_of};
 
 use self::H264Profile::{
     Baseline, ConstrainedBaseline, ConstrainedHigh, High, Main, PredictiveHigh444,
@@ -147,7 +147,7 @@ fn profile_of(idc: u8, iop: u8) -> Option<H264Profile>
     ensures first { result ≡ profile_of idc iop }
 
     // No two bytes fit two patterns.
-    ensures one { (idc iop : ℕ) → count_by (fits_pattern idc iop) patterns ≤ 1 }
+    ensures one { (idc iop : ℕ) → count_by (fits_pattern idc iop) h264_patterns ≤ 1 }
 {
     PATTERNS
         .iter()

@@ -11,7 +11,7 @@ use str0m_signal::{
 const BARE_HEADER: &str = "v=0\r\no=- 1 1 IN IP4 127.0.0.1\r\ns=-\r\nt=0 0\r\n";
 
 /// Opus' text, a line that fits nowhere, and the text again.
-fn twice(alloc: Global) -> Result<String, AllocError> {
+fn described_twice(alloc: Global) -> Result<String, AllocError> {
     format!(in alloc; "{OPUS}x\r\n{OPUS}")
 }
 
@@ -24,7 +24,7 @@ fn is_offer_of(offer: &SdpOffer, sdp: Sdp) -> bool {
 
 #[test]
 fn an_offer_holds_what_was_read(rt: HostRuntime) -> Result<(), Fail> {
-    let text = twice(rt.alloc())?;
+    let text = described_twice(rt.alloc())?;
     let offer = SdpOffer::from_sdp_string(rt.alloc(), text.as_str())?;
     let is_so = is_offer_of(&offer, read(rt.alloc(), text.as_str())?);
     assert!(rt; is_so);
@@ -40,7 +40,7 @@ fn is_answer_of(answer: &SdpAnswer, sdp: Sdp) -> bool {
 
 #[test]
 fn an_answer_holds_what_was_read(rt: HostRuntime) -> Result<(), Fail> {
-    let text = twice(rt.alloc())?;
+    let text = described_twice(rt.alloc())?;
     let answer = SdpAnswer::from_sdp_string(rt.alloc(), text.as_str())?;
     let is_so = is_answer_of(&answer, read(rt.alloc(), text.as_str())?);
     assert!(rt; is_so);

@@ -53,7 +53,7 @@ fn round(
 }
 
 /// A configuration in which a row of H264 that a round has locked stands twice.
-fn doubled(alloc: Global) -> Result<CodecConfig, AllocError> {
+fn doubled_rows(alloc: Global) -> Result<CodecConfig, AllocError> {
     let rows = Vec::from_slice(alloc, &[h264(), vp8()])?;
     let mut config = CodecConfig::new_from_payload_params(alloc, rows);
     let _ = round(alloc, &mut config, &[h264()], Direction::RecvOnly)?;
@@ -80,7 +80,7 @@ fn are_as_they_were_locked(rows: &[PayloadParams]) -> bool {
 
 #[test]
 fn a_locked_type_that_stands_twice_refuses_every_round(rt: HostRuntime) -> Result<(), Fail> {
-    let mut config = doubled(rt.alloc())?;
+    let mut config = doubled_rows(rt.alloc())?;
     for direction in &DIRECTIONS {
         let found = round(rt.alloc(), &mut config, &[], *direction)?;
         assert_eq!(rt;
@@ -95,7 +95,7 @@ fn a_locked_type_that_stands_twice_refuses_every_round(rt: HostRuntime) -> Resul
 }
 
 /// So many rows that nothing matches, each at 96, and then a row of Opus.
-fn many(alloc: Global, count: usize, codec: Codec) -> Result<Vec<PayloadParams>, AllocError> {
+fn many_rows(alloc: Global, count: usize, codec: Codec) -> Result<Vec<PayloadParams>, AllocError> {
     let mut rows = Vec::new(alloc);
     for _ in 0..count {
         let one = row_of(codec, Frequency::EIGHT_KHZ, None, (96, None, None));
@@ -113,9 +113,9 @@ fn is_last_alone_locked(rows: &[PayloadParams]) -> bool {
 /// A round has no limit but memory: 500 rows on both sides, of which the last ones match.
 #[test]
 fn five_hundred_rows_meet_five_hundred(rt: HostRuntime) -> Result<(), Fail> {
-    let own = many(rt.alloc(), 499, Codec::PCMU)?;
+    let own = many_rows(rt.alloc(), 499, Codec::PCMU)?;
     let mut config = CodecConfig::new_from_payload_params(rt.alloc(), own);
-    let remote = many(rt.alloc(), 499, Codec::PCMA)?;
+    let remote = many_rows(rt.alloc(), 499, Codec::PCMA)?;
     let found = round(
         rt.alloc(),
         &mut config,

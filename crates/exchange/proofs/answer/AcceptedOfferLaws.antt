@@ -9,7 +9,8 @@ use Rattle.exchange.proofs.Common.{feedback_line, fmtp_line, format_attrs, forma
 use Rattle.exchange.proofs.Common.{rtx_lines, AreMidsDistinct, section_mids, receives, Candidate, Direction}
 use Rattle.exchange.proofs.offer.OfferNameLaws.{NamesDiffer, OtherName, name_differ_from}
 use Rattle.exchange.proofs.offer.RuleLaws.{sections_shape}
-use Rattle.exchange.specs.answer.Accepted.{are_layers_told, candidate_line, channel_lines, first_lines, framed, layer_lines, media_lines}
+use Rattle.exchange.specs.answer.Accepted.{are_layers_told, candidate_line, channel_lines, first_lines, accepted_frame, layer_lines}
+use Rattle.exchange.specs.answer.Accepted.{media_lines}
 use Rattle.exchange.specs.answer.Accepted.{msid_lines, track_id}
 use Rattle.exchange.specs.answer.AcceptedOffer.{section_tracks, track_of}
 use Rattle.exchange.specs.answer.AnsweredSection.{AnswersSection, SaysSectionChoice}
@@ -28,31 +29,31 @@ use Rattle.str0m_sdp.specs.declared.attribute.MediaAttribute.TheVariants as medi
 use Rattle.str0m_values.specs.declared.direction.Direction.TheVariants as way
 
 -- lines that say no track
-abbrev Trackless : List MediaAttribute → Type 0
-Trackless lines = filter_map track_of lines ≡ []
+abbrev TracklessLine : List MediaAttribute → Type 0
+TracklessLine lines = filter_map track_of lines ≡ []
 
-trackless_both : (xs ys : List MediaAttribute) → Trackless xs → Trackless ys → Trackless (xs ++ ys)
+trackless_both : (xs ys : List MediaAttribute) → TracklessLine xs → TracklessLine ys → TracklessLine (xs ++ ys)
 trackless_both xs ys x y = filter_map-append track_of xs ys ∙ ap (λ (found : List (List ℕ)). found ++ filter_map track_of ys) x ∙ y
 
 -- ---- of rows
 
-feedback_trackless : (pt : ℕ) (value : List ℕ) (b : Bool) → Trackless (feedback_line pt value b)
+feedback_trackless : (pt : ℕ) (value : List ℕ) (b : Bool) → TracklessLine (feedback_line pt value b)
 feedback_trackless pt value true = refl
 feedback_trackless pt value false = refl
 
-fmtp_trackless : (pt : ℕ) (values : List FormatParam) → Trackless (fmtp_line pt values)
+fmtp_trackless : (pt : ℕ) (values : List FormatParam) → TracklessLine (fmtp_line pt values)
 fmtp_trackless pt [] = refl
 fmtp_trackless pt (value ∷ values) = refl
 
-rtx_trackless : (row : PayloadParams) (pt : Option ℕ) → Trackless (rtx_lines row pt)
+rtx_trackless : (row : PayloadParams) (pt : Option ℕ) → TracklessLine (rtx_lines row pt)
 rtx_trackless row None = refl
 rtx_trackless row (Some pt) = refl
 
-red_trackless : (row : PayloadParams) (pt : Option ℕ) → Trackless (red_lines row pt)
+red_trackless : (row : PayloadParams) (pt : Option ℕ) → TracklessLine (red_lines row pt)
 red_trackless row None = refl
 red_trackless row (Some pt) = refl
 
-feedbacks_trackless : (row : PayloadParams) → Trackless (feedback_attrs row)
+feedbacks_trackless : (row : PayloadParams) → TracklessLine (feedback_attrs row)
 feedbacks_trackless row =
     let cc_line : List MediaAttribute = feedback_line row.pt TRANSPORT_CC.now row.fb_transport_cc in
     let remb : List MediaAttribute = feedback_line row.pt REMB.now row.fb_remb in
@@ -64,68 +65,68 @@ feedbacks_trackless row =
     (trackless_both fir (nack ++ pli) (feedback_trackless row.pt FIR.now row.fb_fir)
     (trackless_both nack pli (feedback_trackless row.pt NACK.now row.fb_nack) (feedback_trackless row.pt PLI.now row.fb_pli))))
 
-row_trackless : (row : PayloadParams) → Trackless (row_attrs row)
+row_trackless : (row : PayloadParams) → TracklessLine (row_attrs row)
 row_trackless row =
     trackless_both (feedback_attrs row) (format_attrs row ++ (rtx_attrs row ++ red_attrs row)) (feedbacks_trackless row)
     (trackless_both (format_attrs row) (rtx_attrs row ++ red_attrs row)
     (fmtp_trackless row.pt (format_values row.spec.codec row.spec.format))
     (trackless_both (rtx_attrs row) (red_attrs row) (rtx_trackless row row.resend) (red_trackless row row.red)))
 
-rows_trackless : (rows : List PayloadParams) → Trackless (flat_map row_attrs rows)
+rows_trackless : (rows : List PayloadParams) → TracklessLine (flat_map row_attrs rows)
 rows_trackless [] = refl
 rows_trackless (row ∷ rows) = trackless_both (row_attrs row) (flat_map row_attrs rows) (row_trackless row) (rows_trackless rows)
 
 -- ---- of frames
 
-candidates_trackless : (candidates : List Candidate) → Trackless (map candidate_line candidates)
+candidates_trackless : (candidates : List Candidate) → TracklessLine (map candidate_line candidates)
 candidates_trackless [] = refl
 candidates_trackless (candidate ∷ candidates) = candidates_trackless candidates
 
-direction_trackless : (direction : Direction) → Trackless (direction_attribute direction ∷ [])
+direction_trackless : (direction : Direction) → TracklessLine (direction_attribute direction ∷ [])
 direction_trackless way.SendRecv = refl
 direction_trackless way.SendOnly = refl
 direction_trackless way.RecvOnly = refl
 direction_trackless way.Inactive = refl
 
-repeated_trackless : (known : List (List ℕ)) (attrs : List MediaAttribute) → Trackless (filter (is_repeated known) attrs)
+repeated_trackless : (known : List (List ℕ)) (attrs : List MediaAttribute) → TracklessLine (filter (is_repeated known) attrs)
 repeated_trackless known [] = refl
 repeated_trackless known (media.RtcpMux ∷ attrs) = repeated_trackless known attrs
 repeated_trackless known (media.RtcpRsize ∷ attrs) = repeated_trackless known attrs
 repeated_trackless known (media.ExtMap id ext ∷ attrs) = go (list_any (λ uri. bytes_eq uri ext.uri) known) (repeated_trackless known attrs)
   where
-    go : (b : Bool) → Trackless (filter (is_repeated known) attrs)
-        → Trackless (cond b (media.ExtMap id ext ∷ filter (is_repeated known) attrs) (filter (is_repeated known) attrs))
+    go : (b : Bool) → TracklessLine (filter (is_repeated known) attrs)
+        → TracklessLine (cond b (media.ExtMap id ext ∷ filter (is_repeated known) attrs) (filter (is_repeated known) attrs))
     go true rec = rec
     go false rec = rec
 repeated_trackless known (media.Unused text ∷ attrs) = go (bytes_eq text EXTMAP_ALLOW_MIXED.now) (repeated_trackless known attrs) where
-  go : (b : Bool) → Trackless (filter (is_repeated known) attrs)
-      → Trackless (cond b (media.Unused text ∷ filter (is_repeated known) attrs) (filter (is_repeated known) attrs))
+  go : (b : Bool) → TracklessLine (filter (is_repeated known) attrs)
+      → TracklessLine (cond b (media.Unused text ∷ filter (is_repeated known) attrs) (filter (is_repeated known) attrs))
   go true rec = rec
   go false rec = rec
 repeated_trackless known (attr ∷ attrs) = repeated_trackless known attrs
 
 rids_trackless : (sent : List SimulcastLayer) (rows : List PayloadParams) (attrs : List MediaAttribute)
-    → Trackless (filter_map (answered_rid sent rows) attrs)
+    → TracklessLine (filter_map (answered_rid sent rows) attrs)
 rids_trackless sent rows [] = refl
 rids_trackless sent rows (media.Rid id direction pts restrictions ∷ attrs) =
     go (bytes_eq direction (codes "send") && (list_any (is_layer_named id.0) sent && is_rid_left rows pts)) (rids_trackless sent rows attrs)
   where
-    go : (b : Bool) → Trackless (filter_map (answered_rid sent rows) attrs)
-        → Trackless (cons_option (cond b (Some (media.Rid id (codes "recv") (rid_types_left rows pts) restrictions)) None)
+    go : (b : Bool) → TracklessLine (filter_map (answered_rid sent rows) attrs)
+        → TracklessLine (cons_option (cond b (Some (media.Rid id (codes "recv") (rid_types_left rows pts) restrictions)) None)
         (filter_map (answered_rid sent rows) attrs))
     go true rec = rec
     go false rec = rec
 rids_trackless sent rows (attr ∷ attrs) = rids_trackless sent rows attrs
 
-layers_trackless : (layers : List SimulcastLayer) → Trackless (layers_line layers)
+layers_trackless : (layers : List SimulcastLayer) → TracklessLine (layers_line layers)
 layers_trackless [] = refl
 layers_trackless (layer ∷ layers) = refl
 
 layer_lines_trackless : (own : OwnSide) (direction : Direction) (offered : MediaLine) (rows : List PayloadParams)
-    → Trackless (layer_lines own direction offered rows)
+    → TracklessLine (layer_lines own direction offered rows)
 layer_lines_trackless own direction offered rows = go (own.receives_simulcast
     && (receives direction && are_layers_told own.extensions offered)) where
-      go : (b : Bool) → Trackless (cond b (answered_layers rows offered) [])
+      go : (b : Bool) → TracklessLine (cond b (answered_layers rows offered) [])
       go true = trackless_both (answered_rids rows offered) (layers_line (received_layers (answered_rids rows offered) offered))
           (rids_trackless (sent_layers offered) rows offered.attrs)
           (layers_trackless (received_layers (answered_rids rows offered) offered))
@@ -162,7 +163,7 @@ media_tracks own offered mid direction rows =
     (repeated_trackless own.extensions offered.attrs))
 
 accepted_tracks : (own : OwnSide) (offered : MediaLine) (mid : List ℕ) (role : Setup) (direction : Direction) (rows : List PayloadParams)
-    → section_tracks (made (framed offered (first_lines own mid role ++ media_lines own offered mid direction rows)) rows)
+    → section_tracks (made (accepted_frame offered (first_lines own mid role ++ media_lines own offered mid direction rows)) rows)
     ≡ filter_map track_of (msid_lines own direction mid)
 accepted_tracks own offered mid role direction rows =
     let lines : List MediaAttribute = first_lines own mid role ++ media_lines own offered mid direction rows in
@@ -174,27 +175,27 @@ accepted_tracks own offered mid role direction rows =
     ∙ media_tracks own offered mid direction rows
 
 media_so : (own : OwnSide) (offered : MediaLine) (mid : List ℕ) (role : Setup) (direction : Direction) (rows : List PayloadParams)
-    → TracksSo (made (framed offered (first_lines own mid role ++ media_lines own offered mid direction rows)) rows)
+    → TracksSo (made (accepted_frame offered (first_lines own mid role ++ media_lines own offered mid direction rows)) rows)
 media_so own offered mid role way.SendRecv rows = inr (mid, refl, accepted_tracks own offered mid role way.SendRecv rows)
 media_so own offered mid role way.SendOnly rows = inr (mid, refl, accepted_tracks own offered mid role way.SendOnly rows)
 media_so own offered mid role way.RecvOnly rows = inl (accepted_tracks own offered mid role way.RecvOnly rows)
 media_so own offered mid role way.Inactive rows = inl (accepted_tracks own offered mid role way.Inactive rows)
 
-mid_trackless : (attrs : List MediaAttribute) → Trackless (option_to_list (find is_mid attrs))
+mid_trackless : (attrs : List MediaAttribute) → TracklessLine (option_to_list (find is_mid attrs))
 mid_trackless [] = refl
 mid_trackless (media.Mid mid ∷ attrs) = refl
 mid_trackless (attr ∷ attrs) = mid_trackless attrs
 
-mapped_trackless : (pt : ℕ) (attrs : List MediaAttribute) → Trackless (option_to_list (find (maps pt) attrs))
+mapped_trackless : (pt : ℕ) (attrs : List MediaAttribute) → TracklessLine (option_to_list (find (maps pt) attrs))
 mapped_trackless pt [] = refl
 mapped_trackless pt (media.RtpMap n value ∷ attrs) = go (maps pt (media.RtpMap n value)) (mapped_trackless pt attrs) where
-  go : (b : Bool) → Trackless (option_to_list (find (maps pt) attrs))
-      → Trackless (option_to_list (cond b (Some (media.RtpMap n value)) (find (maps pt) attrs)))
+  go : (b : Bool) → TracklessLine (option_to_list (find (maps pt) attrs))
+      → TracklessLine (option_to_list (cond b (Some (media.RtpMap n value)) (find (maps pt) attrs)))
   go true rec = refl
   go false rec = rec
 mapped_trackless pt (attr ∷ attrs) = mapped_trackless pt attrs
 
-over_trackless : (proto : Proto) → Trackless (direction_over proto)
+over_trackless : (proto : Proto) → TracklessLine (direction_over proto)
 over_trackless Srtp = refl
 over_trackless Sctp = refl
 
@@ -206,7 +207,7 @@ rejected_trackless offered =
     (mapped_trackless (first_rejected_type offered.pts) offered.attrs))
 
 channels_trackless : (own : OwnSide) (offered : MediaLine) (mid : List ℕ) (role : Setup) (channels : DataChannels)
-    → section_tracks (framed offered (first_lines own mid role ++ channel_lines channels ++ map candidate_line own.candidates)) ≡ []
+    → section_tracks (accepted_frame offered (first_lines own mid role ++ channel_lines channels ++ map candidate_line own.candidates)) ≡ []
 channels_trackless own offered mid role channels =
     trackless_both (first_lines own mid role ++ channel_lines channels) (map candidate_line own.candidates) refl
     (candidates_trackless own.candidates)

@@ -27,9 +27,10 @@ misfit old text offer answer ours Memory breaks open_so is_answer negotiated = t
 misfit old text offer answer ours _ breaks open_so is_answer negotiated = absurd breaks
 
 -- what the other side wouldn't read as it is said
-pub unprintable : (old : Exchange) (text : List ℕ) (offer : Sdp) (ours : List PayloadParams) (error : ExchangeError) → IsOffer text offer
+pub answer_unprintable : (old : Exchange) (text : List ℕ) (offer : Sdp) (ours : List PayloadParams) (error : ExchangeError)
+    → IsOffer text offer
     → NegotiatesOffer offer old.config.params.items ours → RefusesToAnswer old ours offer error → RefusesOffer old text error
-unprintable old text offer ours NotPrintable is_offer negotiated loses =
+answer_unprintable old text offer ours NotPrintable is_offer negotiated loses =
     record { offer = offer; is_offer = is_offer; ours = ours; negotiated = negotiated; loses = loses }
-unprintable old text offer ours Memory is_offer negotiated loses = tt
-unprintable old text offer ours _ is_offer negotiated loses = absurd loses
+answer_unprintable old text offer ours Memory is_offer negotiated loses = tt
+answer_unprintable old text offer ours _ is_offer negotiated loses = absurd loses

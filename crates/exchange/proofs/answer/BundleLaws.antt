@@ -26,9 +26,10 @@ group_said [] offered = ap bundle_names_or_none (no_group offered)
 group_said (name ∷ names) offered = refl
 
 -- an empty group isn't said
-unsaid : (names : List (List ℕ)) (offered : List SessionAttribute) → names ≡ [] → group_in (group_lines names ++ mixed_lines offered) ≡ None
-unsaid [] offered none = no_group offered
-unsaid (name ∷ names) offered none = cc
+group_unsaid : (names : List (List ℕ)) (offered : List SessionAttribute) → names ≡ []
+    → group_in (group_lines names ++ mixed_lines offered) ≡ None
+group_unsaid [] offered none = no_group offered
+group_unsaid (name ∷ names) offered none = cc
 
 pub bundles : (own : OwnSide) (offer answer : Sdp) → answer.session ≡ answered_session own offer answer.media_lines
     → BundlesAccepted offer answer
@@ -40,5 +41,5 @@ bundles own offer answer is =
     ap bundle_names_or_none group ∙ group_said names offer.session.attrs in
     record {
       names = listed;
-      absent = λ none. group ∙ unsaid names offer.session.attrs (sym listed ∙ none);
+      absent = λ none. group ∙ group_unsaid names offer.session.attrs (sym listed ∙ none);
     }

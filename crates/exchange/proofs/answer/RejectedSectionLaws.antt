@@ -92,22 +92,28 @@ module _ (offered : MediaLine) (is : Consistent offered) where
       (count-append test (direction_over offered.proto) (option_to_list rejected_mapping_found))
 
   -- a line of a direction is neither a name nor a setup nor a mapping
-  record Directed (proto : Proto) : Type 0 where
+  record DirectedOverProto (proto : Proto) : Type 0 where
     pub mids : count_by is_mid (direction_over proto) ≡ 0
     pub setups : count_by is_setup (direction_over proto) ≡ 0
     pub mappings : count_by (maps pt) (direction_over proto) ≡ 0
     pub one : proto ≡ Srtp → count_by is_direction (direction_over proto) ≡ 1
     pub agree : (all : List MediaAttribute) → All (AgreesOnApt all) (direction_over proto)
 
-  directed : (proto : Proto) → Directed proto
-  directed Srtp = record {
+  rejected_directed_over_proto : (proto : Proto) → DirectedOverProto proto
+  rejected_directed_over_proto Srtp = record {
     mids = refl;
     setups = refl;
     mappings = refl;
     one = λ e. refl;
     agree = λ all. All-cons (AgreesOnApt all) media.Inactive [] tt (All-nil (AgreesOnApt all));
   }
-  directed Sctp = record { mids = refl; setups = refl; mappings = refl; one = λ e. cc; agree = λ all. All-nil (AgreesOnApt all) }
+  rejected_directed_over_proto Sctp = record {
+    mids = refl;
+    setups = refl;
+    mappings = refl;
+    one = λ e. cc;
+    agree = λ all. All-nil (AgreesOnApt all);
+  }
 
   one_mid_line : count_by is_mid rejecting_lines_of ≡ 1
   one_mid_line =
@@ -115,7 +121,7 @@ module _ (offered : MediaLine) (is : Consistent offered) where
       (rejected_line_weaker _ _ (λ line h. h.mid_is) mid_found mid_counts) in
       let neither = rejected_counts_none is_mid rejected_mapping_found
       (rejected_line_weaker _ _ (λ line h. h.mid_is) rejected_mapping_found rejected_mapping_counts) in
-      let none = (directed offered.proto).mids in
+      let none = (rejected_directed_over_proto offered.proto).mids in
       omega (arith, rejected_lines_counted is_mid, here, neither, none)
 
   few_setups : count_by is_setup rejecting_lines_of ≤ 1
@@ -123,7 +129,7 @@ module _ (offered : MediaLine) (is : Consistent offered) where
       let here = rejected_counts_none is_setup mid_found (rejected_line_weaker _ _ (λ line h. h.setup_is) mid_found mid_counts) in
       let neither = rejected_counts_none is_setup rejected_mapping_found
       (rejected_line_weaker _ _ (λ line h. h.setup_is) rejected_mapping_found rejected_mapping_counts) in
-      let none = (directed offered.proto).setups in
+      let none = (rejected_directed_over_proto offered.proto).setups in
       omega (arith, rejected_lines_counted is_setup, here, neither, none)
 
   one_direction : offered.proto ≡ Srtp → count_by is_direction rejecting_lines_of ≡ 1
@@ -131,13 +137,13 @@ module _ (offered : MediaLine) (is : Consistent offered) where
       let here = rejected_counts_none is_direction mid_found (rejected_line_weaker _ _ (λ line h. h.direction_is) mid_found mid_counts) in
       let neither = rejected_counts_none is_direction rejected_mapping_found
       (rejected_line_weaker _ _ (λ line h. h.direction_is) rejected_mapping_found rejected_mapping_counts) in
-      let one = (directed offered.proto).one srtp in
+      let one = (rejected_directed_over_proto offered.proto).one srtp in
       omega (arith, rejected_lines_counted is_direction, here, neither, one)
 
   mappings : count_by (maps pt) rejecting_lines_of ≡ count_by (maps pt) (option_to_list rejected_mapping_found)
   mappings =
       let here = rejected_counts_none (maps pt) mid_found (rejected_line_weaker _ _ (λ line h. h.mapping_is) mid_found mid_counts) in
-      let none = (directed offered.proto).mappings in
+      let none = (rejected_directed_over_proto offered.proto).mappings in
       omega (arith, rejected_lines_counted (maps pt), here, none)
 
   rejected_needs_no_mapping : (pts : List ℕ) → offered.pts ≡ pts → is_some (find (maps (first_rejected_type pts)) offered.attrs) ≡ false
@@ -174,7 +180,7 @@ module _ (offered : MediaLine) (is : Consistent offered) where
       (direction_over offered.proto ++ option_to_list rejected_mapping_found)
       (found_agrees mid_found rejecting_lines_of (rejected_line_weaker _ _ (λ line h. h.agrees rejecting_lines_of) mid_found mid_counts))
       (All-append (AgreesOnApt rejecting_lines_of) (direction_over offered.proto) (option_to_list rejected_mapping_found)
-      ((directed offered.proto).agree rejecting_lines_of)
+      ((rejected_directed_over_proto offered.proto).agree rejecting_lines_of)
       (found_agrees rejected_mapping_found rejecting_lines_of
       (rejected_line_weaker _ _ (λ line h. h.agrees rejecting_lines_of) rejected_mapping_found rejected_mapping_counts)))
 

@@ -7,8 +7,8 @@ use Rattle.exchange.proofs.Common.{MediaLine, rows, ◌>>=◌}
 use Rattle.exchange.proofs.answer.RowsListLaws.{All-distinct, All-filter_map, list_contains_type, distinct-once, list_found, found_some}
 use Rattle.exchange.proofs.answer.RowsListLaws.{list_keeps_type}
 use Rattle.exchange.proofs.answer.RowsListLaws.{list_marks, times-filter}
-use Rattle.exchange.specs.answer.Rows.{IsAgreed, Belongs, SaysWhatIsOffered, agreed_type, answer_to, answer_under, answered_rows}
-use Rattle.exchange.specs.answer.Rows.{as_answered, is_answered, is_carried_in, matches, own_types}
+use Rattle.exchange.specs.answer.Rows.{IsAgreed, BelongsInAnswer, SaysWhatIsOffered, agreed_type, answer_to, answer_under, answered_rows}
+use Rattle.exchange.specs.answer.Rows.{as_answered, is_answered, is_carried_in, row_matches, own_types}
 use Rattle.str0m_formats.specs.round.MatchScore.{score}
 
 -- ---- one row
@@ -17,9 +17,9 @@ row_is_some : {A : Type 0} (o : Option A) → is_some o ≡ true → o ≢ None
 row_is_some None h = λ e. false≢true h
 row_is_some (Some x) h = λ e. cc
 
-some : {A : Type 0} (o : Option A) → o ≢ None → is_some o ≡ true
-some None h = absurd (h refl)
-some (Some x) h = refl
+row_some : {A : Type 0} (o : Option A) → o ≢ None → is_some o ≡ true
+row_some None h = absurd (h refl)
+row_some (Some x) h = refl
 
 row_and_both : {a b : Bool} → a ≡ true → b ≡ true → (a && b) ≡ true
 row_and_both {a} {b} e f = ap (λ (x : Bool). x && b) e ∙ f
@@ -60,7 +60,7 @@ pub record FoundRow (own : List PayloadParams) (section : MediaLine) (pt : ℕ) 
 
 matched : (own : List PayloadParams) (section : MediaLine) (theirs ours : PayloadParams) → Contains own ours
     → Contains (rows section) theirs
-    → matches section.typ theirs ours ≡ true → FoundRow own section theirs.pt (as_answered section theirs ours)
+    → row_matches section.typ theirs ours ≡ true → FoundRow own section theirs.pt (as_answered section theirs ours)
 matched own section theirs ours known offered h =
     let locked = and_parts ours.locked _ h in
     let typed = and_parts (ours.pt == theirs.pt) _ locked.1 in
@@ -86,12 +86,13 @@ matched own section theirs ours known offered h =
 answered : (own : List PayloadParams) (section : MediaLine) (pt : ℕ) (theirs : PayloadParams) → theirs.pt ≡ pt
     → Contains (rows section) theirs
     → IfSome (answer_to own section theirs) (FoundRow own section pt)
-answered own section pt theirs is offered = go (find (matches section.typ theirs) own) (list_found (matches section.typ theirs) own) where
-  go : (o : Option PayloadParams) → IfSome o (λ ours. (matches section.typ theirs ours ≡ true) × Contains own ours)
-      → IfSome (option_map (as_answered section theirs) o) (FoundRow own section pt)
-  go None h = tt
-  go (Some ours) h = subst (λ (n : ℕ). FoundRow own section n (as_answered section theirs ours)) is
-      (matched own section theirs ours h.1 offered h.0)
+answered own section pt theirs is offered = go (find (row_matches section.typ theirs) own) (list_found (row_matches section.typ theirs) own)
+  where
+    go : (o : Option PayloadParams) → IfSome o (λ ours. (row_matches section.typ theirs ours ≡ true) × Contains own ours)
+        → IfSome (option_map (as_answered section theirs) o) (FoundRow own section pt)
+    go None h = tt
+    go (Some ours) h = subst (λ (n : ℕ). FoundRow own section n (as_answered section theirs ours)) is
+        (matched own section theirs ours h.1 offered h.0)
 
 row_found_under : (own : List PayloadParams) (section : MediaLine) (pt : ℕ)
     → IfSome (answer_under own section (rows section) pt) (FoundRow own section pt)
@@ -154,11 +155,11 @@ answers_once own section answer is = λ t. go t (in_order own section answer is)
       omega (arith, fewer, once, same)
 
 -- a row that belongs in the answer has an answer
-has_answer : (own : List PayloadParams) (section : MediaLine) (ours : PayloadParams) → Belongs own section ours
+has_answer : (own : List PayloadParams) (section : MediaLine) (ours : PayloadParams) → BelongsInAnswer own section ours
     → is_answered own section ours.pt ≡ true
 unfolding answer_under
 has_answer own section ours b = ap (λ (o : Option PayloadParams). is_some (o >>= answer_to own section)) b.offered
-    ∙ mapped (find (matches section.typ b.theirs) own) (found_some (matches section.typ b.theirs) own ours b.known passes) where
+    ∙ mapped (find (row_matches section.typ b.theirs) own) (found_some (row_matches section.typ b.theirs) own ours b.known passes) where
       mapped : (o : Option PayloadParams) → is_some o ≡ true → is_some (option_map (as_answered section b.theirs) o) ≡ true
       mapped None h = h
       mapped (Some x) h = refl
@@ -168,13 +169,13 @@ has_answer own section ours b = ap (λ (o : Option PayloadParams). is_some (o >>
           × Contains (rows section) theirs))
           b.offered (list_found (λ row. row.pt == ours.pt) (rows section))).0
 
-      passes : matches section.typ b.theirs ours ≡ true
+      passes : row_matches section.typ b.theirs ours ≡ true
       passes = row_and_both b.locked (row_and_both (eq-eqb _ _ (sym (eqb-true _ _ is_under)))
-          (row_and_both b.carried (some (score ours.spec b.theirs.spec) b.match)))
+          (row_and_both b.carried (row_some (score ours.spec b.theirs.spec) b.match)))
 
 pub answered_rows_stand : (own : List PayloadParams) (section : MediaLine) (answer : List PayloadParams)
     → answer ≡ answered_rows own section
-    → (ours : PayloadParams) → Belongs own section ours → Contains (own_types answer) ours.pt
+    → (ours : PayloadParams) → BelongsInAnswer own section ours → Contains (own_types answer) ours.pt
 answered_rows_stand own section answer is ours b =
     subst (λ (ts : List ℕ). Contains ts ours.pt) (sym (in_order own section answer is))
     (list_keeps_type (is_answered own section) section.pts ours.pt b.listed (has_answer own section ours b))

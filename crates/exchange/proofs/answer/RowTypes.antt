@@ -6,7 +6,7 @@ use Rattle.exchange.proofs.Common.{types_of, distinct}
 use Rattle.exchange.proofs.Common.{MediaLine, rows, ◌>>=◌}
 use Rattle.exchange.proofs.answer.RowsListLaws.{distinct-once, list_found}
 use Rattle.exchange.proofs.answer.RowsTypeLaws.{weight_no_more, weight_found}
-use Rattle.exchange.specs.answer.Rows.{agreed_type, answer_to, answer_under, answered_rows, as_answered, matches}
+use Rattle.exchange.specs.answer.Rows.{agreed_type, answer_to, answer_under, answered_rows, as_answered, row_matches}
 
 -- a type that is agreed on is ours
 agreed_fewer : (listed : List ℕ) (ours theirs : Option ℕ) (t : ℕ)
@@ -38,13 +38,14 @@ answer_fewer section theirs ours t = omega (
 -- the test of the rows that answer a type, by the offered row
 abbrev row_test_with : MediaLine → Option PayloadParams → PayloadParams → Bool
 row_test_with section None ours = false
-row_test_with section (Some theirs) ours = matches section.typ theirs ours
+row_test_with section (Some theirs) ours = row_matches section.typ theirs ours
 
 abbrev row_test_under : MediaLine → ℕ → PayloadParams → Bool
 row_test_under section pt = row_test_with section (find (λ row. row.pt == pt) (rows section))
 
-tied : (section : MediaLine) (pt : ℕ) (ours : PayloadParams) → row_test_under section pt ours ≡ true → (ours.pt ≡ pt) × (ours.locked ≡ true)
-tied section pt ours = go (find (λ row. row.pt == pt) (rows section)) (list_found (λ row. row.pt == pt) (rows section)) where
+row_tied_to_type : (section : MediaLine) (pt : ℕ) (ours : PayloadParams) → row_test_under section pt ours ≡ true
+    → (ours.pt ≡ pt) × (ours.locked ≡ true)
+row_tied_to_type section pt ours = go (find (λ row. row.pt == pt) (rows section)) (list_found (λ row. row.pt == pt) (rows section)) where
   go : (o : Option PayloadParams) → IfSome o (λ theirs. ((theirs.pt == pt) ≡ true) × Contains (rows section) theirs)
       → row_test_with section o ours ≡ true
       → (ours.pt ≡ pt) × (ours.locked ≡ true)
@@ -66,13 +67,14 @@ each_weighed own section t pt = go (find (λ row. row.pt == pt) (rows section)) 
   go : (o : Option PayloadParams)
       → IfSome (o >>= answer_to own section) (λ row. type_times (types_of row) t ≤ weight_found t (find (row_test_with section o) own))
   go None = tt
-  go (Some theirs) = mapped theirs (find (matches section.typ theirs) own)
+  go (Some theirs) = mapped theirs (find (row_matches section.typ theirs) own)
 
 row_times_bounded : (own : List PayloadParams) (section : MediaLine) (t : ℕ)
     → type_times (types (answered_rows own section)) t ≤ type_times (locked_types own) t
 unfolding answered_rows
 row_times_bounded own section t =
-    weight_no_more t (row_test_under section) (tied section) own (answer_under own section (rows section)) (each_weighed own section t)
+    weight_no_more t (row_test_under section) (row_tied_to_type section) own (answer_under own section (rows section))
+    (each_weighed own section t)
     (distinct ◌==◌ section.pts)
     (distinct-once section.pts)
 

@@ -5,7 +5,7 @@ use Rattle.exchange.proofs.Common.{list_any-append, list_any, is_some, PayloadPa
 use Rattle.exchange.proofs.answer.RowLaws.{all_agreed}
 use Rattle.exchange.proofs.answer.RowsListLaws.{is_some_find}
 use Rattle.exchange.specs.answer.Rows.{IsAgreed, KeepsPlain, agreed_type, answered_rows, as_answered}
-use Rattle.str0m_formats.specs.codec.Codec.{content, video}
+use Rattle.str0m_formats.specs.codec.Codec.{codec_content, video}
 use Rattle.str0m_formats.specs.row.PayloadParams.{AllTypesSmall}
 
 abbrev is_large : ℕ → Bool
@@ -49,7 +49,8 @@ answered_small section theirs ours small =
     (agreed_small section.pts ours.red theirs.red others.1)))
 
 answer_plain : (section : MediaLine) (theirs ours : PayloadParams) → IsPlain ours
-    → (content ours.spec.codec ≡ video → HasVideoFeedback (as_answered section theirs ours)) → IsPlain (as_answered section theirs ours)
+    → (codec_content ours.spec.codec ≡ video → HasVideoFeedback (as_answered section theirs ours))
+    → IsPlain (as_answered section theirs ours)
 unfolding as_answered
 answer_plain section theirs ours plain as_video = record {
   carried = plain.carried;

@@ -24,37 +24,38 @@ module _ (t : ℕ) (test : ℕ → PayloadParams → Bool) (tied : (pt : ℕ) (r
   own_weight row = cond row.locked (weight t row) 0
 
   -- how much one row weighs in them
-  abbrev hits : PayloadParams → List ℕ → ℕ
-  hits row [] = 0
-  hits row (pt ∷ pts) = cond (test pt row) (weight t row) 0 + hits row pts
+  abbrev hit_weight : PayloadParams → List ℕ → ℕ
+  hit_weight row [] = 0
+  hit_weight row (pt ∷ pts) = cond (test pt row) (weight t row) 0 + hit_weight row pts
 
   no_weight_found : (pts : List ℕ) → total_weight [] pts ≡ 0
   no_weight_found [] = refl
   no_weight_found (pt ∷ pts) = let rec = no_weight_found pts in omega arith
 
   weight_split : (row : PayloadParams) (own : List PayloadParams) (pts : List ℕ)
-      → total_weight (row ∷ own) pts ≤ hits row pts + total_weight own pts
+      → total_weight (row ∷ own) pts ≤ hit_weight row pts + total_weight own pts
   weight_split row own [] = omega arith
   weight_split row own (pt ∷ pts) = go (test pt row) (weight_split row own pts) where
-    go : (b : Bool) → total_weight (row ∷ own) pts ≤ hits row pts + total_weight own pts
-        → weight_found t (cond b (Some row) (find (test pt) own)) + total_weight (row ∷ own) pts ≤ (cond b (weight t row) 0 + hits row pts)
+    go : (b : Bool) → total_weight (row ∷ own) pts ≤ hit_weight row pts + total_weight own pts
+        → weight_found t (cond b (Some row) (find (test pt) own)) + total_weight (row ∷ own) pts
+        ≤ (cond b (weight t row) 0 + hit_weight row pts)
         + (weight_found t (find (test pt) own) + total_weight own pts)
     go true rec = omega arith
     go false rec = omega arith
 
-  weight_never : (row : PayloadParams) (pts : List ℕ) → type_times pts row.pt ≡ 0 → hits row pts ≡ 0
+  weight_never : (row : PayloadParams) (pts : List ℕ) → type_times pts row.pt ≡ 0 → hit_weight row pts ≡ 0
   weight_never row [] gone = refl
   weight_never row (pt ∷ pts) gone = go (test pt row) refl (weight_never row pts (omega (arith, gone, type_times-cons pt pts row.pt))) where
-    go : (b : Bool) → test pt row ≡ b → hits row pts ≡ 0 → cond b (weight t row) 0 + hits row pts ≡ 0
+    go : (b : Bool) → test pt row ≡ b → hit_weight row pts ≡ 0 → cond b (weight t row) 0 + hit_weight row pts ≡ 0
     go true e rec = let one = one_time_if (pt == row.pt) true (eq-eqb _ _ (sym (tied pt row e).0)) in
         absurd (omega (arith, gone, type_times-cons pt pts row.pt, one))
     go false e rec = omega (arith, rec)
 
-  once : (row : PayloadParams) (pts : List ℕ) → type_times pts row.pt ≤ 1 → hits row pts ≤ own_weight row
+  once : (row : PayloadParams) (pts : List ℕ) → type_times pts row.pt ≤ 1 → hit_weight row pts ≤ own_weight row
   once row [] few = omega arith
   once row (pt ∷ pts) few = go (test pt row) refl (once row pts) where
-    go : (b : Bool) → test pt row ≡ b → (type_times pts row.pt ≤ 1 → hits row pts ≤ own_weight row)
-        → cond b (weight t row) 0 + hits row pts ≤ own_weight row
+    go : (b : Bool) → test pt row ≡ b → (type_times pts row.pt ≤ 1 → hit_weight row pts ≤ own_weight row)
+        → cond b (weight t row) 0 + hit_weight row pts ≤ own_weight row
     go true e rec =
         let one = one_time_if (pt == row.pt) true (eq-eqb _ _ (sym (tied pt row e).0)) in
         let none = weight_never row pts (omega (arith, few, type_times-cons pt pts row.pt, one)) in

@@ -5,7 +5,8 @@ use Rattle.exchange.proofs.Common.{PayloadParams, types, first, direction_attrib
 use Rattle.exchange.proofs.Common.{Application, Unknown, Proto, Srtp, Sctp, Setup, MediaLine, Sdp, is_mid, mid_of, maps, is_of_type, made}
 use Rattle.exchange.proofs.Common.{row_attrs, section_direction, AnswersDirection, Direction}
 use Rattle.exchange.proofs.answer.OfferedLaws.{accepted_channels_offered, accepted_media_offered}
-use Rattle.exchange.specs.answer.Accepted.{AcceptsChannels, AcceptsMedia, candidate_line, first_lines, framed, layer_lines, media_lines}
+use Rattle.exchange.specs.answer.Accepted.{AcceptsChannels, AcceptsMedia, candidate_line, first_lines, accepted_frame, layer_lines}
+use Rattle.exchange.specs.answer.Accepted.{media_lines}
 use Rattle.exchange.specs.answer.Accepted.{msid_lines}
 use Rattle.exchange.specs.answer.AnsweredSection.{AnswersSection, SaysSectionChoice}
 use Rattle.exchange.specs.answer.Choice.{IsSectionChoice, choice_by_kind, choice_by_name, channels_or_none, rows_or_none}
@@ -205,7 +206,8 @@ media_keeps own ours offer offered answered mid rows is accepts =
     let runs : IsStopped offer offered → ⊥ = λ stopped. let e : Media mid rows ≡ Rejected = is.stopped stopped in cc in
     let chosen : MediaChosen own (answered_rows ours offered) (name_of offered) offered.typ offered.proto mid rows =
     media_chosen own (answered_rows ours offered) (name_of offered) offered.typ offered.proto mid rows (is.open_so runs) in
-    let said : MediaLine = made (framed offered (first_lines own mid accepts.role ++ media_lines own offered mid accepts.direction rows))
+    let said : MediaLine = made (accepted_frame offered (first_lines own mid accepts.role
+    ++ media_lines own offered mid accepts.direction rows))
     rows in
     let shape : HasShapeOf offered said = record { typ = refl; proto = refl; name = sym chosen.named_so } in
     let reachable : IsReachable own offer offered said =

@@ -4,7 +4,7 @@ use Rattle.exchange.proofs.Common.{ap, ◌∙◌, cons_option, Round, PayloadPar
 use Rattle.exchange.proofs.Common.{section_direction, rows, Negotiated}
 use Rattle.exchange.specs.section.RoundNames.{has_round, negotiated_names}
 use Rattle.exchange.specs.section.Stopped.{name_of}
-use Rattle.str0m_signal.specs.session.Negotiation.{brought, brought_by}
+use Rattle.str0m_signal.specs.session.Negotiation.{brought_by_round, brought_by}
 
 -- a section has a name there where it brings a round
 as_many_named : (ms : List MediaLine) → length (map name_of (filter has_round ms)) ≡ length (filter_map brought_by ms)
@@ -16,7 +16,7 @@ as_many_named (m ∷ ms) = go (is_media m.typ) (as_many_named ms) where
   go true rec = ap suc rec
   go false rec = rec
 
-as_many_brought : (rounds : List Round) → length (map brought rounds) ≡ length rounds
+as_many_brought : (rounds : List Round) → length (map brought_by_round rounds) ≡ length rounds
 as_many_brought [] = refl
 as_many_brought (round ∷ rounds) = ap suc (as_many_brought rounds)
 

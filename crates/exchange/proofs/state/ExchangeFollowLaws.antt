@@ -18,13 +18,14 @@ use Rattle.exchange.specs.state.State.{sections_of, state_by}
 -- ---- names
 
 -- a name that isn't among more isn't among fewer
-unlisted : (b c : Bool) → (b ≡ true → c ≡ true) → c ≡ false → b ≡ false
-unlisted false c imp e = refl
-unlisted true c imp e = absurd (true≢false (sym (imp refl) ∙ e))
+follows_unlisted : (b c : Bool) → (b ≡ true → c ≡ true) → c ≡ false → b ≡ false
+follows_unlisted false c imp e = refl
+follows_unlisted true c imp e = absurd (true≢false (sym (imp refl) ∙ e))
 
 follows_still_new : (before after : List (List ℕ)) (m : MediaLine) → NamesGrow before after → IsNewPlaceName after m
     → IsNewPlaceName before m
-follows_still_new before after m grows new = unlisted (is_listed before (name_of m)) (is_listed after (name_of m)) (grows (name_of m)) new
+follows_still_new before after m grows new = follows_unlisted (is_listed before (name_of m)) (is_listed after (name_of m))
+    (grows (name_of m)) new
 
 pub follows_listed_more : (xs ys : List (List ℕ)) (name : Option (List ℕ))
     → is_listed (xs ++ ys) name ≡ (is_listed xs name || is_listed ys name)
@@ -41,9 +42,9 @@ follows_grows_so names sections name there = follows_listed_more names (filter_m
 -- ---- places
 
 -- a section of the name of another stands where that one may
-renamed : (names : List (List ℕ)) (xs : List MediaLine) (at : ℕ) (m e : MediaLine) → name_of m ≡ name_of e
+follows_place_renamed : (names : List (List ℕ)) (xs : List MediaLine) (at : ℕ) (m e : MediaLine) → name_of m ≡ name_of e
     → HasPlaceNameAt xs at e ⊎ IsNewPlaceName names e → HasPlaceNameAt xs at m ⊎ IsNewPlaceName names m
-renamed names xs at m e same stands = elim stands [
+follows_place_renamed names xs at m e same stands = elim stands [
   | inl has ↦ inl (subst (λ (name : Option (List ℕ)). IsSomeAnd (slice_get xs at) (λ earlier. name ≡ name_of earlier)) (sym same) has)
   | inr new ↦ inr (subst (λ (name : Option (List ℕ)). is_listed names name ≡ false) (sym same) new)
 ]
@@ -52,7 +53,7 @@ place_follows_through : (names : List (List ℕ)) (xs : List MediaLine) (at : �
     → ((e : MediaLine) → o ≡ Some e → HasPlaceNameAt xs at e ⊎ IsNewPlaceName names e) → IsSomeAnd o (λ e. name_of m ≡ name_of e)
     → HasPlaceNameAt xs at m ⊎ IsNewPlaceName names m
 place_follows_through names xs at m None each same = absurd same
-place_follows_through names xs at m (Some e) each same = renamed names xs at m e same (each e refl)
+place_follows_through names xs at m (Some e) each same = follows_place_renamed names xs at m e same (each e refl)
 
 places_same : (names : List (List ℕ)) (sections : List MediaLine) → FollowsPlaces names sections sections
 places_same names sections = record {
@@ -115,11 +116,11 @@ follows_same before after names local config =
 
 -- ---- what an exchange leaves
 
-shaped : (names : List (List ℕ)) (local : List MediaLine) (remote : Option Sdp) (at : ℕ) (m : MediaLine) (o : Option MediaLine)
+follows_shaped : (names : List (List ℕ)) (local : List MediaLine) (remote : Option Sdp) (at : ℕ) (m : MediaLine) (o : Option MediaLine)
     → ((e : MediaLine) → o ≡ Some e → StaysInPlace names local remote at e) → IsSomeAnd o (λ e. HasShapeOf e m)
     → HasPlaceNameAt local at m ⊎ IsNewPlaceName names m
-shaped names local remote at m None each shape = absurd shape
-shaped names local remote at m (Some e) each shape = renamed names local at m e shape.name (elim (each e refl) [
+follows_shaped names local remote at m None each shape = absurd shape
+follows_shaped names local remote at m (Some e) each shape = follows_place_renamed names local at m e shape.name (elim (each e refl) [
   | inl has ↦ inl has
   | inr free ↦ inr free.1
 ])
@@ -133,7 +134,7 @@ pub answer_follows : (names : List (List ℕ)) (local : List MediaLine) (remote 
     → AllZip HasShapeOf offer.media_lines answer.media_lines → FollowsPlaces names local answer.media_lines
 answer_follows names local remote offer answer kept shape = record {
   as_many = omega (arith, kept.as_many, AllZip-long HasShapeOf offer.media_lines answer.media_lines shape);
-  each = λ at m there. shaped names local remote at m (slice_get offer.media_lines at) (λ e is. kept.each at e is)
+  each = λ at m there. follows_shaped names local remote at m (slice_get offer.media_lines at) (λ e is. kept.each at e is)
       (matched_some (slice_get answer.media_lines at) m (λ y. IsSomeAnd (slice_get offer.media_lines at) (λ x. HasShapeOf x y)) there
       (AllZip-right HasShapeOf offer.media_lines answer.media_lines shape at));
 }

@@ -1,7 +1,7 @@
 -- When two values of a description are equal, by the derived `==`.
 use Rattle.exchange.proofs.Common.{Decides, pointwise, ◌≡◌, ℕ, List, Option, SessionAttribute, MediaType, Session, IceCreds}
 use Rattle.std.specs.Option.{option_eq}
-use Rattle.str0m_formats.proofs.{Equality, eq_along, equality}
+use Rattle.str0m_formats.proofs.{EqualityTest, eq_along, equality}
 use Rattle.str0m_sdp.proofs.{session_Decides as attribute_Decides}
 use Rattle.str0m_sdp.specs.contracts.attribute.SessionAttributePartialEq.TheImpl as attribute_eq
 use Rattle.str0m_sdp.specs.contracts.attribute.bandwidth.BandwidthPartialEq.TheImpl as bandwidth_eq
@@ -12,37 +12,37 @@ use Rattle.str0m_sdp.specs.declared.attribute.bandwidth.Bandwidth.{Bandwidth}
 use Rattle.str0m_values.specs.contracts.ice_creds.IceCredsPartialEq.TheImpl as creds_eq
 use Rattle.str0m_values.specs.contracts.payload_type.PtPartialEq.TheImpl as pt_eq
 
-abbrev read_back_eq_types : Equality (List ℕ)
+abbrev read_back_eq_types : EqualityTest (List ℕ)
 read_back_eq_types = hlevel equality
 
 pub read_back_types_Decides : (a b : List ℕ) → Decides (pointwise pt_eq.eq-value.it a b) (a ≡ b)
 read_back_types_Decides a b = read_back_eq_types.decides a b
 
-abbrev eq_creds : Equality IceCreds
+abbrev eq_creds : EqualityTest IceCreds
 eq_creds = hlevel equality
 
 pub creds_Decides : (a b : IceCreds) → Decides (creds_eq.eq-value.it a b) (a ≡ b)
 creds_Decides a b = eq_creds.decides a b
 
-abbrev media_type_equality : Equality MediaType
+abbrev media_type_equality : EqualityTest MediaType
 media_type_equality = eq_along media_type.as_values media_type.the_make media_type.the_eta (hlevel equality)
 
 pub read_back_type_Decides : (a b : MediaType) → Decides (type_eq.eq-value.it a b) (a ≡ b)
 read_back_type_Decides a b = media_type_equality.decides a b
 
-abbrev eq_bandwidth : Equality Bandwidth
+abbrev eq_bandwidth : EqualityTest Bandwidth
 eq_bandwidth = hlevel equality
 
-abbrev may_have_bandwidth : Equality (Option Bandwidth)
+abbrev may_have_bandwidth : EqualityTest (Option Bandwidth)
 may_have_bandwidth = hlevel (eq_bandwidth, equality)
 
 pub bandwidth_Decides : (a b : Option Bandwidth) → Decides (option_eq bandwidth_eq.eq-value.it a b) (a ≡ b)
 bandwidth_Decides a b = may_have_bandwidth.decides a b
 
-abbrev eq_attribute : Equality SessionAttribute
+abbrev eq_attribute : EqualityTest SessionAttribute
 eq_attribute = record { test = attribute_eq.eq-value.it; decides = attribute_Decides }
 
-abbrev eq_whole_session : Equality Session
+abbrev eq_whole_session : EqualityTest Session
 eq_whole_session = hlevel (eq_attribute, eq_bandwidth, equality)
 
 pub whole_session_Decides : (a b : Session) → Decides (session_eq.eq-value.it a b) (a ≡ b)

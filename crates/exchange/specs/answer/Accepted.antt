@@ -53,8 +53,8 @@ abbrev pub channel_lines : DataChannels → List MediaAttribute
 channel_lines channels = media.SctpPort channels.port ∷ (media.MaxMessageSize channels.max_message_size ∷ [])
 
 -- a section of the type and the protocol of the one that it answers, with a port (RFC 3264, section 6)
-abbrev pub framed : MediaLine → List MediaAttribute → MediaLine
-framed offered lines = record { typ = offered.typ; disabled = false; proto = offered.proto; pts = []; bw = None; attrs = lines }
+abbrev pub accepted_frame : MediaLine → List MediaAttribute → MediaLine
+accepted_frame offered lines = record { typ = offered.typ; disabled = false; proto = offered.proto; pts = []; bw = None; attrs = lines }
 
 -- what media says but for its rows: its direction (RFC 3264, section 6.1), where it is reached, what it repeats of the offer,
 -- its track and its layers
@@ -69,10 +69,10 @@ pub record AcceptsMedia (own : OwnSide) (offer : Sdp) (offered : MediaLine) (mid
   pub answers_role : AnswersRole (setup_in_force offer offered) role
   pub direction : Direction
   pub answers_direction : AnswersDirection (section_direction offered.attrs) (own_direction own offered) direction
-  pub says : answered ≡ made (framed offered (first_lines own mid role ++ media_lines own offered mid direction rows)) rows
+  pub says : answered ≡ made (accepted_frame offered (first_lines own mid role ++ media_lines own offered mid direction rows)) rows
 
 -- data channels are accepted under a name, in a role that answers the one that is offered
 pub record AcceptsChannels (own : OwnSide) (offer : Sdp) (offered : MediaLine) (mid : List ℕ) (channels : DataChannels) (answered : MediaLine) : Type 0 where
   pub role : Setup
   pub answers_role : AnswersRole (setup_in_force offer offered) role
-  pub says : answered ≡ framed offered (first_lines own mid role ++ channel_lines channels ++ map candidate_line own.candidates)
+  pub says : answered ≡ accepted_frame offered (first_lines own mid role ++ channel_lines channels ++ map candidate_line own.candidates)

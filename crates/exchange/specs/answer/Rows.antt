@@ -2,7 +2,7 @@
 use Rattle.exchange.specs.Prelude.{HasVideoFeedback, IsPlain, MediaAttribute, MediaLine, MediaType, PayloadParams, distinct, has, is_carried, rows, strip, ◌>>=◌}
 use Rattle.std.specs.List.{list_any}
 use Rattle.std.specs.Prelude.{◌≡◌, ◌≢◌, ◌==◌, ◌&&◌, ℕ, Bool, true, false, List, Option, Some, None, codes, bytes_eq, find, filter_map, map, option_map, is_some, if◌then◌else◌, Contains, IfSome}
-use Rattle.str0m_formats.specs.codec.Codec.{content, video}
+use Rattle.str0m_formats.specs.codec.Codec.{codec_content, video}
 use Rattle.str0m_formats.specs.round.MatchScore.{score}
 use Rattle.str0m_sdp.specs.declared.attribute.MediaAttribute.TheVariants.{RtcpFb, Unused}
 use Rattle.str0m_sdp.specs.declared.attribute.media_type.MediaType.TheVariants.{Audio, Video}
@@ -58,13 +58,13 @@ is_carried_in Video row = is_carried kind.Video row
 is_carried_in _ row = false
 
 -- a row of this side answers an offered one: it is locked, under the same type, of what the section carries, and they match
-abbrev pub matches : MediaType → PayloadParams → PayloadParams → Bool
-matches typ theirs ours =
+abbrev pub row_matches : MediaType → PayloadParams → PayloadParams → Bool
+row_matches typ theirs ours =
     ours.locked && (ours.pt == theirs.pt && (is_carried_in typ ours && is_some (score ours.spec theirs.spec)))
 
 -- what an answer says of an offered row
 abbrev pub answer_to : List PayloadParams → MediaLine → PayloadParams → Option PayloadParams
-answer_to own section theirs = option_map (as_answered section theirs) (find (matches section.typ theirs) own)
+answer_to own section theirs = option_map (as_answered section theirs) (find (row_matches section.typ theirs) own)
 
 -- what it says of a type, by the offered row of that type
 unfoldable pub answer_under : List PayloadParams → MediaLine → List PayloadParams → ℕ → Option PayloadParams
@@ -97,7 +97,7 @@ pub record IsAgreed (own : List PayloadParams) (section : MediaLine) (row : Payl
   pub said : row ≡ as_answered section theirs ours
 
 -- such a row of this side belongs in the answer: where the section offers several rows of its type, the first counts
-pub record Belongs (own : List PayloadParams) (section : MediaLine) (ours : PayloadParams) : Type 0 where
+pub record BelongsInAnswer (own : List PayloadParams) (section : MediaLine) (ours : PayloadParams) : Type 0 where
   pub theirs : PayloadParams
   pub known : Contains own ours
   pub offered : find (λ row. row.pt == ours.pt) (rows section) ≡ Some theirs
@@ -118,4 +118,4 @@ pub record SaysWhatIsOffered (section : MediaLine) (row : PayloadParams) : Type 
 
 -- the row is plain where it still has the feedback that every plain row of video has
 abbrev pub KeepsPlain : PayloadParams → Type 0
-KeepsPlain row = (content row.spec.codec ≡ video → HasVideoFeedback row) → IsPlain row
+KeepsPlain row = (codec_content row.spec.codec ≡ video → HasVideoFeedback row) → IsPlain row

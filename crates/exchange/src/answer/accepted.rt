@@ -1,6 +1,6 @@
 //! Sections that accept.
 ghost use Rattle.exchange.specs.Prelude.{is_of_type, made, row_attrs, types, types_of};
-ghost use Rattle.exchange.specs.answer.Accepted.{AcceptsChannels, AcceptsMedia, are_layers_told, candidate_line, channel_lines, first_lines, framed, layer_lines, media_lines, msid_lines, setup_in_force, tells_layer, track_id};
+ghost use Rattle.exchange.specs.answer.Accepted.{AcceptsChannels, AcceptsMedia, are_layers_told, candidate_line, channel_lines, first_lines, accepted_frame, layer_lines, media_lines, msid_lines, setup_in_force, tells_layer, track_id};
 ghost use Rattle.std.specs.Prelude.{◌≡◌, ◌++◌, IfOk, OnOk, filter, map, not, flat_map};
 
 use crate::answer::layers::answered_layers;
@@ -147,12 +147,12 @@ pub(crate) fn channel_lines(
 }
 
 /// A section of the type and the protocol of another, with these lines.
-fn framed(
+fn accepted_frame(
     alloc: Global,
     offered: &MediaLine,
     lines: Vec<MediaAttribute>,
 ) -> Result<MediaLine, AllocError>
-    ensures { IfOk result (λ frame. frame ≡ framed offered.now lines.items) }
+    ensures { IfOk result (λ frame. frame ≡ accepted_frame offered.now lines.items) }
 {
     let mut frame = MediaLine::new(alloc);
     frame.typ = offered.typ.clone()?;
@@ -242,11 +242,11 @@ fn made(
     mut lines: Vec<MediaAttribute>,
     rows: &[PayloadParams],
 ) -> Result<MediaLine, AllocError>
-    ensures { IfOk result (λ section. section ≡ made (framed offered.now lines.items) rows.now) }
+    ensures { IfOk result (λ section. section ≡ made (accepted_frame offered.now lines.items) rows.now) }
 {
     keep_frame(&mut lines);
     push_rows(&mut lines, rows)?;
-    let mut section = framed(alloc, offered, lines)?;
+    let mut section = accepted_frame(alloc, offered, lines)?;
     section.pts = Items::from(types_of_rows(alloc, rows)?);
     Ok(section)
 }
@@ -285,5 +285,5 @@ pub(crate) fn accepted_channels(
     let mut lines = first_lines(alloc, own, mid, role)?;
     lines.append(&mut channel_lines(alloc, channels)?)?;
     lines.append(&mut candidate_lines(alloc, own)?)?;
-    framed(alloc, offered, lines)
+    accepted_frame(alloc, offered, lines)
 }

@@ -94,7 +94,10 @@ fn pwd_at(sdp: &Sdp, at: usize) -> Option<&Text>
 }
 
 /// The preferred fingerprint of the section, else of the session.
-fn preferred(section: &MediaLine, session: &Session) -> Result<Option<Fingerprint>, AllocError>
+fn preferred_in_force(
+    section: &MediaLine,
+    session: &Session,
+) -> Result<Option<Fingerprint>, AllocError>
     ensures { IfOk result (IsPreferred (fingerprints_of session.now.attrs (Some section.now))) }
 {
     match section.fingerprint()? {
@@ -141,5 +144,5 @@ pub fn fingerprint_at(sdp: &Sdp, at: usize) -> Result<Option<Fingerprint>, Alloc
     let Some(section) = sdp.media_lines.get(at) else {
         return Ok(None);
     };
-    preferred(section, &sdp.session)
+    preferred_in_force(section, &sdp.session)
 }

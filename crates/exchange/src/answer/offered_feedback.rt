@@ -105,7 +105,7 @@ fn add_feedback_value(table: &mut [OfferedFeedback; TYPES], pt: Pt, words: &str)
 }
 
 /// What these lines offer.
-fn gathered(attrs: &[MediaAttribute]) -> SectionFeedback
+fn gathered_feedback(attrs: &[MediaAttribute]) -> SectionFeedback
     ensures { IsGathered attrs.now result.of_types result.of_all }
 {
     let nothing = OfferedFeedback::none();
@@ -128,7 +128,7 @@ fn gathered(attrs: &[MediaAttribute]) -> SectionFeedback
 pub(crate) fn section_feedback(section: &MediaLine) -> SectionFeedback
     ensures { TellsFeedbackOf section.now result }
 {
-    gathered(section.attrs.as_slice())
+    gathered_feedback(section.attrs.as_slice())
 }
 
 impl SectionFeedback {

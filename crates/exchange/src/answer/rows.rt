@@ -1,7 +1,7 @@
 //! The rows that answer a section.
 ghost use Rattle.exchange.specs.Prelude.{AllTypesDistinct, IsPlain, PayloadParams, distinct, has, locked_types, rows, types};
 ghost use Rattle.exchange.specs.answer.OfferedFeedback.{TellsFeedbackOf};
-ghost use Rattle.exchange.specs.answer.Rows.{IsAgreed, Belongs, KeepsPlain, SaysWhatIsOffered, agreed_type, as_answered, is_answered, is_carried_in, matches, answer_to, answer_under, answered_rows, own_types};
+ghost use Rattle.exchange.specs.answer.Rows.{IsAgreed, BelongsInAnswer, KeepsPlain, SaysWhatIsOffered, agreed_type, as_answered, is_answered, is_carried_in, row_matches, answer_to, answer_under, answered_rows, own_types};
 ghost use Rattle.std.specs.Prelude.{◌≡◌, ◌==◌, ◌++◌, ◌∷◌, [], All, Contains, IfOk, OnOk, filter, filter_map, find, if◌then◌else◌, option_to_list, option_copied};
 
 use crate::answer::offered_feedback::{SectionFeedback, section_feedback};
@@ -67,8 +67,8 @@ fn is_carried(typ: &MediaType, row: &PayloadParams) -> bool
 }
 
 /// Whether our row answers an offered one.
-fn matches(typ: &MediaType, theirs: &PayloadParams, ours: &PayloadParams) -> bool
-    ensures { result ≡ matches typ.now theirs.now ours.now }
+fn row_matches(typ: &MediaType, theirs: &PayloadParams, ours: &PayloadParams) -> bool
+    ensures { result ≡ row_matches typ.now theirs.now ours.now }
 {
     ours.locked()
         && ours.pt() == theirs.pt()
@@ -89,9 +89,9 @@ fn our_match<'a>(
     typ: &MediaType,
     theirs: &PayloadParams,
 ) -> Option<&'a PayloadParams>
-    ensures { option_copied result ≡ find (matches typ.now theirs.now) own.now }
+    ensures { option_copied result ≡ find (row_matches typ.now theirs.now) own.now }
 {
-    own.iter().find(|ours| matches(typ, theirs, ours))
+    own.iter().find(|ours| row_matches(typ, theirs, ours))
 }
 
 /// What the answer says of an offered row.
@@ -218,7 +218,7 @@ pub fn rows_for(config: &CodecConfig, section: &MediaLine) -> Result<Vec<Payload
     ensures apart { AllTypesDistinct (locked_types config.now.params.items) → IfOk result (λ rows. AllTypesDistinct (types rows.items)) }
     // Rows of video need all their feedback for that, and not each section offers it.
     ensures plain { All IsPlain config.now.params.items → IfOk result (λ rows. All KeepsPlain rows.items) }
-    ensures complete { IfOk result (λ rows. (ours : PayloadParams) → Belongs config.now.params.items section.now ours → Contains (own_types rows.items) ours.pt) }
+    ensures complete { IfOk result (λ rows. (ours : PayloadParams) → BelongsInAnswer config.now.params.items section.now ours → Contains (own_types rows.items) ours.pt) }
 {
     let offered = section.rtp_params()?;
     let rows = answered_rows(config.params(), section, offered.as_slice())?;

@@ -17,7 +17,7 @@ fn trickled_as_line(alloc: Global, text: &str) -> Result<String, AllocError>
     format!(in alloc; "a={text}")
 }
 
-fn refusal(alloc: Global, message: &str) -> SdpError
+fn trickle_refusal(alloc: Global, message: &str) -> SdpError
     ensures { IsRefusal result }
 {
     match String::from_str(alloc, message) {
@@ -33,7 +33,7 @@ fn trickled_alone(alloc: Global, candidate: Candidate, rest: &str) -> Result<Can
     if rest.is_empty() {
         Ok(candidate)
     } else {
-        Err(refusal(alloc, "text behind the candidate"))
+        Err(trickle_refusal(alloc, "text behind the candidate"))
     }
 }
 

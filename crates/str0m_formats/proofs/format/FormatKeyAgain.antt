@@ -32,12 +32,12 @@ key_unmarked k = grind arith
 
 -- ---- what is read of a pair
 
-abbrev Ranged : (k : Kind) → HeldValue k → Type 0
-Ranged (exactly own) x = Unit {0}
-Ranged anything x = Unit {0}
-Ranged k x = InRange k x
+abbrev RangedKey : (k : Kind) → HeldValue k → Type 0
+RangedKey (exactly own) x = Unit {0}
+RangedKey anything x = Unit {0}
+RangedKey k x = InRange k x
 
-value_ranged : (k : Kind) (text : List ℕ) (x : HeldValue k) → ReadsKind k text x → Ranged k x
+value_ranged : (k : Kind) (text : List ℕ) (x : HeldValue k) → ReadsKind k text x → RangedKey k x
 value_ranged flag text b h = tt
 value_ranged (number limit) text n h = h.fits
 value_ranged hex text n (inl h) = h.fits
@@ -97,14 +97,15 @@ abbrev pub AreKeyed : List FormatParam → Type 0
 AreKeyed params = AllByRecursion IsKeyed params
 
 -- whether a parameter prints something
-abbrev pub prints : FormatParam → Bool
-prints param = nat_lt 0 (length (param_text param))
+abbrev pub key_param_prints : FormatParam → Bool
+key_param_prints param = nat_lt 0 (length (param_text param))
 
 pub keyed_shown : (param : FormatParam) → IsKeyed param → IsRest (param_text param)
 keyed_shown param h = grind arith
 
 -- those that print something are of the table
-pub shown_keyed : (pairs : List (List ℕ × List ℕ)) (params : List FormatParam) → AreParsed pairs params → AreKeyed (filter prints params)
+pub shown_keyed : (pairs : List (List ℕ × List ℕ)) (params : List FormatParam) → AreParsed pairs params
+    → AreKeyed (filter key_param_prints params)
 shown_keyed [] [] are = tt
 shown_keyed [] (param ∷ params) are = absurd are
 shown_keyed (pair ∷ pairs) [] are = absurd are

@@ -66,19 +66,21 @@ AllFieldsWithin p = (f : Field) → IfSome (get f p) (IsFieldWithin f)
 
 -- ---- the text is the pieces, joined
 
-abbrev pub linked : List (List ℕ) → List ℕ
-linked texts = join_with_byte 59 texts
+abbrev pub line_linked_texts : List (List ℕ) → List ℕ
+line_linked_texts texts = join_with_byte 59 texts
 
-join_cons : (text : List ℕ) (texts : List (List ℕ)) → 0 < length texts → linked (text ∷ texts) ≡ text ++ (59 ∷ linked texts)
+join_cons : (text : List ℕ) (texts : List (List ℕ)) → 0 < length texts
+    → line_linked_texts (text ∷ texts) ≡ text ++ (59 ∷ line_linked_texts texts)
 join_cons text texts some = grind arith
 
 join_append : (first : List ℕ) (more ys : List (List ℕ)) → 0 < length ys
-    → linked ((first ∷ more) ++ ys) ≡ linked (first ∷ more) ++ (59 ∷ linked ys)
+    → line_linked_texts ((first ∷ more) ++ ys) ≡ line_linked_texts (first ∷ more) ++ (59 ∷ line_linked_texts ys)
 join_append first [] ys some = join_cons first ys some
 join_append first (next ∷ more) ys some = grind (arith, join_append next more ys some, append_assoc)
 
 abbrev pub AreTextsAlike : List (List ℕ) → List (List ℕ) → Type 0
-AreTextsAlike texts pieces = ((texts ≡ []) × (pieces ≡ [])) ⊎ ((0 < length texts) × (0 < length pieces) × (linked texts ≡ linked pieces))
+AreTextsAlike texts pieces = ((texts ≡ []) × (pieces ≡ [])) ⊎
+    ((0 < length texts) × (0 < length pieces) × (line_linked_texts texts ≡ line_linked_texts pieces))
 
 line_texts_alike_step : (o : Option FormatParam) (qs : List FormatParam) (own rest : List (List ℕ)) → IsShown o own
     → AreTextsAlike (map param_text qs) rest
@@ -122,7 +124,7 @@ free_pieces (f ∷ fs) p h =
     (free_bares (bares_at f p) own.bare)) (free_pieces fs p h)
 
 cut_pieces : (texts : List (List ℕ)) (all : List (List ℕ)) → AreTextsAlike texts all → AreFreeOf 59 all
-    → (pieces (linked texts) ≡ all) ⊎ ((all ≡ []) × (pieces (linked texts) ≡ [] ∷ []))
+    → (pieces (line_linked_texts texts) ≡ all) ⊎ ((all ≡ []) × (pieces (line_linked_texts texts) ≡ [] ∷ []))
 cut_pieces texts [] alike free = elim alike [ inl none ↦ inr (refl, rw none.0 refl) | inr some ↦ absurd (omega (arith, some.1)) ]
 cut_pieces texts (first ∷ more) alike free = elim alike
     [ inl none ↦ absurd cc | inr some ↦ inl (ap pieces some.2 ∙ slice_split-join 59 first more free) ]
@@ -204,9 +206,9 @@ reads_all (f ∷ fs) p h single =
     ∙ ap (λ (t : List FormatParam). cons_option (param_at f p) [] ++ t) (reads_all fs p h k.1)
     ∙ cons_append (param_at f p) (filter_map (λ f. param_at f p) fs)
 
-pub unmarked : (pairs : List (List ℕ × List ℕ)) → has_triple_mark pairs ≡ false → params_read pairs ≡ map param_of pairs
+pub line_pairs_unmarked : (pairs : List (List ℕ × List ℕ)) → has_triple_mark pairs ≡ false → params_read pairs ≡ map param_of pairs
 unfolding params_read
-unmarked pairs e = rw e refl
+line_pairs_unmarked pairs e = rw e refl
 
 pub marked : (pairs : List (List ℕ × List ℕ)) → has_triple_mark pairs ≡ true → merged pairs ≡ pairs → params_read pairs ≡ joined_read pairs
 unfolding params_read
@@ -220,7 +222,7 @@ without_triple p h e5 e6 =
       arith,
       pairs_slots single_fields p,
       mark_given_slots (line_all_slots single_fields p),
-      unmarked (all_pairs single_fields p),
+      line_pairs_unmarked (all_pairs single_fields p),
       reads_all single_fields p h,
     )
 
@@ -298,14 +300,14 @@ format_concluded : (order : List Field) (p r : FormatParams) (bares params : Lis
 format_concluded order p r bares params fresh whole first second e = grind (arith, set_all-append, cons_append, set_each)
 
 -- the order in which the parameters of a printed line are set
-pub record Order (p : FormatParams) : Type 0 where
+pub record FieldOrder (p : FormatParams) : Type 0 where
   pub order : List Field
   pub fresh : are_fields_fresh (field.TelephoneEvents ∷ order) p empty ≡ true
   pub whole : fields_filled (field.TelephoneEvents ∷ order) p empty ≡ p
   pub read : params_read (all_pairs FIELDS p) ≡ filter_map (λ f. param_at f p) order
 
 pub order_of : (p : FormatParams) → CanBeReadBack p → (o5 : Option h265_triple) (o6 : Option h266_triple) → p.h265_profile_tier_level ≡ o5
-    → p.h266_profile_tier_level ≡ o6 → Order p
+    → p.h266_profile_tier_level ≡ o6 → FieldOrder p
 order_of p h None None e5 e6 = search (rules, without_triple p h.values e5 e6)
 order_of p h (Some t) None e5 e6 = record {
   order = triple_first;
@@ -325,7 +327,7 @@ order_of p h (Some t) (Some u) e5 e6 = grind arith
 bares_printed : (p : FormatParams) → all_bares FIELDS p ≡ bares_at field.TelephoneEvents p
 bares_printed p = append-nil (bares_at field.TelephoneEvents p)
 
-line_texts : (p : FormatParams) → params_text p ≡ linked (map param_text (filter_map (λ f. param_at f p) FIELDS))
+line_texts : (p : FormatParams) → params_text p ≡ line_linked_texts (map param_text (filter_map (λ f. param_at f p) FIELDS))
 unfolding params_text params_of
 line_texts p = refl
 

@@ -2,7 +2,7 @@
 use Rattle.str0m_formats.proofs.Common.{◌≡◌, ◌≢◌, ℕ, false, List, [], ◌∷◌, ◌++◌, length, map, Option, Some, None, IfSome, option_map, inl}
 use Rattle.str0m_formats.proofs.Common.{inr, refl, sym, arith, ap, subst, ◌∙◌, AllByRecursion, cons_option, list_any, append-nil}
 use Rattle.str0m_formats.proofs.Common.{map-append, IsRest, filter_map}
-use Rattle.str0m_formats.proofs.format.FormatLineAgain.{line_all_field_pieces, all_pairs, linked, line_texts_alike, order_of}
+use Rattle.str0m_formats.proofs.format.FormatLineAgain.{line_all_field_pieces, all_pairs, line_linked_texts, line_texts_alike, order_of}
 use Rattle.str0m_formats.proofs.format.FormatParamsSet.{param_is, set_each}
 use Rattle.str0m_formats.proofs.format.FormatParamsShown.{joined_pair, shown_slots_at, bares_at, IsSolidPair, entry_at, field_shows}
 use Rattle.str0m_formats.proofs.format.PairsRows.{given_slots}
@@ -112,7 +112,7 @@ solid_pairs (f ∷ fs) p h = line_all_of_both IsSolidPair (given_slots (shown_sl
 -- what the line of a format is
 pub record IsLineOf (p : FormatParams) (pairs : List (List ℕ × List ℕ)) : Type 0 where
   pub plain : AllByRecursion IsSolidPair pairs
-  pub text : linked (map param_text (params_of p)) ≡ linked (map joined_pair pairs)
+  pub text : line_linked_texts (map param_text (params_of p)) ≡ line_linked_texts (map joined_pair pairs)
   pub some : params_of p ≢ [] → pairs ≢ []
   pub none : params_of p ≡ [] → pairs ≡ []
   pub own : AllByRecursion IsOwnParam (params_read pairs)
@@ -131,8 +131,8 @@ line_of_pairs p h none =
     record {
       plain = solid_pairs FIELDS p h;
       text = elim (line_texts_alike FIELDS p h.values) [
-        | inl none_at_all ↦ ap linked none_at_all.0 ∙ ap linked (sym none_at_all.1 ∙ same)
-        | inr some ↦ some.2 ∙ ap linked same
+        | inl none_at_all ↦ ap line_linked_texts none_at_all.0 ∙ ap line_linked_texts (sym none_at_all.1 ∙ same)
+        | inr some ↦ some.2 ∙ ap line_linked_texts same
       ];
       some = λ given_some nothing. elim (line_texts_alike FIELDS p h.values) [
         | inl none_at_all ↦ given_some (none_of (filter_map (λ f. param_at f p) FIELDS) none_at_all.0)
@@ -170,9 +170,9 @@ supported_one : (q : FormatParam) (params : List FormatParam) → IsOwnParam q �
 unfolding is_unsupported
 supported_one q params mine e = grind arith
 
-supported : (params : List FormatParam) → AllByRecursion IsOwnParam params → list_any is_unsupported params ≡ false
-supported [] own = refl
-supported (q ∷ params) own = supported_one q params own.0 (supported params own.1)
+line_own_params_supported : (params : List FormatParam) → AllByRecursion IsOwnParam params → list_any is_unsupported params ≡ false
+line_own_params_supported [] own = refl
+line_own_params_supported (q ∷ params) own = supported_one q params own.0 (line_own_params_supported params own.1)
 
 -- a line of own parameters is read as the format that they make, for every codec but telephone events
 line_own_params_values : (params : List FormatParam) → AllByRecursion IsOwnParam params → values_of_lines (params ∷ []) ≡ params
@@ -180,7 +180,7 @@ line_own_params_values params own = append-nil (line_without_event_ranges params
 
 refused_none : (c : Codec) (params : List FormatParam) → AllByRecursion IsOwnParam params → line_asks_absent c (params ∷ []) ≡ false
 unfolding line_asks_absent
-refused_none c params own = grind (arith, supported)
+refused_none c params own = grind (arith, line_own_params_supported)
 
 pub format_said : (c : Codec) (p : FormatParams) (params : List FormatParam) → c ≢ codec.Tele → AllByRecursion IsOwnParam params
     → set_all empty params ≡ p → format_of_fmtp c (params ∷ []) ≡ Some p

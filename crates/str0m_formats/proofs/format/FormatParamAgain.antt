@@ -6,7 +6,7 @@ use Rattle.str0m_formats.proofs.Common.{◌≡◌, ◌≢◌, ◌≤◌, ◌<◌
 use Rattle.str0m_formats.proofs.Common.{refl, sym, ap, ◌∙◌, arith, lit<, decimal, AllDigits, digits_value, decimal_is_IsNumeral}
 use Rattle.str0m_formats.proofs.Common.{digits_is_IsNumeral, length-append, false≢true, IsNumber, IsNum, IsRest, Option, Some, None}
 use Rattle.str0m_formats.proofs.Common.{MatchOption, nat_le, inr, ◌==◌, ◌&&◌, and_parts, cases_lt, eqb-true, leb-true, zero, suc, IsNumeral}
-use Rattle.str0m_formats.proofs.format.FormatParamLaws.{spelled, parsed_only}
+use Rattle.str0m_formats.proofs.format.FormatParamLaws.{param_spelled, parsed_only}
 use Rattle.str0m_formats.proofs.format.FormatParamModes.{modes_only}
 use Rattle.str0m_formats.specs.declared.format.format_key.FormatKey.{FormatKey}
 use Rattle.str0m_formats.specs.declared.format.format_param.FormatParam.{FormatParam}
@@ -110,7 +110,7 @@ value_reads anything x small h = absurd h
 -- what a key and its value print is read as the parameter that holds them
 pub key_reads : (k : FormatKey) (x : HeldValue (kind k)) → InRange (kind k) x
     → param_of (key_text k, param_value_text (kind k) x) ≡ keyed k x
-key_reads k x h = sym (spelled (key_text k) (param_value_text (kind k) x) (keyed k x)
+key_reads k x h = sym (param_spelled (key_text k) (param_value_text (kind k) x) (keyed k x)
     (k, refl, (x, refl, value_reads (kind k) x (key_small k) h)))
 
 -- the table and the keys of parameters agree

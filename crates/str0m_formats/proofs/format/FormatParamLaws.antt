@@ -13,7 +13,7 @@ use Rattle.str0m_formats.specs.declared.format.format_param.FormatParam.{FormatP
 use Rattle.str0m_formats.specs.declared.format.format_param.FormatParam.TheVariants.{Unknown}
 use Rattle.str0m_formats.specs.format.FormatKey.{key_text}
 use Rattle.str0m_formats.specs.format.FormatParam.{Kind, flag, number, hex, modes, exactly, anything, HeldValue, ReadsKind, kind, keyed}
-use Rattle.str0m_formats.specs.format.FormatParam.{ParamHoldsValue, Spells, IsParsed, AreParsed, IsEventRange, IsBare}
+use Rattle.str0m_formats.specs.format.FormatParam.{ParamHoldsValue, SpellsParam, IsParsed, AreParsed, IsEventRange, IsBare}
 use Rattle.str0m_formats.specs.format.FormatParamReading.{hex_read, keys, key_read, is_flag_one, kind_read, value_read, param_of}
 use Rattle.str0m_formats.specs.format.FormatParamReading.{bare_param}
 
@@ -78,15 +78,15 @@ parsed key_as value = known (key_read key_as) (key_only key_as)
     known (Some k) is = held k is (value_read k value) refl
 
 -- what spells a parameter is read as it
-pub spelled : (key_as value : List ℕ) (param : FormatParam) → Spells (key_as, value) param → param ≡ param_of (key_as, value)
+pub param_spelled : (key_as value : List ℕ) (param : FormatParam) → SpellsParam (key_as, value) param → param ≡ param_of (key_as, value)
 unfolding param_of
-spelled key_as value param h = sym
+param_spelled key_as value param h = sym
     (ap (λ (o : Option FormatKey). unwrap_or (o >>= λ key. value_read key value) Unknown) ((key_only key_as).only h.0 h.1)
     ∙ ap (λ (o : Option FormatParam). unwrap_or o Unknown) (held_read h.0 value param h.2))
 
 pub parsed_only : (key_as value : List ℕ) (param : FormatParam) → IsParsed (key_as, value) param → param ≡ param_of (key_as, value)
 parsed_only key_as value param h = elim h [
-  | inl spells ↦ spelled key_as value param spells
+  | inl spells ↦ param_spelled key_as value param spells
   | inr none ↦ elim (parsed key_as value) [
     | inl spells ↦ absurd (none.0 (param_of (key_as, value)) spells)
     | inr unknown ↦ none.1 ∙ sym unknown.1

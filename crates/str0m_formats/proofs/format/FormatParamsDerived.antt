@@ -8,14 +8,14 @@ use denote.Enum.Declared.{Declared, left_or, right_or}
 use mathlib.Core.Logic.{⊎_elim}
 
 -- a test of equality, which decides
-pub record Equality (V : Type 0) : Type 0 where
+pub record EqualityTest (V : Type 0) : Type 0 where
   pub test : V → V → Bool
   pub decides : (x y : V) → Decides (test x y) (x ≡ y)
 
-abbrev pub eq_number : Equality ℕ
+abbrev pub eq_number : EqualityTest ℕ
 eq_number = record { test = nat_eq; decides = unsigned_Decides }
 
-abbrev pub eq_bool : Equality Bool
+abbrev pub eq_bool : EqualityTest Bool
 eq_bool = record { test = beq; decides = booleans_Decides }
 
 -- `==` on options decides equality where `==` on what they hold does
@@ -26,55 +26,55 @@ option_Decides E each None (Some y) = (λ h. cc, λ h. cc)
 option_Decides E each (Some x) None = (λ h. cc, λ h. cc)
 option_Decides E each (Some x) (Some y) = Decides-like (E x y) (λ e. ap Some e) (λ e. cc) (each x y)
 
-abbrev pub eq_option : {T : Type 0} → Equality T → Equality (Option T)
+abbrev pub eq_option : {T : Type 0} → EqualityTest T → EqualityTest (Option T)
 eq_option own = record { test = option_eq own.test; decides = option_Decides own.test own.decides }
 
 -- so does `==` on lists, texts among them
-abbrev pub eq_list : {T : Type 0} → Equality T → Equality (List T)
+abbrev pub eq_list : {T : Type 0} → EqualityTest T → EqualityTest (List T)
 eq_list own = record { test = pointwise own.test; decides = pointwise_decides own.decides }
 
 -- and that of an enum without fields
 pub bare_Decides : (D : Declared) → Bare D.parts → (a b : D.D) → Decides (sameb D a b) (a ≡ b)
 bare_Decides D bare a b = (same_true D bare a b, true_same D a b)
 
-abbrev pub eq_word : (D : Declared) → Bare D.parts → Equality D.D
+abbrev pub eq_word : (D : Declared) → Bare D.parts → EqualityTest D.D
 eq_word D bare = record { test = sameb D; decides = bare_Decides D bare }
 
 -- one part after another; the last has nothing after it
-abbrev pub eq_last : {A : Type 0} → Equality A → Equality (A × Unit {0})
+abbrev pub eq_last : {A : Type 0} → EqualityTest A → EqualityTest (A × Unit {0})
 eq_last a = record {
   test = λ x y. a.test x.0 y.0;
   decides = λ x y. Decides-like (a.test x.0 y.0) (λ e i. (e i, tt)) (λ e i. (e i).0) (a.decides x.0 y.0);
 }
 
-abbrev pub eq_both : {A B : Type 0} → Equality A → Equality B → Equality (A × B)
+abbrev pub eq_both : {A B : Type 0} → EqualityTest A → EqualityTest B → EqualityTest (A × B)
 eq_both a b = record {
   test = λ x y. a.test x.0 y.0 && b.test x.1 y.1;
   decides = λ x y. Decides-like (a.test x.0 y.0 && b.test x.1 y.1) (λ e i. (e.0 i, e.1 i)) (λ e. (λ i. (e i).0, λ i. (e i).1))
       (Decides-and (a.test x.0 y.0) (b.test x.1 y.1) (a.decides x.0 y.0) (b.decides x.1 y.1));
 }
 
-abbrev pub eq_unit : Equality (Unit {0})
+abbrev pub eq_unit : EqualityTest (Unit {0})
 eq_unit = record { test = λ x y. true; decides = λ x y. (λ h. refl, λ e. refl) }
 
 -- one of several
-abbrev pub either_test : {A B : Type 0} → Equality A → Equality B → A ⊎ B → A ⊎ B → Bool
+abbrev pub either_test : {A B : Type 0} → EqualityTest A → EqualityTest B → A ⊎ B → A ⊎ B → Bool
 either_test a b c d = ⊎_elim (λ x. ⊎_elim (λ y. a.test x y) (λ _. false) d) (λ x. ⊎_elim (λ _. false) (λ y. b.test x y) d) c
 
-pub param_either_Decides : {A B : Type 0} (a : Equality A) (b : Equality B) (c d : A ⊎ B) → Decides (either_test a b c d) (c ≡ d)
+pub param_either_Decides : {A B : Type 0} (a : EqualityTest A) (b : EqualityTest B) (c d : A ⊎ B) → Decides (either_test a b c d) (c ≡ d)
 param_either_Decides a b (inl x) (inl y) = Decides-like (a.test x y) (ap inl) (ap (left_or x)) (a.decides x y)
 param_either_Decides a b (inr x) (inr y) = Decides-like (b.test x y) (ap inr) (ap (right_or x)) (b.decides x y)
 param_either_Decides a b (inl x) (inr y) = (λ h. absurd (false≢true h), λ e. cc)
 param_either_Decides a b (inr x) (inl y) = (λ h. absurd (false≢true h), λ e. cc)
 
-abbrev pub eq_either : {A B : Type 0} → Equality A → Equality B → Equality (A ⊎ B)
+abbrev pub eq_either : {A B : Type 0} → EqualityTest A → EqualityTest B → EqualityTest (A ⊎ B)
 eq_either a b = record { test = either_test a b; decides = param_either_Decides a b }
 
-abbrev pub eq_never : Equality ⊥
+abbrev pub eq_never : EqualityTest ⊥
 eq_never = record { test = λ x y. absurd x; decides = λ x y. absurd x }
 
 -- a type that is taken apart and put together again
-abbrev pub eq_along : {A B : Type 0} (to : A → B) (from : B → A) → ((a : A) → from (to a) ≡ a) → Equality B → Equality A
+abbrev pub eq_along : {A B : Type 0} (to : A → B) (from : B → A) → ((a : A) → from (to a) ≡ a) → EqualityTest B → EqualityTest A
 eq_along to from back parts = record {
   test = λ x y. parts.test (to x) (to y);
   decides = λ x y. Decides-like (parts.test (to x) (to y)) (λ e. sym (back x) ∙ ap from e ∙ back y) (λ e. ap to e)

@@ -1,7 +1,7 @@
 -- When two formats are equal, two specs and two parameters: `==` of each part decides, and so does that of the whole.
 use Rattle.str0m_formats.proofs.Common.{◌≡◌, ℕ, Bool, true, false, Option, nat_eq, refl, sym, ◌∙◌, Decides, unsigned_Decides, option_eq}
 use Rattle.str0m_formats.proofs.Common.{H265ProfileTierLevel, H266ProfileTierLevel}
-use Rattle.str0m_formats.proofs.format.FormatParamsDerived.{Equality, equality, eq_word}
+use Rattle.str0m_formats.proofs.format.FormatParamsDerived.{EqualityTest, equality, eq_word}
 use Rattle.str0m_formats.specs.contracts.codec.Codec as codec_type
 use Rattle.str0m_formats.specs.contracts.format.format_params.FormatParamsPartialEq.TheImpl as format_eq
 use Rattle.str0m_formats.specs.declared.codec.Codec.{Codec}
@@ -19,38 +19,38 @@ pub use Rattle.str0m_formats.proofs.format.FormatParamsDerived.{option_Decides, 
 pub options_decided : (a b : Option ℕ) → Decides (option_eq nat_eq a b) (a ≡ b)
 options_decided = option_Decides nat_eq unsigned_Decides
 
-abbrev pub eq_h265 : Equality H265ProfileTierLevel
+abbrev pub eq_h265 : EqualityTest H265ProfileTierLevel
 eq_h265 = hlevel (eq_word h265_profile.the_type tt, eq_word h265_tier.the_type tt, eq_word h265_level.the_type tt, equality)
 
-abbrev pub eq_h266 : Equality H266ProfileTierLevel
+abbrev pub eq_h266 : EqualityTest H266ProfileTierLevel
 eq_h266 = hlevel (eq_word h266_profile.the_type tt, eq_word h266_tier.the_type tt, eq_word h266_level.the_type tt, equality)
 
-abbrev format : Equality FormatParams
+abbrev format : EqualityTest FormatParams
 format = hlevel (eq_h265, eq_h266, equality)
 
 pub format_Decides : (a b : FormatParams) → Decides (format_eq.eq-value.it a b) (a ≡ b)
 format_Decides a b = format.decides a b
 
-abbrev codec : Equality Codec
+abbrev codec : EqualityTest Codec
 codec = eq_word codec_type.the_type tt
 
 pub codec_Decides : (a b : Codec) → Decides (same_codec a b) (a ≡ b)
 codec_Decides a b = codec.decides a b
 
-abbrev pub spec : Equality CodecSpec
+abbrev pub spec : EqualityTest CodecSpec
 spec = hlevel (codec, format, equality)
 
 pub spec_Decides : (a b : CodecSpec) → Decides (same_spec a b) (a ≡ b)
 spec_Decides a b = spec.decides a b
 
 -- a test that decides is false of what isn't
-pub fails : {P : Type 0} (t : Bool) → Decides t P → (P → ⊥) → t ≡ false
-fails true d n = absurd (n (d.0 refl))
-fails false d n = refl
+pub equality_fails : {P : Type 0} (t : Bool) → Decides t P → (P → ⊥) → t ≡ false
+equality_fails true d n = absurd (n (d.0 refl))
+equality_fails false d n = refl
 
 -- what is true of equal specs, and false of these two, tells them apart
 specs_apart : (t : Bool) (a b : CodecSpec) → (a ≡ b → t ≡ true) → t ≡ false → same_spec a b ≡ false
-specs_apart t a b holds h = fails (same_spec a b) (spec_Decides a b) (λ e. let it : true ≡ false = sym (holds e) ∙ h in cc)
+specs_apart t a b holds h = equality_fails (same_spec a b) (spec_Decides a b) (λ e. let it : true ≡ false = sym (holds e) ∙ h in cc)
 
 -- specs of two codecs are not equal, nor are those whose formats differ in a number
 pub other_codec : (a b : CodecSpec) → same_codec a.codec b.codec ≡ false → same_spec a b ≡ false

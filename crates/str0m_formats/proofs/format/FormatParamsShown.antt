@@ -24,7 +24,7 @@ use Rattle.str0m_formats.specs.format.FormatParam.{InRange}
 use Rattle.str0m_formats.specs.format.FormatParam.{param_value_text, entry_text, six_digits, mode_list, triple_text, param_text}
 use Rattle.str0m_formats.specs.format.FormatParamReading.{param_of}
 use Rattle.str0m_formats.specs.format.FormatParams.{get, param_in, param_at, IsFieldWithin}
-use Rattle.str0m_formats.specs.format.PairsReading.{Tables, h265_tables, h266_tables}
+use Rattle.str0m_formats.specs.format.PairsReading.{ProfileTables, h265_tables, h266_tables}
 
 -- ---- solid values
 
@@ -111,7 +111,7 @@ shown_entry_text_of param e is = ap entry_text is ∙ entry_joined e
 abbrev pub shown_key_slot : (k : FormatKey) → Option (HeldValue (kind k)) → PairSlots
 shown_key_slot k o = (key_text k, option_map (param_value_text (kind k)) o) ∷ []
 
-abbrev pub triple_slots : {P T L : Type 0} → Tables P T L → Option (ProfileTierLevel P T L) → PairSlots
+abbrev pub triple_slots : {P T L : Type 0} → ProfileTables P T L → Option (ProfileTierLevel P T L) → PairSlots
 triple_slots tables o =
     (PROFILE_ID.now, option_map (λ t. decimal (tables.profile_id t.profile)) o)
     ∷ (TIER_FLAG.now, option_map (λ t. decimal (tables.tier_flag t.tier)) o)
@@ -180,7 +180,7 @@ triple_parts : (a b c : List ℕ) → codes "profile-id=" ++ (a ++ (codes ";tier
 triple_parts a b c = refl
 
 -- a field with a profile, tier and level
-module _ {P T L : Type 0} (tables : Tables P T L) (make : ProfileTierLevel P T L → FormatParam) (small : (t : ProfileTierLevel P T L)
+module _ {P T L : Type 0} (tables : ProfileTables P T L) (make : ProfileTierLevel P T L → FormatParam) (small : (t : ProfileTierLevel P T L)
     → AreBytes tables t)
     (text : (t : ProfileTierLevel P T L)
     → param_text (make t) ≡ triple_text (tables.profile_id t.profile) (tables.tier_flag t.tier) (tables.level_id t.level)) where

@@ -56,20 +56,20 @@ merged_all_inserted es (x ∷ xs) apart low lows = search (
   merged_inserted_all,
 )
 
-abbrev lowered : List (List ℕ × List ℕ) → List (List ℕ × List ℕ)
-lowered pairs = map (λ pair. (str_to_ascii_lowercase pair.0, pair.1)) pairs
+abbrev merged_lowered : List (List ℕ × List ℕ) → List (List ℕ × List ℕ)
+merged_lowered pairs = map (λ pair. (str_to_ascii_lowercase pair.0, pair.1)) pairs
 
 merged_lowered_twice : (text : List ℕ) → IsLowKey (str_to_ascii_lowercase text)
 merged_lowered_twice [] = refl
 merged_lowered_twice (c ∷ cs) = λ i. lowercase-lowercase c i ∷ merged_lowered_twice cs i
 
-lowered_low : (pairs : Pairs) → AreLowKeys (lowered pairs)
+lowered_low : (pairs : Pairs) → AreLowKeys (merged_lowered pairs)
 lowered_low [] = tt
 lowered_low (pair ∷ pairs) = (merged_lowered_twice pair.0, lowered_low pairs)
 
 pub merged_apart : (pairs : List (List ℕ × List ℕ)) → AreKeysApart (merged pairs) × AreLowKeys (merged pairs)
 unfolding merged IsDistinct
-merged_apart pairs = merged_all_inserted [] (lowered pairs) tt tt (lowered_low pairs)
+merged_apart pairs = merged_all_inserted [] (merged_lowered pairs) tt tt (lowered_low pairs)
 
 -- ---- what is no part of a triple
 
@@ -110,7 +110,7 @@ all_pairs_kept : (done xs : Pairs) → AreKeysApart (done ++ xs) → insert_all 
 all_pairs_kept done [] apart = sym (append-nil done)
 all_pairs_kept done (x ∷ xs) apart = grind (arith, insert_entry-absent, key_absent, all_pairs_kept (done ++ (x ∷ [])) xs, append_assoc)
 
-lowered_same : (pairs : Pairs) → AreLowKeys pairs → lowered pairs ≡ pairs
+lowered_same : (pairs : Pairs) → AreLowKeys pairs → merged_lowered pairs ≡ pairs
 lowered_same [] low = refl
 lowered_same (pair ∷ pairs) low = λ i. (low.0 i, pair.1) ∷ lowered_same pairs low.1 i
 

@@ -3,9 +3,9 @@ use Rattle.str0m_formats.proofs.Common.{◌≡◌, ◌≢◌, ◌≤◌, ℕ, Bo
 use Rattle.str0m_formats.proofs.Common.{◌∙◌, subst, arith, inl, inr, codes, MatchBool, decimal, AllByRecursion, IsDistinct, cons_option}
 use Rattle.str0m_formats.proofs.Common.{join_with_byte, keys_of, bytes_eq, lt-ltb, false_from_ne_true, append_assoc, IsDistinct-cons}
 use Rattle.str0m_formats.proofs.Common.{IsDistinct-head, IsDistinct-tail, bytes_eq-Decides, ProfileTierLevel, decimal_nonempty}
-use Rattle.str0m_formats.proofs.format.FormatKeyAgain.{IsKeyed, AreKeyed, pair_of, prints, key_unmarked, own_key, keyed_or_hidden}
+use Rattle.str0m_formats.proofs.format.FormatKeyAgain.{IsKeyed, AreKeyed, pair_of, key_param_prints, key_unmarked, own_key, keyed_or_hidden}
 use Rattle.str0m_formats.proofs.format.FormatKeyAgain.{keyed_shown, shown_keyed, keyed_params, keyed_texts, keyed_pairs, keyed_unmarked}
-use Rattle.str0m_formats.proofs.format.FormatLineAgain.{unmarked, marked}
+use Rattle.str0m_formats.proofs.format.FormatLineAgain.{line_pairs_unmarked, marked}
 use Rattle.str0m_formats.proofs.format.FormatParamsShown.{IsSolidPair, joined_pair, decimal_solid}
 use Rattle.str0m_formats.proofs.format.MergedPairsKeys.{IsLowKey, AreLowKeys, AreKeysApart, merged_apart, merged_others_all}
 use Rattle.str0m_formats.proofs.format.MergedPairsKeys.{merged_others_apart, merged_others_other}
@@ -18,7 +18,7 @@ use Rattle.str0m_formats.specs.declared.format.format_param.FormatParam.TheVaria
 use Rattle.str0m_formats.specs.format.FormatParam.{IsParsed, AreParsed, triple_text, param_text}
 use Rattle.str0m_formats.specs.format.FormatParamReading.{param_of}
 use Rattle.str0m_formats.specs.format.Pairs.{has_triple_mark, merged, other_pairs, is_part, AreJoinedPairs, AreRead}
-use Rattle.str0m_formats.specs.format.PairsReading.{Tables, h265_tables, h266_tables, params_read, triple_read}
+use Rattle.str0m_formats.specs.format.PairsReading.{ProfileTables, h265_tables, h266_tables, params_read, triple_read}
 
 -- the parameters print as pairs that are read as them
 pub record IsPairsLine (shown : List FormatParam) : Type 0 where
@@ -31,10 +31,11 @@ pub record IsPairsLine (shown : List FormatParam) : Type 0 where
 -- ---- parameters of the table alone
 
 keyed_line : (params : List FormatParam) → AreKeyed params → IsPairsLine params
-keyed_line params keyed = grind (arith, keyed_pairs, keyed_texts, unmarked, keyed_unmarked, keyed_params)
+keyed_line params keyed = grind (arith, keyed_pairs, keyed_texts, line_pairs_unmarked, keyed_unmarked, keyed_params)
 
-read_alone : (pairs : List (List ℕ × List ℕ)) (params : List FormatParam) → AreParsed pairs params → IsPairsLine (filter prints params)
-read_alone pairs params are = keyed_line (filter prints params) (shown_keyed pairs params are)
+read_alone : (pairs : List (List ℕ × List ℕ)) (params : List FormatParam) → AreParsed pairs params
+    → IsPairsLine (filter key_param_prints params)
+read_alone pairs params are = keyed_line (filter key_param_prints params) (shown_keyed pairs params are)
 
 -- ---- keys that stand once
 
@@ -45,7 +46,7 @@ same_key pair param low o keyed = grind (arith, own_key, key_unmarked)
 
 -- what all keys of pairs have, all keys of what is printed have
 all_keys : (P : List ℕ → Type 0) (pairs : List (List ℕ × List ℕ)) (params : List FormatParam) → AreLowKeys pairs → AreParsed pairs params
-    → AllByRecursion P (keys_of pairs) → AllByRecursion P (keys_of (map pair_of (filter prints params)))
+    → AllByRecursion P (keys_of pairs) → AllByRecursion P (keys_of (map pair_of (filter key_param_prints params)))
 all_keys P [] [] low are all = tt
 all_keys P [] (param ∷ params) low are all = absurd are
 all_keys P (pair ∷ pairs) [] low are all = absurd are
@@ -58,7 +59,7 @@ all_keys P (pair ∷ pairs) (param ∷ params) low are all =
     ]
 
 distinct_keys : (pairs : List (List ℕ × List ℕ)) (params : List FormatParam) → AreLowKeys pairs → AreParsed pairs params
-    → IsDistinct bytes_eq (keys_of pairs) → IsDistinct bytes_eq (keys_of (map pair_of (filter prints params)))
+    → IsDistinct bytes_eq (keys_of pairs) → IsDistinct bytes_eq (keys_of (map pair_of (filter key_param_prints params)))
 distinct_keys [] [] low are all = all
 distinct_keys [] (param ∷ params) low are all = absurd are
 distinct_keys (pair ∷ pairs) [] low are all = absurd are
@@ -67,7 +68,7 @@ distinct_keys (pair ∷ pairs) (param ∷ params) low are all =
     elim (keyed_or_hidden pair param are.0) [
       | inl keyed ↦
           rw (lt-ltb 0 (length (param_text param)) (keyed_shown param keyed))
-          (IsDistinct-cons bytes_eq (pair_of param).0 (keys_of (map pair_of (filter prints params)))
+          (IsDistinct-cons bytes_eq (pair_of param).0 (keys_of (map pair_of (filter key_param_prints params)))
           (all_keys (λ k. bytes_eq (pair_of param).0 k ≡ false) pairs params low.1 are.1
           (subst (λ (k : List ℕ). AllByRecursion (λ j. bytes_eq k j ≡ false) (keys_of pairs)) (sym (same_key pair param low.0 are.0 keyed))
           (IsDistinct-head bytes_eq pair.0 (keys_of pairs) all)))
@@ -144,7 +145,7 @@ triple_line q a b c params text plain read h = record {
 numbers_solid : (k m n : ℕ) → k ≤ 255 → m ≤ 255 → n ≤ 255 → AllByRecursion IsSolidPair (triple_pairs (decimal k) (decimal m) (decimal n))
 numbers_solid k m n p q r = grind (arith, solid_from, decimal_solid, decimal_nonempty)
 
-shows_triple : {P T L : Type 0} (tables : Tables P T L) (q : FormatParam) (t : ProfileTierLevel P T L) (params : List FormatParam)
+shows_triple : {P T L : Type 0} (tables : ProfileTables P T L) (q : FormatParam) (t : ProfileTierLevel P T L) (params : List FormatParam)
     → param_text q ≡ triple_text (tables.profile_id t.profile) (tables.tier_flag t.tier) (tables.level_id t.level)
     → AreBytes tables t → triple_read (triple_texts_shown tables t) ≡ Some q → AreOtherPairs params → IsPairsLine (q ∷ params)
 shows_triple tables q t params text small read h = grind (arith, triple_line, numbers_solid)
@@ -152,7 +153,7 @@ shows_triple tables q t params text small read h = grind (arith, triple_line, nu
 -- ---- all pairs
 
 pairs_others_of : (pairs : List (List ℕ × List ℕ)) (params : List FormatParam) → AreParsed (other_pairs (merged pairs)) params
-    → AreOtherPairs (filter prints params)
+    → AreOtherPairs (filter key_param_prints params)
 pairs_others_of pairs params are =
     let kept = other_pairs (merged pairs) in
     let all = merged_apart pairs in
@@ -165,21 +166,22 @@ pairs_others_of pairs params are =
     }
 
 pairs_joined_line : (pairs : List (List ℕ × List ℕ)) (params : List FormatParam) → AreJoinedPairs (merged pairs) params
-    → IsPairsLine (filter prints params)
+    → IsPairsLine (filter key_param_prints params)
 pairs_joined_line pairs params (triple, rest, inl (t, h265, is), are, joined) =
     rw (joined, is, lt-ltb 0 (length (param_text (H265ProfileTierLevel t))) (omega arith))
-    (shows_triple h265_tables (H265ProfileTierLevel t) t (filter prints rest) refl (h265_small t) (h265_again t)
+    (shows_triple h265_tables (H265ProfileTierLevel t) t (filter key_param_prints rest) refl (h265_small t) (h265_again t)
     (pairs_others_of pairs rest are))
 pairs_joined_line pairs params (triple, rest, inr (no_h265, inl (t, h266, is)), are, joined) =
     rw (joined, is, lt-ltb 0 (length (param_text (H266ProfileTierLevel t))) (omega arith))
-    (shows_triple h266_tables (H266ProfileTierLevel t) t (filter prints rest) refl (h266_small t) (h266_again t)
+    (shows_triple h266_tables (H266ProfileTierLevel t) t (filter key_param_prints rest) refl (h266_small t) (h266_again t)
     (pairs_others_of pairs rest are))
 pairs_joined_line pairs params (triple, rest, inr (no_h265, inr (no_h266, is)), are, joined) = grind (arith, read_alone)
 
-pub pairs_again : (pairs : List (List ℕ × List ℕ)) (params : List FormatParam) → AreRead pairs params → IsPairsLine (filter prints params)
+pub pairs_again : (pairs : List (List ℕ × List ℕ)) (params : List FormatParam) → AreRead pairs params
+    → IsPairsLine (filter key_param_prints params)
 pairs_again pairs params read = go (has_triple_mark pairs) read
   where
     go : (marked : Bool) → MatchBool marked (AreJoinedPairs (merged pairs) params) (AreParsed pairs params)
-        → IsPairsLine (filter prints params)
+        → IsPairsLine (filter key_param_prints params)
     go true h = pairs_joined_line pairs params h
     go false h = read_alone pairs params h

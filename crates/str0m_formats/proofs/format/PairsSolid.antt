@@ -41,8 +41,8 @@ solid_is_low b e = grind arith
 or_right : (a b : Bool) → (not a || b) ≡ true → a ≡ true → b ≡ true
 or_right a b e h = grind arith
 
-high : (c : ℕ) → 123 ≤ c → digit_value c ≡ 36
-high c le = grind (arith, tests)
+high_is_no_digit : (c : ℕ) → 123 ≤ c → digit_value c ≡ 36
+high_is_no_digit c le = grind (arith, tests)
 
 digit_solid : (c : ℕ) → digit_value c < 16 → is_solid c ≡ true
 digit_solid c h = grind arith

@@ -12,7 +12,7 @@ use Rattle.str0m_values.specs.H265 as h265
 use Rattle.str0m_values.specs.H265.{H265ProfileTierLevel as h265_triple}
 use Rattle.str0m_values.specs.H266 as h266
 use Rattle.str0m_values.specs.H266.{H266ProfileTierLevel as h266_triple}
-use Rattle.str0m_values.specs.ProfileTierLevel.{HasGivenNumbers, HasNumbersOfTexts, Tables, value_in}
+use Rattle.str0m_values.specs.ProfileTierLevel.{HasGivenNumbers, HasNumbersOfTexts, ProfileTables, value_in}
 use Rattle.str0m_values.specs.declared.h266.H266Level.{H266Level}
 
 given_number_both : (default : ℕ) → Reads (IsGivenNumber 255 default) (given_read default)
@@ -29,7 +29,7 @@ table_value_both {A} {id} {rows} default table = grind (arith, bind_some, given_
 
 -- ---- a codec's triples, by its tables
 
-record AreTables {P T L : Type 0} (tables : Tables P T L) : Type 0 where
+record AreTables {P T L : Type 0} (tables : ProfileTables P T L) : Type 0 where
   profiles : IsTable tables.profile_id tables.profiles
   tiers : IsTable tables.tier_flag tables.tiers
   levels : IsTable tables.level_id tables.levels
@@ -41,17 +41,17 @@ h266_are : AreTables h266_tables
 h266_are = grind arith
 
 -- the numbers of a triple, as they print
-abbrev pub AreBytes : {P T L : Type 0} → Tables P T L → ProfileTierLevel P T L → Type 0
+abbrev pub AreBytes : {P T L : Type 0} → ProfileTables P T L → ProfileTierLevel P T L → Type 0
 AreBytes tables t = (tables.profile_id t.profile ≤ 255) × (tables.tier_flag t.tier ≤ 255) × (tables.level_id t.level ≤ 255)
 
-abbrev pub triple_texts_shown : {P T L : Type 0} → Tables P T L → ProfileTierLevel P T L → TripleTexts
+abbrev pub triple_texts_shown : {P T L : Type 0} → ProfileTables P T L → ProfileTierLevel P T L → TripleTexts
 triple_texts_shown tables t = (
   Some (decimal (tables.profile_id t.profile)),
   Some (decimal (tables.tier_flag t.tier)),
   Some (decimal (tables.level_id t.level)),
 )
 
-module _ {P T L : Type 0} (tables : Tables P T L) (are : AreTables tables) where
+module _ {P T L : Type 0} (tables : ProfileTables P T L) (are : AreTables tables) where
   abbrev IsOfTables : TripleTexts → ProfileTierLevel P T L → Type 0
   IsOfTables texts = HasGivenNumbers tables.profile_id tables.tier_flag tables.level_id tables.defaults texts.0 texts.1 texts.2
 

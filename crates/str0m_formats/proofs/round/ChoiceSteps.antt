@@ -4,7 +4,7 @@ use Rattle.str0m_formats.proofs.Common.{sym, ap, ◌∙◌, subst, get_or, take,
 use Rattle.str0m_formats.proofs.Common.{All-nil, All-weaker, append_assoc, take_more, nat_lt, if◌then◌else◌, ltb-false, IfSome_then}
 use Rattle.str0m_formats.proofs.Common.{MatchOption-from_none}
 use Rattle.str0m_formats.specs.declared.row.payload_params.PayloadParams.{PayloadParams}
-use Rattle.str0m_formats.specs.round.Choices.{IsBest, better}
+use Rattle.str0m_formats.specs.round.Choices.{IsBest, better_row}
 
 -- the choice so far, with its score
 abbrev pub IsChoiceSoFar : (PayloadParams → Option ℕ) → List PayloadParams → Option (PayloadParams × ℕ) → Type 0
@@ -68,7 +68,7 @@ at_most_so_far points rows best n it m =
 -- one row more
 choice_step : (points : PayloadParams → Option ℕ) (rows : List PayloadParams) (so_far : Option (PayloadParams × ℕ)) (row : PayloadParams)
     (o : Option ℕ) → points row ≡ o
-    → IsChoiceSoFar points rows so_far → IsChoiceSoFar points (rows ++ row ∷ []) (better so_far row o)
+    → IsChoiceSoFar points rows so_far → IsChoiceSoFar points (rows ++ row ∷ []) (better_row so_far row o)
 choice_step points rows None row None e c = All-push (λ r. points r ≡ None) rows row c e
 choice_step points rows None row (Some n) e c = choice_goes_last points rows n row e (none_so_far points rows n c)
 choice_step points rows (Some (best, most)) row None e c =
@@ -86,6 +86,6 @@ choice_step points rows (Some (best, most)) row (Some n) e c = go (nat_lt n most
 -- one row further in the list that is gone over
 pub choice_next : (points : PayloadParams → Option ℕ) (rows : List PayloadParams) (i : ℕ) (row : PayloadParams) (o : Option ℕ)
     (so_far new : Option (PayloadParams × ℕ))
-    → i < length rows → row ≡ get_or rows i row → points row ≡ o → new ≡ better so_far row o
+    → i < length rows → row ≡ get_or rows i row → points row ≡ o → new ≡ better_row so_far row o
     → IsChoiceSoFar points (take i rows) so_far → IsChoiceSoFar points (take (i + 1) rows) new
 choice_next points rows i row o so_far new h e is n c = grind (arith, take_more, choice_step)

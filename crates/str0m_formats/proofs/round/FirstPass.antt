@@ -6,14 +6,14 @@ use Rattle.str0m_formats.proofs.Common.{take_more_set, drop-set-lt, length-set, 
 use Rattle.str0m_formats.proofs.Common.{set}
 use Rattle.str0m_formats.proofs.round.RoundsPasses.{EachPlace, pass_at_split, pass_each_push, pass_get_from_rest}
 use Rattle.str0m_formats.proofs.row.PayloadParamsSets.{has-append, either_set-covered, locked_types-push, locked_types-at}
-use Rattle.str0m_formats.specs.codec.Codec.{content}
+use Rattle.str0m_formats.specs.codec.Codec.{codec_content}
 use Rattle.str0m_formats.specs.declared.round.negotiation_error.NegotiationError.{NegotiationError}
 use Rattle.str0m_formats.specs.declared.row.payload_params.PayloadParams.{PayloadParams}
 use Rattle.str0m_formats.specs.round.Choices.{IsChoice, points_for}
 use Rattle.str0m_formats.specs.round.Claimed.{TypeSet, has, with_type, claimed_with_option, either_set}
 use Rattle.str0m_formats.specs.round.Narrowing.{narrowed}
 use Rattle.str0m_formats.specs.round.Rounds.{types_taken_by, placed, locked_to, then_in_round, role_type, rtx_type, red_type, only_audio}
-use Rattle.str0m_formats.specs.round.Rounds.{Becomes}
+use Rattle.str0m_formats.specs.round.Rounds.{RowBecomes}
 use Rattle.str0m_formats.specs.round.Rounds.{RoundBegun, RoundMayBegin, StopsFirstPass}
 use Rattle.str0m_formats.specs.row.PayloadParams.{AllTypesSmall, types_of, types, locked_types, open_types}
 
@@ -75,7 +75,7 @@ pub record LockedParts (taken unlocked : TypeSet) (receives : Bool) (row choice 
   pub all : record row {
     pt = pt;
     resend = resend;
-    red = only_audio (content row.spec.codec)
+    red = only_audio (codec_content row.spec.codec)
         (red_type (claimed_with_option (with_type taken pt) resend) unlocked receives choice.red row.red);
     spec = narrowed row.spec choice.spec;
     fb_transport_cc = row.fb_transport_cc && choice.fb_transport_cc;
@@ -151,7 +151,7 @@ becomes_now : (before remote : List PayloadParams) (receives : Bool) (rows : Lis
     (row : PayloadParams) (choice : Option PayloadParams) (outcome : Result PayloadParams NegotiationError)
     → FirstState before remote receives rows i claimed unlocked → IsChoice (points_for claimed receives row) remote choice
     → placed claimed unlocked receives row choice ≡ outcome
-    → Becomes (types_taken_by before (take i rows)) (has (open_types before)) remote receives row outcome
+    → RowBecomes (types_taken_by before (take i rows)) (has (open_types before)) remote receives row outcome
 becomes_now before remote receives rows i claimed unlocked row choice outcome s c p = grind arith
 
 pub first_step : (before remote : List PayloadParams) (receives : Bool) (rows : List PayloadParams) (i : ℕ)
@@ -166,11 +166,11 @@ first_step before remote receives rows i claimed unlocked claimed' unlocked' row
     let front : take i rows ++ new ∷ [] ≡ take (i + 1) (set rows i new) = sym (take_more_set rows i new h) in
     let now = becomes_now before remote receives rows i claimed unlocked row choice (Ok new) s c p in
     let Next : ℕ → Type 0 = λ n. slice_get before n ≡ Some row in
-    let each = pass_each_push (λ d r n. Becomes (types_taken_by before d) (has (open_types before)) remote receives r (Ok n)) before
+    let each = pass_each_push (λ d r n. RowBecomes (types_taken_by before d) (has (open_types before)) remote receives r (Ok n)) before
     (take i rows) row
     new s.begun.each (subst Next (sym there) at_row) now in
     let Front : List PayloadParams → Type 0 =
-    λ d. EachPlace (λ d r n. Becomes (types_taken_by before d) (has (open_types before)) remote receives r (Ok n)) before d in
+    λ d. EachPlace (λ d r n. RowBecomes (types_taken_by before d) (has (open_types before)) remote receives r (Ok n)) before d in
     record {
       begun = record {
         within = omega (arith, ap length front, length_push (take i rows) new, there, s.whole);

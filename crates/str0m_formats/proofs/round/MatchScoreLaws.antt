@@ -84,8 +84,8 @@ score_flips a b =
 amr_wb_itself : (a : CodecSpec) → a.codec ≡ AmrWb → score a a ≡ amr_wb_score a a
 amr_wb_itself a e = (score_rules a a).alike (λ _. e) refl refl ∙ (λ i. codec_score (e i) a a)
 
-aligned : (a : Option Bool) → same_flag a a ≡ true
-aligned a = bool_eq_equiv.refl (unwrap_or a false)
+score_alignment_itself : (a : Option Bool) → same_flag a a ≡ true
+score_alignment_itself a = bool_eq_equiv.refl (unwrap_or a false)
 
 mono_itself : (a : CodecSpec) → unwrap_or a.channels 1 ≡ 1 → amr_wb_score a a ≡ mode_score a.format.mode_set a.format.mode_set
 mono_itself a one = grind arith

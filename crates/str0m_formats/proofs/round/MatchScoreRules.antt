@@ -1,7 +1,7 @@
 -- The rules of the score, from the function.
 use Rattle.str0m_formats.proofs.Common.{arith, ◌≡◌, ◌≢◌, ◌==◌, ◌⊎◌, inl, inr, ℕ, Bool, false, Option, None, refl, ap, ◌∙◌, Decides}
 use Rattle.str0m_formats.proofs.Common.{unsigned_Decides, and-false, if◌then◌else◌}
-use Rattle.str0m_formats.proofs.format.FormatParamsEqual.{options_decided, codec_Decides, spec_Decides, fails}
+use Rattle.str0m_formats.proofs.format.FormatParamsEqual.{options_decided, codec_Decides, spec_Decides, equality_fails}
 use Rattle.str0m_formats.specs.declared.codec.Codec.{Codec}
 use Rattle.str0m_formats.specs.declared.codec.Codec.TheVariants.{AmrWb, Tele, Unknown}
 use Rattle.str0m_formats.specs.declared.codec.codec_spec.CodecSpec.{CodecSpec}
@@ -22,13 +22,13 @@ of_channels c a b e t m = grind arith
 
 module _ (a b : CodecSpec) where
   specs_differ : (a ≡ b → ⊥) → same_spec a b ≡ false
-  specs_differ n = fails (same_spec a b) (spec_Decides a b) n
+  specs_differ n = equality_fails (same_spec a b) (spec_Decides a b) n
 
   not_same_codec : (a.codec ≡ b.codec → ⊥) → same_codec a.codec b.codec ≡ false
-  not_same_codec n = fails (same_codec a.codec b.codec) (codec_Decides a.codec b.codec) n
+  not_same_codec n = equality_fails (same_codec a.codec b.codec) (codec_Decides a.codec b.codec) n
 
   not_amr_wb : (a.codec ≡ AmrWb → ⊥) → same_codec a.codec AmrWb ≡ false
-  not_amr_wb n = fails (same_codec a.codec AmrWb) (codec_Decides a.codec AmrWb) n
+  not_amr_wb n = equality_fails (same_codec a.codec AmrWb) (codec_Decides a.codec AmrWb) n
 
   -- a codec's own score, where the specs aren't equal or the codec is AMR-WB
   codec_own_score : (a ≡ b → a.codec ≡ AmrWb) → a.codec ≡ b.codec → a.clock_rate ≡ b.clock_rate → score a b ≡ codec_score a.codec a b
@@ -48,10 +48,11 @@ module _ (a b : CodecSpec) where
     codecs_differ = λ n. let s = specs_differ (λ e. n (ap (λ (x : CodecSpec). x.codec) e)) in let c = not_same_codec n in rw (s, c) refl;
     unknown = λ n u. let s = specs_differ n in let own = score_of_unknown a.codec a b u in rw (s, own) (nothing_both _);
     clock_rates_differ = λ n. let s = specs_differ (λ e. n (ap (λ (x : CodecSpec). x.clock_rate) e)) in
-        let r = fails (a.clock_rate == b.clock_rate) (unsigned_Decides a.clock_rate b.clock_rate) n in
+        let r = equality_fails (a.clock_rate == b.clock_rate) (unsigned_Decides a.clock_rate b.clock_rate) n in
         rw (s, r, and-false) refl;
     channels_differ = λ n t m. let s = specs_differ (λ e. n (ap (λ (x : CodecSpec). x.channels) e)) in
-        let own = of_channels a.codec a b (fails (same_number a.channels b.channels) (options_decided a.channels b.channels) n) t m in
+        let own = of_channels a.codec a b (equality_fails (same_number a.channels b.channels) (options_decided a.channels b.channels) n) t m
+        in
         rw (s, own) (nothing_both _);
     alike = codec_own_score;
   }

@@ -86,23 +86,24 @@ length-types (r ∷ rows) = omega (arith, length-append (types_of r) (types rows
 -- ---- why a row can't be done
 
 -- no type is free, or the remote demands one that is taken
-abbrev pub Demands : Bool → NegotiationError → Type 0
-Demands receives cause = (t : ℕ) × (receives ≡ true) × (cause ≡ ClaimedTwice t)
+abbrev pub RoundDemands : Bool → NegotiationError → Type 0
+RoundDemands receives cause = (t : ℕ) × (receives ≡ true) × (cause ≡ ClaimedTwice t)
 
-abbrev Fails : TypeSet → TypeSet → Bool → NegotiationError → Type 0
-Fails taken unlocked receives cause = (free (either_set taken unlocked) ≡ None) ⊎ Demands receives cause
+abbrev RoundFails : TypeSet → TypeSet → Bool → NegotiationError → Type 0
+RoundFails taken unlocked receives cause = (free (either_set taken unlocked) ≡ None) ⊎ RoundDemands receives cause
 
 -- so it is beside what is taken and at most two types more
 abbrev RowFails : TypeSet → TypeSet → Bool → NegotiationError → Type 0
-RowFails taken unlocked receives cause = (more : List ℕ) × (length more ≤ 2) × Fails (either_set taken (has more)) unlocked receives cause
+RowFails taken unlocked receives cause = (more : List ℕ) × (length more ≤ 2)
+    × RoundFails (either_set taken (has more)) unlocked receives cause
 
 none-fails : (taken unlocked : TypeSet) (receives : Bool)
-    → IfErr (ok_or (free (either_set taken unlocked)) Exhausted) (Fails taken unlocked receives)
+    → IfErr (ok_or (free (either_set taken unlocked)) Exhausted) (RoundFails taken unlocked receives)
 none-fails taken unlocked receives = grind arith
 
 fails_beside : {A : Type 0} (r : Result A NegotiationError) (taken set unlocked : TypeSet) (receives : Bool) (more : List ℕ)
     → set ≡ either_set taken (has more) → length more ≤ 2
-    → IfErr r (Fails set unlocked receives) → IfErr r (RowFails taken unlocked receives)
+    → IfErr r (RoundFails set unlocked receives) → IfErr r (RowFails taken unlocked receives)
 fails_beside r taken set unlocked receives more is few = grind arith
 
 either_types_no_more : (taken : TypeSet) → taken ≡ either_set taken (has [])
@@ -111,16 +112,16 @@ either_types_no_more taken = fun_ext (λ t. sym (or-false (taken t)))
 -- ---- the first pass
 
 role-fails : (taken unlocked : TypeSet) (receives : Bool) (asked : ℕ) (own : Option ℕ)
-    → IfErr (role_type taken unlocked receives asked own) (Fails taken unlocked receives)
+    → IfErr (role_type taken unlocked receives asked own) (RoundFails taken unlocked receives)
 role-fails taken unlocked receives asked own =
-    role_cases (λ r. IfErr r (Fails taken unlocked receives)) taken unlocked receives asked own (λ e. tt) (λ is. inr (asked, is, refl))
+    role_cases (λ r. IfErr r (RoundFails taken unlocked receives)) taken unlocked receives asked own (λ e. tt) (λ is. inr (asked, is, refl))
     (kept own) (none-fails taken unlocked receives) where
       kept : (o : Option ℕ) → IfSome o (λ t. taken t ≡ false → Unit {0})
       kept None = tt
       kept (Some t) = λ e. tt
 
 rtx-fails : (taken unlocked : TypeSet) (receives : Bool) (asked own : Option ℕ)
-    → IfErr (rtx_type taken unlocked receives asked own) (Fails taken unlocked receives)
+    → IfErr (rtx_type taken unlocked receives asked own) (RoundFails taken unlocked receives)
 unfolding rtx_type
 rtx-fails taken unlocked receives asked own = grind (arith, then_err, role-fails)
 
@@ -150,7 +151,7 @@ free_beside held more others room e =
 
 -- with at most fourteen rows no row lacks a type in the first pass
 first_demands : (before remote : List PayloadParams) (receives : Bool) (cause : NegotiationError) → length before ≤ 14
-    → StopsFirstPass before remote receives cause → Demands receives cause
+    → StopsFirstPass before remote receives cause → RoundDemands receives cause
 first_demands before remote receives cause few s = go
     (IfErr-at_err (RowFails taken unlocked receives) s.stops.placed_so (placed-fails taken unlocked receives s.row s.stops.choice)) where
       taken : TypeSet
@@ -159,7 +160,7 @@ first_demands before remote receives cause few s = go
       unlocked : TypeSet
       unlocked = has (open_types before)
 
-      go : RowFails taken unlocked receives cause → Demands receives cause
+      go : RowFails taken unlocked receives cause → RoundDemands receives cause
       go (more, short, inr demands) = demands
       go (more, short, inl full) =
           absurd (free_beside (locked_types before ++ locked_types s.done) more (open_types before)
@@ -206,11 +207,11 @@ second_room (m ∷ mid) (d ∷ done) row same next is_open =
           omega (arith, rec, l, o, length-append (types_of d) (open_types done), length-types_of d)
 
 line_without_event_ranges-fails : (locked taken unlocked : TypeSet) (receives : Bool) (t : ℕ)
-    → IfErr (ok_or (kept_or_free locked taken unlocked t) Exhausted) (Fails taken unlocked receives)
+    → IfErr (ok_or (kept_or_free locked taken unlocked t) Exhausted) (RoundFails taken unlocked receives)
 line_without_event_ranges-fails locked taken unlocked receives t = grind arith
 
 kept_rtx-fails : (locked taken unlocked : TypeSet) (receives : Bool) (own : Option ℕ)
-    → IfErr (kept_rtx locked taken unlocked own) (Fails taken unlocked receives)
+    → IfErr (kept_rtx locked taken unlocked own) (RoundFails taken unlocked receives)
 kept_rtx-fails locked taken unlocked receives own = grind arith
 
 settled-fails : (locked taken unlocked : TypeSet) (receives : Bool) (row : PayloadParams)
@@ -243,7 +244,7 @@ round-stops-open locked taken unlocked row cause h = grind (arith, settled_if_lo
 
 -- with at most fourteen rows no row lacks a type in the second pass
 second_demands : (before remote : List PayloadParams) (receives : Bool) (cause : NegotiationError) → length before ≤ 14
-    → StopsSecondPass before remote receives cause → Demands receives cause
+    → StopsSecondPass before remote receives cause → RoundDemands receives cause
 second_demands before remote receives cause few s = go
     (IfErr-at_err (RowFails taken unlocked receives) s.second.stops
     (settled-fails (has (locked_types s.mid)) taken unlocked receives s.second.row)) where
@@ -253,7 +254,7 @@ second_demands before remote receives cause few s = go
       unlocked : TypeSet
       unlocked = has (open_types before)
 
-      go : RowFails taken unlocked receives cause → Demands receives cause
+      go : RowFails taken unlocked receives cause → RoundDemands receives cause
       go (more, short, inr demands) = demands
       go (more, short, inl full) =
           let is_open = round-stops-open (has (locked_types s.mid)) taken unlocked s.second.row cause s.second.stops in
@@ -276,7 +277,7 @@ second_demands before remote receives cause few s = go
 
 -- it is refused for a type that is too large, or is claimed twice before the round, or is taken and demanded
 abbrev pub FewRefused : List PayloadParams → List PayloadParams → Bool → NegotiationError → Type 0
-FewRefused before remote receives cause = HasLarge before remote cause ⊎ (HasRepeat before remote cause ⊎ Demands receives cause)
+FewRefused before remote receives cause = HasLarge before remote cause ⊎ (HasRepeat before remote cause ⊎ RoundDemands receives cause)
 
 pub few_refused : (before remote : List PayloadParams) (receives : Bool) (cause : NegotiationError) → length before ≤ 14
     → Refused before remote receives cause → FewRefused before remote receives cause

@@ -14,7 +14,7 @@ use Rattle.str0m_formats.proofs.round.RoundsWhole.{row_before}
 use Rattle.str0m_formats.proofs.round.SettlingPass.{settled-locked, settled-same, settled_parts}
 use Rattle.str0m_formats.proofs.round.SettlingRows.{row-apart}
 use Rattle.str0m_formats.proofs.row.PayloadParamsSets.{has-append}
-use Rattle.str0m_formats.specs.codec.Codec.{Content, audio, content}
+use Rattle.str0m_formats.specs.codec.Codec.{CodecContent, audio, codec_content}
 use Rattle.str0m_formats.specs.declared.row.payload_params.PayloadParams.{PayloadParams}
 use Rattle.str0m_formats.specs.round.Claimed.{TypeSet, has, with_type, claimed_with_option, either_set, free, type_times, AllTypesDistinct}
 use Rattle.str0m_formats.specs.round.Rounds.{red_type, only_audio, locked_to, placed, types_taken_by, types_taken_after, AllRoundsBegun}
@@ -76,8 +76,8 @@ locked_to-new taken unlocked receives row choice new h =
     let pair : NewTypes taken (parts.pt ∷ option_to_list parts.resend) =
     claim_new_option taken one (parts.pt ∷ []) parts.resend primary (type-is taken parts.pt) resend in
     subst New parts.all (claim_new_option taken two (parts.pt ∷ option_to_list parts.resend) _ pair (two-are taken parts.pt parts.resend)
-    (kept two _ red (content row.spec.codec))) where
-      kept : (set : TypeSet) (o : Option ℕ) → IfSome o (IsUntaken set) → (c : Content) → IfSome (only_audio c o) (IsUntaken set)
+    (kept two _ red (codec_content row.spec.codec))) where
+      kept : (set : TypeSet) (o : Option ℕ) → IfSome o (IsUntaken set) → (c : CodecContent) → IfSome (only_audio c o) (IsUntaken set)
       kept set o f audio = f
       kept set o f _ = tt
 

@@ -10,7 +10,7 @@ use Rattle.str0m_formats.specs.declared.round.negotiation_error.NegotiationError
 use Rattle.str0m_formats.specs.declared.row.payload_params.PayloadParams.{PayloadParams}
 use Rattle.str0m_formats.specs.round.Choices.{IsChoice}
 use Rattle.str0m_formats.specs.round.Claimed.{TypeSet, has, type_times, AllTypesDistinct}
-use Rattle.str0m_formats.specs.round.Rounds.{types_taken_by, types_taken_after, settled_row, Becomes, RoundMayBegin, AllRoundsBegun}
+use Rattle.str0m_formats.specs.round.Rounds.{types_taken_by, types_taken_after, settled_row, RowBecomes, RoundMayBegin, AllRoundsBegun}
 use Rattle.str0m_formats.specs.round.Rounds.{Settled, StopsFirstPass}
 use Rattle.str0m_formats.specs.round.Rounds.{StopsSettling, StopsSecondPass, RoundLeaves, IsFirstRepeat, RoundLeavesOnly, RefusedOnly}
 use Rattle.str0m_formats.specs.round.Rounds.{Refused}
@@ -64,8 +64,8 @@ choice_unique points rows (Some a) (Some b) ha hb = go (split_order ha.before hb
         absurd (omega (arith, less, most))
 
 becomes_unique : (taken unlocked : TypeSet) (remote : List PayloadParams) (receives : Bool) (row : PayloadParams)
-    (x y : Result PayloadParams NegotiationError) → Becomes taken unlocked remote receives row x
-    → Becomes taken unlocked remote receives row y → x ≡ y
+    (x y : Result PayloadParams NegotiationError) → RowBecomes taken unlocked remote receives row x
+    → RowBecomes taken unlocked remote receives row y → x ≡ y
 becomes_unique taken unlocked remote receives row x y hx hy = grind (arith, choice_unique)
 
 -- ---- one end of a pass
@@ -126,7 +126,7 @@ stops_unique {A} O one rows xs ys r s c e ex lx nx sx ey ly ny sy = go (cases_or
 abbrev FirstPassOutcome : List PayloadParams → List PayloadParams → Bool → List PayloadParams → PayloadParams
     → Result PayloadParams NegotiationError
     → Type 0
-FirstPassOutcome before remote receives d r x = Becomes (types_taken_by before d) (has (open_types before)) remote receives r x
+FirstPassOutcome before remote receives d r x = RowBecomes (types_taken_by before d) (has (open_types before)) remote receives r x
 
 first_pass_one : (before remote : List PayloadParams) (receives : Bool) (d : List PayloadParams) (r : PayloadParams)
     (x y : Result PayloadParams NegotiationError) → FirstPassOutcome before remote receives d r x

@@ -8,7 +8,7 @@ use Rattle.str0m_formats.proofs.round.RoundsRowSteps.{row_steps}
 use Rattle.str0m_formats.proofs.round.RoundsSmallTypes.{small_after}
 use Rattle.str0m_formats.proofs.round.RoundsWhole.{row_before}
 use Rattle.str0m_formats.proofs.round.SettlingPass.{settled_parts, settled-same}
-use Rattle.str0m_formats.specs.codec.Codec.{Content, content, audio, video, events, other}
+use Rattle.str0m_formats.specs.codec.Codec.{CodecContent, codec_content, audio, video, events, other}
 use Rattle.str0m_formats.specs.declared.codec.Codec.{Codec}
 use Rattle.str0m_formats.specs.declared.codec.Codec.TheVariants.{G722, AmrWb, H264, H265, H266, Tele}
 use Rattle.str0m_formats.specs.declared.codec.codec_spec.CodecSpec.{CodecSpec}
@@ -24,19 +24,19 @@ use Rattle.str0m_formats.specs.row.PlainRowBounds.{AreModes, IsDistance, IsBound
 -- ---- a plain row is one of small types, a plain spec, and feedback and RED that go with what the codec carries
 
 record PlainSpec (spec : CodecSpec) : Type 0 where
-  carried : content spec.codec ≢ other
+  carried : codec_content spec.codec ≢ other
   modes : IfSome spec.format.mode_set AreModes
   distance : IfSome spec.format.sprop_max_don_diff IsDistance
   triples : HasPlainTriples spec
   g722 : spec.codec ≡ G722 → IsPlainG722 spec
-  telephone : content spec.codec ≡ events → SaysEventsAlone spec.format
-  no_maximum : content spec.codec ≢ events → spec.format.telephone_event_max ≡ None
+  telephone : codec_content spec.codec ≡ events → SaysEventsAlone spec.format
+  no_maximum : codec_content spec.codec ≢ events → spec.format.telephone_event_max ≡ None
 
 -- whatever its types are
 record PlainBeside (row : PayloadParams) : Type 0 where
   spec : PlainSpec row.spec
-  as_video : content row.spec.codec ≡ video → HasVideoFeedback row
-  redundant : row.red ≢ None → content row.spec.codec ≡ audio
+  as_video : codec_content row.spec.codec ≡ video → HasVideoFeedback row
+  redundant : row.red ≢ None → codec_content row.spec.codec ≡ audio
 
 plain_beside : (row : PayloadParams) → IsPlain row → PlainBeside row
 plain_beside row p = grind arith
@@ -83,17 +83,17 @@ codec-narrowed own chosen = grind arith
 
 -- ---- a row through both passes
 
-audio_alone : (c : Content) (red : Option ℕ) → only_audio c red ≢ None → c ≡ audio
+audio_alone : (c : CodecContent) (red : Option ℕ) → only_audio c red ≢ None → c ≡ audio
 audio_alone c red h = grind arith
 
 placed-plain : (taken unlocked : TypeSet) (receives : Bool) (row new : PayloadParams) (choice : Option PayloadParams)
     → placed taken unlocked receives row choice ≡ Ok new → IfSome choice IsBounded → PlainBeside row → PlainBeside new
 placed-plain taken unlocked receives row new None h b p = subst PlainBeside (placed-no_choice taken unlocked receives row new h) p
 placed-plain taken unlocked receives row new (Some c) h b p = go row.locked refl where
-  carries : content (narrowed row.spec c.spec).codec ≡ content row.spec.codec
-  carries = ap content (codec-narrowed row.spec c.spec)
+  carries : codec_content (narrowed row.spec c.spec).codec ≡ codec_content row.spec.codec
+  carries = ap codec_content (codec-narrowed row.spec c.spec)
 
-  as_video : content (narrowed row.spec c.spec).codec ≡ video → HasVideoFeedback row
+  as_video : codec_content (narrowed row.spec c.spec).codec ≡ video → HasVideoFeedback row
   as_video e = p.as_video (sym carries ∙ e)
 
   go : (b : Bool) → row.locked ≡ b → PlainBeside new
@@ -109,7 +109,7 @@ placed-plain taken unlocked receives row new (Some c) h b p = go row.locked refl
       subst PlainBeside (locked_parts taken unlocked receives row c new same).all (record {
         spec = spec-narrowed row.spec c.spec p.spec b.modes b.distance;
         as_video = λ e. let f = as_video e in record { nack = f.nack; pli = f.pli; fir = f.fir; remb = f.remb };
-        redundant = λ some. carries ∙ audio_alone (content row.spec.codec) _ some;
+        redundant = λ some. carries ∙ audio_alone (codec_content row.spec.codec) _ some;
       })
 
 -- a RED is kept or given where there was one

@@ -16,13 +16,13 @@ use Rattle.str0m_formats.specs.declared.round.negotiation_error.NegotiationError
 use Rattle.str0m_formats.specs.declared.row.codec_config.CodecConfig.{CodecConfig}
 use Rattle.str0m_formats.specs.declared.row.payload_params.PayloadParams.{PayloadParams}
 use Rattle.str0m_formats.specs.round.Rounds.{RoundLeaves, Refused}
-use Rattle.str0m_formats.specs.round.RoundsPromises.{Promises, Negotiates}
+use Rattle.str0m_formats.specs.round.RoundsPromises.{RoundPromises, Negotiates}
 use Rattle.str0m_formats.specs.round.RoundsRuns.{Outcome}
 
-pub promised : (before remote : List PayloadParams) (receives : Bool) (after : List PayloadParams)
+pub round_promised : (before remote : List PayloadParams) (receives : Bool) (after : List PayloadParams)
     → RoundLeaves before remote receives after
-    → Promises before remote receives after
-promised before remote receives after r =
+    → RoundPromises before remote receives after
+round_promised before remote receives after r =
     search (
       rules,
       locked_alone,
@@ -43,7 +43,17 @@ negotiated : (remote : List PayloadParams) (receives : Bool) (old new : CodecCon
     → OnErr result (new ≡ old)
     → Negotiates remote receives old new result
 negotiated remote receives old new result ok cause same err =
-    grind (arith, on_ok_weaker, round_leaves_only, refused_only, never_exhausted, only_for_memory, promised, rounds_ran_from, on_err_weaker)
+    grind (
+      arith,
+      on_ok_weaker,
+      round_leaves_only,
+      refused_only,
+      never_exhausted,
+      only_for_memory,
+      round_promised,
+      rounds_ran_from,
+      on_err_weaker,
+    )
 
 pub leaves_round : (remote : List PayloadParams) (receives : Bool) (old new : CodecConfig)
     → RoundLeaves old.params.items remote receives new.params.items → new ≡ record old { params = new.params }

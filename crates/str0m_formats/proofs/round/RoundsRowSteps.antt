@@ -7,7 +7,7 @@ use Rattle.str0m_formats.specs.declared.round.negotiation_error.NegotiationError
 use Rattle.str0m_formats.specs.declared.row.payload_params.PayloadParams.{PayloadParams}
 use Rattle.str0m_formats.specs.round.Claimed.{TypeSet, has, either_set, free}
 use Rattle.str0m_formats.specs.round.Rounds.{then_in_round, role_type, rtx_type, red_type, types_taken_by, types_taken_after, settled_row}
-use Rattle.str0m_formats.specs.round.Rounds.{kept_red, Becomes}
+use Rattle.str0m_formats.specs.round.Rounds.{kept_red, RowBecomes}
 use Rattle.str0m_formats.specs.round.Rounds.{RoundLeaves}
 use Rattle.str0m_formats.specs.row.PayloadParams.{locked_types, open_types}
 
@@ -67,7 +67,7 @@ pub record RowSteps (before remote : List PayloadParams) (receives : Bool) (mid 
     (old new : PayloadParams) : Type 0 where
   pub between : PayloadParams
   pub at_between : slice_get mid i ≡ Some between
-  pub became : Becomes (types_taken_by before (take i mid)) (has (open_types before)) remote receives old (Ok between)
+  pub became : RowBecomes (types_taken_by before (take i mid)) (has (open_types before)) remote receives old (Ok between)
   pub then_settled : settled_row (has (locked_types mid)) (types_taken_after mid (take i after)) (has (open_types before)) between ≡ Ok new
 
 pub row_steps : (before remote : List PayloadParams) (receives : Bool) (after : List PayloadParams)

@@ -6,7 +6,7 @@ use Rattle.str0m_formats.proofs.round.NarrowingTelephone.{Narrows, narrows-same,
 use Rattle.str0m_formats.proofs.round.RoundsCounting.{never_exhausted}
 use Rattle.str0m_formats.proofs.round.RoundsLocked.{locked-stays-same, locked-stays-then}
 use Rattle.str0m_formats.proofs.round.RoundsMemory.{only_for_memory}
-use Rattle.str0m_formats.proofs.round.RoundsPromised.{promised}
+use Rattle.str0m_formats.proofs.round.RoundsPromised.{round_promised}
 use Rattle.str0m_formats.proofs.round.RoundsSmallTypes.{small-append, type_bounds_kept}
 use Rattle.str0m_formats.proofs.round.RoundsWhole.{row_before}
 use Rattle.str0m_formats.specs.declared.round.negotiation_error.NegotiationError.{NegotiationError}
@@ -15,7 +15,7 @@ use Rattle.str0m_formats.specs.declared.round.rounds.Round.{Round}
 use Rattle.str0m_formats.specs.declared.row.payload_params.PayloadParams.{PayloadParams}
 use Rattle.str0m_formats.specs.round.Claimed.{AllTypesDistinct}
 use Rattle.str0m_formats.specs.round.Rounds.{RoundLeaves}
-use Rattle.str0m_formats.specs.round.RoundsPromises.{AtEachRow, StaysLocked, Promises, RunFailsOnlyForMemory, RunPromises}
+use Rattle.str0m_formats.specs.round.RoundsPromises.{AtEachRow, StaysLocked, RoundPromises, RunFailsOnlyForMemory, RunPromises}
 use Rattle.str0m_formats.specs.round.RoundsRuns.{Outcome, Ran, RunReached, AtEachOk}
 use Rattle.str0m_formats.specs.row.PayloadParams.{AllTypesSmall, types, locked_types}
 use Rattle.str0m_formats.specs.row.PlainRow.{IsPlain}
@@ -30,11 +30,12 @@ unchanged before remote dir cause after ran = grind arith
 
 -- each accepted round of a list keeps its promises
 pub promised_each : (before : List PayloadParams) (rounds : List Round) (outcomes : List Outcome) (after : List PayloadParams)
-    → RunReached before rounds outcomes after → AtEachOk Promises before rounds outcomes after
+    → RunReached before rounds outcomes after → AtEachOk RoundPromises before rounds outcomes after
 promised_each before [] [] after h = h
 promised_each before [] (o ∷ outcomes) after h = h
 promised_each before (round ∷ rounds) [] after h = h
-promised_each before (round ∷ rounds) (Ok done ∷ outcomes) after h = search (rules, promised, promised_each h.0 rounds outcomes after h.2)
+promised_each before (round ∷ rounds) (Ok done ∷ outcomes) after h = search
+    (rules, round_promised, promised_each h.0 rounds outcomes after h.2)
 promised_each before (round ∷ rounds) (Err cause ∷ outcomes) after h = grind (arith, unchanged, promised_each h.0 rounds outcomes after h.2)
 
 -- what holds of no rounds and of each accepted one that brings what it may, and goes on from one to the next, holds over a list of them
@@ -42,13 +43,13 @@ runs_along : (Holds : List PayloadParams → List PayloadParams → Type 0) (May
     → ((rows : List PayloadParams) → Holds rows rows)
     → ((a b c : List PayloadParams) → Holds a b → Holds b c → Holds a c)
     → ((a : List PayloadParams) (round : Round) (b : List PayloadParams) → May round
-    → Promises a round.remote.items (receives round.direction) b → Holds a b)
+    → RoundPromises a round.remote.items (receives round.direction) b → Holds a b)
     → (before : List PayloadParams) (rounds : List Round) (outcomes : List Outcome) (after : List PayloadParams)
     → RunReached before rounds outcomes after → All May rounds → Holds before after
 runs_along Holds May same next one before rounds outcomes after reached = go before rounds outcomes after
     (promised_each before rounds outcomes after reached) where
       go : (rows : List PayloadParams) (rounds : List Round) (outcomes : List Outcome) (end : List PayloadParams)
-          → AtEachOk Promises rows rounds outcomes end → All May rounds → Holds rows end
+          → AtEachOk RoundPromises rows rounds outcomes end → All May rounds → Holds rows end
       go rows [] [] end h may = subst (Holds rows) (sym h) (same rows)
       go rows [] (o ∷ outcomes) end h may = absurd h
       go rows (round ∷ rounds) [] end h may = absurd h
@@ -58,8 +59,8 @@ runs_along Holds May same next one before rounds outcomes after reached = go bef
       go rows (round ∷ rounds) (Err cause ∷ outcomes) end h may = go rows rounds outcomes end h (All-tail May round rounds may)
 
 -- whatever a round brings
-abbrev Whatever : Round → Type 0
-Whatever round = Unit {0}
+abbrev WhateverRan : Round → Type 0
+WhateverRan round = Unit {0}
 
 -- ---- what holds at each place
 
@@ -107,7 +108,7 @@ run_as_few before remote dir after r few = omega (arith, few, r.whole, r.first.w
 pub run_never_exhausted : (before : List PayloadParams) (rounds : List Round) (outcomes : List Outcome) (after : List PayloadParams)
     → RunReached before rounds outcomes after → length before ≤ 14 → All (λ outcome. outcome ≢ Err Exhausted) outcomes
 run_never_exhausted before rounds outcomes after h few =
-    each_outcome (λ rows. length rows ≤ 14) Whatever (λ outcome. outcome ≢ Err Exhausted) not_exhausted
+    each_outcome (λ rows. length rows ≤ 14) WhateverRan (λ outcome. outcome ≢ Err Exhausted) not_exhausted
     (λ now round next r. run_as_few now round.remote.items (receives round.direction) next r) before rounds outcomes after h few
     (λ k d lt. tt)
   where
@@ -162,14 +163,16 @@ run_promised before rounds outcomes after r = record {
   where
     over : (Holds : List PayloadParams → List PayloadParams → Type 0) → ((rows : List PayloadParams) → Holds rows rows)
         → ((a b c : List PayloadParams) → Holds a b → Holds b c → Holds a c)
-        → ((a : List PayloadParams) (round : Round) (b : List PayloadParams) → Promises a round.remote.items (receives round.direction) b
+        → ((a : List PayloadParams) (round : Round) (b : List PayloadParams)
+        → RoundPromises a round.remote.items (receives round.direction) b
         → Holds a b) → Holds before after
-    over Holds same next one = runs_along Holds Whatever same next (λ a round b _. one a round b) before rounds outcomes after r
+    over Holds same next one = runs_along Holds WhateverRan same next (λ a round b _. one a round b) before rounds outcomes after r
         (λ k d lt. tt)
 
     in_places : (holds : PayloadParams → PayloadParams → Type 0) → ((row : PayloadParams) → holds row row)
         → ((a b c : PayloadParams) → holds a b → holds b c → holds a c)
-        → ((a : List PayloadParams) (round : Round) (b : List PayloadParams) → Promises a round.remote.items (receives round.direction) b
+        → ((a : List PayloadParams) (round : Round) (b : List PayloadParams)
+        → RoundPromises a round.remote.items (receives round.direction) b
         → AtEachRow holds a b) → AtEachRow holds before after
     in_places holds same next one = (over (InPlace holds) (in_place-same holds same) (in_place-next holds next)
         (λ a round b p. (p.rows, one a round b p))).1

@@ -10,7 +10,7 @@ use Rattle.str0m_formats.proofs.round.RoundsInvariants.{locked_once}
 use Rattle.str0m_formats.proofs.round.RoundsRowSteps.{row_steps, role-given, rtx-given, red-given, line_without_event_ranges-given}
 use Rattle.str0m_formats.proofs.round.RoundsWhole.{row_before}
 use Rattle.str0m_formats.proofs.round.SettlingPass.{settled_parts, new_red, new_resend, with_red, settled-same}
-use Rattle.str0m_formats.specs.codec.Codec.{Content, content}
+use Rattle.str0m_formats.specs.codec.Codec.{CodecContent, codec_content}
 use Rattle.str0m_formats.specs.declared.row.payload_params.PayloadParams.{PayloadParams}
 use Rattle.str0m_formats.specs.round.Choices.{points_for}
 use Rattle.str0m_formats.specs.round.Claimed.{TypeSet, with_type, claimed_with_option, either_set, free, AllTypesDistinct}
@@ -49,12 +49,12 @@ free-fits : (taken unlocked : TypeSet) (t : ℕ) → free (either_set taken unlo
 free-fits taken unlocked t e = ap (λ b. cond {A = Option ℕ} b (Some t) None) (le-ltb 127 t (free-small (either_set taken unlocked) t e).0)
 
 -- whether it is in a set or not
-anyway : (set : TypeSet) (o : Option ℕ) → IfSome o Small → IfSome o (λ t. set t ≡ false → Small t)
-anyway set o h = grind arith
+type_small_anyway : (set : TypeSet) (o : Option ℕ) → IfSome o Small → IfSome o (λ t. set t ≡ false → Small t)
+type_small_anyway set o h = grind arith
 
 -- ---- the first pass
 
-audio-small : (c : Content) (o : Option ℕ) → IfSome o Small → IfSome (only_audio c o) Small
+audio-small : (c : CodecContent) (o : Option ℕ) → IfSome o Small → IfSome (only_audio c o) Small
 audio-small c o h = grind arith
 
 placed-small : (taken unlocked : TypeSet) (receives : Bool) (row new : PayloadParams) (choice : Option PayloadParams)
@@ -72,14 +72,14 @@ placed-small taken unlocked receives row new (Some c) h s k = go row.locked refl
       let two = claimed_with_option one parts.resend in
       let red = red_type two unlocked receives c.red row.red in
       ap (λ r. find (nat_lt 127) (types_of r)) (sym parts.all)
-      ∙ of_roles parts.pt parts.resend (only_audio (content row.spec.codec) red)
+      ∙ of_roles parts.pt parts.resend (only_audio (codec_content row.spec.codec) red)
       (IfOk-at_ok Small parts.pt_is
       (role-given Small taken unlocked (free-fits taken unlocked) receives c.pt (Some row.pt) (λ _. asked.0) (λ _. own.0)))
       (IfOk-at_ok (λ o. IfSome o Small) parts.resend_is
-      (rtx-given Small one unlocked (free-fits one unlocked) receives c.resend row.resend (anyway one c.resend asked.1)
-      (anyway one row.resend own.1)))
-      (audio-small (content row.spec.codec) red
-      (red-given Small two unlocked (free-fits two unlocked) receives c.red row.red (anyway two c.red asked.2)))
+      (rtx-given Small one unlocked (free-fits one unlocked) receives c.resend row.resend (type_small_anyway one c.resend asked.1)
+      (type_small_anyway one row.resend own.1)))
+      (audio-small (codec_content row.spec.codec) red
+      (red-given Small two unlocked (free-fits two unlocked) receives c.red row.red (type_small_anyway two c.red asked.2)))
 
 -- ---- the second pass
 
@@ -98,8 +98,9 @@ settled-small locked taken unlocked row new h s = go row.locked refl where
       ∙ of_roles parts.pt (new_resend locked taken unlocked row parts.pt) (new_red locked taken unlocked row parts.pt)
       (subst Fits parts.pt_is (line_without_event_ranges-given Small taken unlocked (free-fits taken unlocked) locked (Some row.pt)
       (λ _. own.0)))
-      (line_without_event_ranges-given Small two unlocked (free-fits two unlocked) locked row.resend (anyway locked row.resend own.1))
-      (line_without_event_ranges-given Small one unlocked (free-fits one unlocked) locked row.red (anyway locked row.red own.2))
+      (line_without_event_ranges-given Small two unlocked (free-fits two unlocked) locked row.resend
+      (type_small_anyway locked row.resend own.1))
+      (line_without_event_ranges-given Small one unlocked (free-fits one unlocked) locked row.red (type_small_anyway locked row.red own.2))
 
 -- ---- a round
 

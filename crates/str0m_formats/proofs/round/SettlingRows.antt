@@ -47,9 +47,9 @@ type_times-roles : (p : ℕ) (x r : Option ℕ) (t : ℕ) → type_times (p ∷ 
     + type_times (option_to_list x) t + type_times (option_to_list r) t
 type_times-roles p x r t = grind arith
 
-wider : (taken unlocked : TypeSet) (o : Option ℕ) (t : ℕ) → either_set taken unlocked t ≡ true
+settling_wider : (taken unlocked : TypeSet) (o : Option ℕ) (t : ℕ) → either_set taken unlocked t ≡ true
     → either_set (claimed_with_option taken o) unlocked t ≡ true
-wider taken unlocked o t h = grind arith
+settling_wider taken unlocked o t h = grind arith
 
 -- ---- a row, role by role
 
@@ -64,8 +64,8 @@ type_times-settled locked taken unlocked row new parts t = grind arith
 pub row-held : (locked taken unlocked : TypeSet) (row new : PayloadParams) → SettledParts locked taken unlocked row new → (t : ℕ)
     → either_set taken unlocked t ≡ true → type_times (types_of new) t ≤ type_times (types_of row) t
 row-held locked taken unlocked row new parts t h =
-    let h1 = wider taken unlocked (Some parts.pt) t h in
-    let h2 = wider (with_type taken parts.pt) unlocked (new_red locked taken unlocked row parts.pt) t h1 in
+    let h1 = settling_wider taken unlocked (Some parts.pt) t h in
+    let h2 = settling_wider (with_type taken parts.pt) unlocked (new_red locked taken unlocked row parts.pt) t h1 in
     let Held : Option ℕ → Type 0 = λ o. type_times (option_to_list o) t ≤ type_times (row.pt ∷ []) t in
     let primary : type_times (parts.pt ∷ []) t ≤ type_times (row.pt ∷ []) t =
     subst Held parts.pt_is (line_without_event_ranges-held locked taken unlocked (Some row.pt) t h) in
@@ -83,8 +83,8 @@ pub row-apart : (locked taken unlocked : TypeSet) (row new : PayloadParams) → 
     → locked t ≡ true → taken t ≡ true → type_times (types_of new) t ≡ 0
 row-apart locked taken unlocked row new parts t l k =
     let h = or_left (taken t) (unlocked t) k in
-    let h1 = wider taken unlocked (Some parts.pt) t h in
-    let h2 = wider (with_type taken parts.pt) unlocked (new_red locked taken unlocked row parts.pt) t h1 in
+    let h1 = settling_wider taken unlocked (Some parts.pt) t h in
+    let h2 = settling_wider (with_type taken parts.pt) unlocked (new_red locked taken unlocked row parts.pt) t h1 in
     let primary : type_times (parts.pt ∷ []) t ≡ 0 = ap (λ o. type_times (option_to_list o) t) (sym parts.pt_is)
     ∙ line_without_event_ranges-apart locked taken unlocked (Some row.pt) t l h in
     omega (
@@ -135,7 +135,7 @@ row-once locked taken unlocked row new parts t none = primary (cases_Bool (eithe
   primary : (either_set (with_type taken parts.pt) unlocked t ≡ true) ⊎ (either_set (with_type taken parts.pt) unlocked t ≡ false)
       → type_times (types_of new) t ≤ 1
   primary (inl h) =
-      let no_rtx = no_resend (wider (with_type taken parts.pt) unlocked (new_red locked taken unlocked row parts.pt) t h) in
+      let no_rtx = no_resend (settling_wider (with_type taken parts.pt) unlocked (new_red locked taken unlocked row parts.pt) t h) in
       omega (
         arith,
         type_times-settled locked taken unlocked row new parts t,

@@ -13,16 +13,16 @@ use Rattle.str0m_formats.specs.declared.row.codec_config.CodecConfig.{CodecConfi
 use Rattle.str0m_formats.specs.declared.row.payload_params.PayloadParams.{PayloadParams}
 use Rattle.str0m_formats.specs.round.Claimed.{has, type_times, AllTypesDistinct}
 use Rattle.str0m_formats.specs.round.MatchScore.{same_codec}
-use Rattle.str0m_formats.specs.row.DefaultRows.{default_rows, except, enabled_rows, IsDefault, AreDefault, Enables}
+use Rattle.str0m_formats.specs.row.DefaultRows.{default_rows, rows_except, enabled_rows, IsDefault, AreDefault, Enables}
 use Rattle.str0m_formats.specs.row.PayloadParams.{types_of, types}
 
 -- the whole table, with its REDs
-abbrev table : List PayloadParams
-table = flat_map (λ codec. default_rows codec true) NAMED
+abbrev default_table : List PayloadParams
+default_table = flat_map (λ codec. default_rows codec true) NAMED
 
 -- the payload type of the row that a type stands in
 abbrev default_owner : ℕ → ℕ
-default_owner t = unwrap_or (option_map (λ row. row.pt) (find (λ row. has (types_of row) t) table)) 0
+default_owner t = unwrap_or (option_map (λ row. row.pt) (find (λ row. has (types_of row) t) default_table)) 0
 
 -- whether a payload type is that of a row of the codec
 abbrev is_codec : Codec → Option PayloadParams → Bool
@@ -30,7 +30,7 @@ is_codec codec None = false
 is_codec codec (Some row) = same_codec row.spec.codec codec
 
 abbrev default_at : ℕ → Option PayloadParams
-default_at t = find (λ row. row.pt == t) table
+default_at t = find (λ row. row.pt == t) default_table
 
 -- what the table shows of a row: its type is the codec's, each type of it is its own, and stands there once
 abbrev KnownDefault : PayloadParams → Type 0
@@ -44,13 +44,13 @@ is_known_default row = is_codec row.spec.codec (default_at row.pt)
 default_rows_known : (codec : Codec) (use_red : Bool) → list_all is_known_default (default_rows codec use_red) ≡ true
 default_rows_known codec use_red = grind arith
 
-abbrev primaries : List PayloadParams → List ℕ
-primaries rows = map (λ row. row.pt) rows
+abbrev default_primaries : List PayloadParams → List ℕ
+default_primaries rows = map (λ row. row.pt) rows
 
 -- the payload types of the rows of a codec are those of the codec, and differ
 once_new : (codec : Codec) (use_red : Bool)
-    → (list_all (λ t. is_codec codec (default_at t)) (primaries (default_rows codec use_red)) ≡ true)
-    × (all_claimed_apart (primaries (default_rows codec use_red)) ≡ true)
+    → (list_all (λ t. is_codec codec (default_at t)) (default_primaries (default_rows codec use_red)) ≡ true)
+    × (all_claimed_apart (default_primaries (default_rows codec use_red)) ≡ true)
 once_new codec use_red = grind arith
 
 rows_known : (rows : List PayloadParams) → list_all is_known_default rows ≡ true → AllByRecursion KnownDefault rows
@@ -68,14 +68,14 @@ default_all_known rows d = recursion_from_All KnownDefault rows (All-weaker IsDe
 
 -- a type stands among the types of the rows no more often than the row that owns it among the rows
 owned_once : (rows : List PayloadParams) → AllByRecursion KnownDefault rows → (t : ℕ)
-    → type_times (types rows) t ≤ type_times (primaries rows) (default_owner t)
+    → type_times (types rows) t ≤ type_times (default_primaries rows) (default_owner t)
 owned_once [] k t = omega arith
 owned_once (row ∷ rows) k t =
     omega (
       arith,
       type_times-append (types_of row) (types rows) t,
       once_within (λ u. row.pt == default_owner u) (types_of row) k.0.1 k.0.2 t,
-      type_times-cons row.pt (primaries rows) (default_owner t),
+      type_times-cons row.pt (default_primaries rows) (default_owner t),
       owned_once rows k.1 t,
     )
 
@@ -89,7 +89,8 @@ default_distinct rows d t =
 
 -- no row of the codec is left among the others
 others_once : (codec : Codec) (rows : List PayloadParams) → AllByRecursion KnownDefault rows → (t : ℕ)
-    → type_times (primaries (except codec rows)) t ≤ cond {A = ℕ} (is_codec codec (default_at t)) 0 (type_times (primaries rows) t)
+    → type_times (default_primaries (rows_except codec rows)) t
+    ≤ cond {A = ℕ} (is_codec codec (default_at t)) 0 (type_times (default_primaries rows) t)
 others_once codec [] k t = omega arith
 others_once codec (row ∷ rows) k t =
     step (same_codec row.spec.codec codec) (row.pt == t) (is_codec codec (default_at t)) (λ e. of_row (eqb-true row.pt t e)) refl
@@ -103,21 +104,21 @@ others_once codec (row ∷ rows) k t =
     of_row same = sym (ap (λ u. is_codec codec (default_at u)) same) ∙ found (default_at row.pt) k.0.0
 
     step : (b h i : Bool) → (h ≡ true → i ≡ b) → (row.pt == t) ≡ h
-        → type_times (primaries (except codec rows)) t ≤ cond {A = ℕ} i 0 (type_times (primaries rows) t)
-        → type_times (primaries (cond (not b) (row ∷ except codec rows) (except codec rows))) t
-        ≤ cond {A = ℕ} i 0 (type_times (primaries (row ∷ rows)) t)
+        → type_times (default_primaries (rows_except codec rows)) t ≤ cond {A = ℕ} i 0 (type_times (default_primaries rows) t)
+        → type_times (default_primaries (cond (not b) (row ∷ rows_except codec rows) (rows_except codec rows))) t
+        ≤ cond {A = ℕ} i 0 (type_times (default_primaries (row ∷ rows)) t)
     step true h true own e l = l
-    step true h false own e l = omega (arith, type_times-cons row.pt (primaries rows) t)
+    step true h false own e l = omega (arith, type_times-cons row.pt (default_primaries rows) t)
     step false true true own e l = absurd (true≢false (own refl))
     step false false true own e l = omega (
       arith,
-      type_times-cons row.pt (primaries (except codec rows)) t,
+      type_times-cons row.pt (default_primaries (rows_except codec rows)) t,
       one_time_if (row.pt == t) false e,
     )
     step false h false own e l = omega (
       arith,
-      type_times-cons row.pt (primaries (except codec rows)) t,
-      type_times-cons row.pt (primaries rows) t,
+      type_times-cons row.pt (default_primaries (rows_except codec rows)) t,
+      type_times-cons row.pt (default_primaries rows) t,
     )
 
 new_default : (codec : Codec) (use_red : Bool) → All IsDefault (default_rows codec use_red)
@@ -130,17 +131,20 @@ once_both i a b n h k l = grind arith
 
 -- rows of the codec come last
 default_rows_put_last : (codec : Codec) (new rows : List PayloadParams) → All IsDefault new
-    → ((t : ℕ) → type_times (primaries new) t ≤ cond {A = ℕ} (is_codec codec (default_at t)) 1 0) → AreDefault rows
-    → AreDefault (except codec rows ++ new)
+    → ((t : ℕ) → type_times (default_primaries new) t ≤ cond {A = ℕ} (is_codec codec (default_at t)) 1 0) → AreDefault rows
+    → AreDefault (rows_except codec rows ++ new)
 default_rows_put_last codec new rows all once d = record {
-  each = All-append IsDefault (except codec rows) new (All-filter (λ row. not (same_codec row.spec.codec codec)) IsDefault rows d.each) all;
+  each = All-append IsDefault (rows_except codec rows) new (All-filter (λ row. not (same_codec row.spec.codec codec)) IsDefault rows d.each)
+      all;
   once = λ t.
-      let joined : type_times (primaries (except codec rows ++ new)) t ≡ type_times (primaries (except codec rows)) t
-      + type_times (primaries new) t =
-      ap (λ ts. type_times ts t) (map-append (λ row. row.pt) (except codec rows) new)
-      ∙ type_times-append (primaries (except codec rows)) (primaries new) t in
-      let both = once_both (is_codec codec (default_at t)) (type_times (primaries (except codec rows)) t) (type_times (primaries new) t)
-      (type_times (primaries rows) t) (others_once codec rows (default_all_known rows d.each) t) (once t) (d.once t) in
+      let joined : type_times (default_primaries (rows_except codec rows ++ new)) t
+      ≡ type_times (default_primaries (rows_except codec rows)) t
+      + type_times (default_primaries new) t =
+      ap (λ ts. type_times ts t) (map-append (λ row. row.pt) (rows_except codec rows) new)
+      ∙ type_times-append (default_primaries (rows_except codec rows)) (default_primaries new) t in
+      let both = once_both (is_codec codec (default_at t)) (type_times (default_primaries (rows_except codec rows)) t)
+      (type_times (default_primaries new) t)
+      (type_times (default_primaries rows) t) (others_once codec rows (default_all_known rows d.each) t) (once t) (d.once t) in
       omega arith;
 }
 
@@ -170,6 +174,6 @@ enables codec enabled use_red old new r ok err without distances =
     search (rules, default_stay r codec enabled use_red old new ok err, default_distinct new.params.items)
 
 -- what a call answers that takes the rows of a codec out and appends others
-pub put_rows_ok : (r : Result (Unit {0}) AllocError) (codec : Codec) (old kept rows new : List PayloadParams) → kept ≡ except codec old
-    → new ≡ (if is_ok r then kept ++ rows else kept) → OnOk r (new ≡ except codec old ++ rows)
+pub put_rows_ok : (r : Result (Unit {0}) AllocError) (codec : Codec) (old kept rows new : List PayloadParams) → kept ≡ rows_except codec old
+    → new ≡ (if is_ok r then kept ++ rows else kept) → OnOk r (new ≡ rows_except codec old ++ rows)
 put_rows_ok r codec old kept rows new k e = grind arith

@@ -1,7 +1,7 @@
 -- When two rows are the same: `==` of each field but `locked` decides, and so does that of the row.
 use Rattle.str0m_formats.proofs.Common.{◌≡◌, ℕ, Bool, true, false, Option, refl, sym, ap, ◌∙◌, Decides, IsEquivalence, Decides-like}
 use Rattle.str0m_formats.proofs.Common.{one_answer, equiv}
-use Rattle.str0m_formats.proofs.format.FormatParamsDerived.{Equality, equality}
+use Rattle.str0m_formats.proofs.format.FormatParamsDerived.{EqualityTest, equality}
 use Rattle.str0m_formats.proofs.format.FormatParamsEqual.{spec}
 use Rattle.str0m_formats.specs.contracts.row.payload_params.PayloadParamsPartialEq.TheImpl as row
 use Rattle.str0m_formats.specs.declared.codec.codec_spec.CodecSpec.{CodecSpec}
@@ -29,7 +29,7 @@ open_row s = record {
   locked = false;
 }
 
-abbrev eq_seen_row : Equality SeenRow
+abbrev eq_seen_row : EqualityTest SeenRow
 eq_seen_row = hlevel (spec, equality)
 
 pub row_Decides : (a b : PayloadParams) → Decides (row.eq-value.it a b) (SameRow a b)

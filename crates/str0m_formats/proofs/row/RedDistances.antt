@@ -34,8 +34,8 @@ pub distances_kept_none : (given : List ℕ) → distances_kept_to 0 given ≡ [
 unfolding distances_kept_to
 distances_kept_none given = refl
 
-increasing : (n : ℕ) → IsStrictlyIncreasing (range_with_len 1 n)
-increasing n k l = grind (arith, length-range_with_len, get_or-range_with_len)
+distances_increasing : (n : ℕ) → IsStrictlyIncreasing (range_with_len 1 n)
+distances_increasing n k l = grind (arith, length-range_with_len, get_or-range_with_len)
 
 range_bounded : All (λ d. d ≤ 16) (range_with_len 1 16)
 range_bounded = search (rules, length-range_with_len, get_or-range_with_len)
@@ -44,7 +44,7 @@ pub kept_distances : (given : List ℕ) → AreDistances (distances_kept_to 16 g
 unfolding distances_kept_to
 kept_distances given = record {
   first = (filter (keeps_distance given) (range_with_len 2 15), refl);
-  increasing = IsStrictlyIncreasing-filter (keeps_distance given) (range_with_len 1 16) (increasing 16);
+  distances_increasing = IsStrictlyIncreasing-filter (keeps_distance given) (range_with_len 1 16) (distances_increasing 16);
   bounded = All-filter (keeps_distance given) (λ d. d ≤ 16) (range_with_len 1 16) range_bounded;
 }
 
@@ -93,5 +93,5 @@ are_distances_kept given = record {
     λ k. let p = kept_distance_passes given d k in
         (contains_kept_distance (keeps_distance given) d (range_with_len 1 16)).1 (p.0, range_has d p.1 p.2),
   );
-  increasing = IsStrictlyIncreasing-filter (keeps_distance given) (range_with_len 1 16) (increasing 16);
+  distances_increasing = IsStrictlyIncreasing-filter (keeps_distance given) (range_with_len 1 16) (distances_increasing 16);
 }

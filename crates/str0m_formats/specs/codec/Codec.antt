@@ -9,11 +9,11 @@ use Rattle.str0m_formats.specs.declared.codec.TheConstants.{NAMED}
 use Rattle.str0m_values.specs.declared.media_kind.MediaKind.TheVariants.{Audio, Video}
 
 -- what a codec carries
-pub data Content : Type 0 where
-  audio : Content
-  video : Content
-  events : Content
-  other : Content
+pub data CodecContent : Type 0 where
+  audio : CodecContent
+  video : CodecContent
+  events : CodecContent
+  other : CodecContent
 
 -- by which rule two specs of a codec fit, and what the row that is chosen changes in the other
 pub data Rule : Type 0 where
@@ -30,7 +30,7 @@ pub data Rule : Type 0 where
 -- of each codec: its name in rtpmap lines; what it carries; the payload type that stands for it without a mapping, with the rate
 -- in Hz at which it samples then (RFC 3551, section 6); its clock rate in RTP, where that is another than the sampling rate, as it
 -- is for historical reasons (RFC 3551, section 4.5.2); its rule
-abbrev pub codec_entry : Codec → List ℕ × Content × Option (ℕ × ℕ) × Option ℕ × Rule
+abbrev pub codec_entry : Codec → List ℕ × CodecContent × Option (ℕ × ℕ) × Option ℕ × Rule
 codec_entry Opus = (codes "opus", audio, None, None, by_flags)
 codec_entry PCMU = (codes "PCMU", audio, Some (0, 8000), None, by_equality)
 codec_entry PCMA = (codes "PCMA", audio, Some (8, 8000), None, by_equality)
@@ -52,8 +52,8 @@ codec_entry Unknown = (codes "unknown", other, None, None, by_equality)
 abbrev pub codec_text : Codec → List ℕ
 codec_text codec = (codec_entry codec).0
 
-abbrev pub content : Codec → Content
-content codec = (codec_entry codec).1
+abbrev pub codec_content : Codec → CodecContent
+codec_content codec = (codec_entry codec).1
 
 abbrev pub static_entry : Codec → Option (ℕ × ℕ)
 static_entry codec = (codec_entry codec).2
@@ -70,7 +70,7 @@ is_amr_wb AmrWb = true
 is_amr_wb _ = false
 
 -- the kind of the sections that it stands in
-abbrev pub media_kind : Content → MediaKind
+abbrev pub media_kind : CodecContent → MediaKind
 media_kind audio = Audio
 media_kind video = Video
 media_kind events = Audio

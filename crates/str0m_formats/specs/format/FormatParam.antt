@@ -115,15 +115,15 @@ abbrev pub ParamHoldsValue : FormatKey → List ℕ → FormatParam → Type 0
 ParamHoldsValue key text param = (x : HeldValue (kind key)) × (param ≡ keyed key x) × ReadsKind (kind key) text x
 
 -- the key and the value spell the parameter
-abbrev pub Spells : List ℕ × List ℕ → FormatParam → Type 0
-Spells pair param = (key : FormatKey) × IsSameCodecText pair.0 (key_text key) × ParamHoldsValue key pair.1 param
+abbrev pub SpellsParam : List ℕ × List ℕ → FormatParam → Type 0
+SpellsParam pair param = (key : FormatKey) × IsSameCodecText pair.0 (key_text key) × ParamHoldsValue key pair.1 param
 
 abbrev pub IsUnknownParam : {A : Type 0} → A → FormatParam → Type 0
 IsUnknownParam text param = param ≡ Unknown
 
 -- what a key and its value read as: the parameter that they spell, else Unknown
 abbrev pub IsParsed : List ℕ × List ℕ → FormatParam → Type 0
-IsParsed = FirstFit Spells IsUnknownParam
+IsParsed = FirstFit SpellsParam IsUnknownParam
 
 -- each pair, in order, reads as the parameter in its place
 abbrev pub AreParsed : List (List ℕ × List ℕ) → List FormatParam → Type 0

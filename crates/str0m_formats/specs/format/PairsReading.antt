@@ -6,7 +6,7 @@ use Rattle.str0m_formats.specs.Prelude.{num, ◌<|>◌, ◌>>=◌}
 pub use Rattle.str0m_values.specs.CutsParts.{lay}
 pub use Rattle.str0m_values.specs.H265.{h265_tables}
 pub use Rattle.str0m_values.specs.H266.{h266_tables}
-pub use Rattle.str0m_values.specs.ProfileTierLevel.{Tables}
+pub use Rattle.str0m_values.specs.ProfileTierLevel.{ProfileTables}
 use Rattle.str0m_formats.specs.Prelude.{ProfileTierLevel, value_in}
 use Rattle.str0m_formats.specs.declared.format.format_param.FormatParam.{FormatParam}
 use Rattle.str0m_formats.specs.declared.format.format_param.FormatParam.TheVariants.{H265ProfileTierLevel, H266ProfileTierLevel}
@@ -23,7 +23,7 @@ given_read default (Some text) = num 255 text
 abbrev pub table_read : {A : Type 0} → List (A × ℕ) → ℕ → Option (List ℕ) → Option A
 table_read rows default text = given_read default text >>= λ n. value_in rows n
 
-unfoldable pub read_triple : {P T L : Type 0} → Tables P T L → TripleTexts → Option (ProfileTierLevel P T L)
+unfoldable pub read_triple : {P T L : Type 0} → ProfileTables P T L → TripleTexts → Option (ProfileTierLevel P T L)
 read_triple tables texts = do
   profile ← table_read tables.profiles tables.defaults.0 texts.0
   tier ← table_read tables.tiers tables.defaults.1 texts.1

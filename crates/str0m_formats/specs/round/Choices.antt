@@ -1,7 +1,7 @@
 -- Which row of a list is chosen, and which remote row a row is matched with.
 use Rattle.std.specs.Borrow.{Bor}
 use Rattle.std.specs.Prelude.{◌≡◌, ◌==◌, ◌<◌, ◌≤◌, ℕ, Bool, true, false, ◌&&◌, not, Option, Some, None, List, [], ◌∷◌, ◌++◌, if◌then◌else◌, IfSome, All, find, nat_lt, option_map}
-use Rattle.str0m_formats.specs.codec.Codec.{Content, content, events, is_amr_wb}
+use Rattle.str0m_formats.specs.codec.Codec.{CodecContent, codec_content, events, is_amr_wb}
 use Rattle.str0m_formats.specs.declared.row.payload_params.PayloadParams.{PayloadParams}
 use Rattle.str0m_formats.specs.round.Claimed.{TypeSet}
 use Rattle.str0m_formats.specs.round.MatchScore.{score}
@@ -27,10 +27,10 @@ abbrev pub seen_best : Option (Bor PayloadParams × ℕ) → Option (PayloadPara
 seen_best so_far = option_map (λ it. (it.0.now, it.1)) so_far
 
 -- the best row so far, with its score, once one row more was seen: one of the same score takes its place
-abbrev pub better : Option (PayloadParams × ℕ) → PayloadParams → Option ℕ → Option (PayloadParams × ℕ)
-better so_far row None = so_far
-better None row (Some n) = Some (row, n)
-better (Some (best, most)) row (Some n) = if nat_lt n most then Some (best, most) else Some (row, n)
+abbrev pub better_row : Option (PayloadParams × ℕ) → PayloadParams → Option ℕ → Option (PayloadParams × ℕ)
+better_row so_far row None = so_far
+better_row None row (Some n) = Some (row, n)
+better_row (Some (best, most)) row (Some n) = if nat_lt n most then Some (best, most) else Some (row, n)
 
 -- the score of a row with another
 abbrev pub points_with : PayloadParams → PayloadParams → Option ℕ
@@ -44,12 +44,12 @@ pub record IsMatchedType (rows : List PayloadParams) (theirs : PayloadParams) (r
   pub answered : answer ≡ option_map (λ row. if receives then theirs.pt else row.pt) ours
 
 -- whether a row is of telephone events, under this payload type
-abbrev pub has_events : Content → Bool
+abbrev pub has_events : CodecContent → Bool
 has_events events = true
 has_events _ = false
 
 abbrev pub is_event_row : ℕ → PayloadParams → Bool
-is_event_row pt row = row.pt == pt && has_events (content row.spec.codec)
+is_event_row pt row = row.pt == pt && has_events (codec_content row.spec.codec)
 
 -- the highest event of the first row of telephone events under a payload type
 abbrev pub highest_event : ℕ → List PayloadParams → Option ℕ

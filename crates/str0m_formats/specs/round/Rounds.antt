@@ -1,6 +1,6 @@
 -- A round of negotiation: what it leaves, or why it is refused, read off finished lists of rows.
 use Rattle.std.specs.Prelude.{◌≡◌, ◌≤◌, ℕ, Bool, true, ◌&&◌, Option, Some, None, Result, Ok, Err, List, ◌∷◌, ◌++◌, length, take, slice_get, find, nat_lt, if◌then◌else◌, ok_or}
-use Rattle.str0m_formats.specs.codec.Codec.{Content, audio, content}
+use Rattle.str0m_formats.specs.codec.Codec.{CodecContent, audio, codec_content}
 use Rattle.str0m_formats.specs.declared.round.negotiation_error.NegotiationError.{NegotiationError}
 use Rattle.str0m_formats.specs.declared.round.negotiation_error.NegotiationError.TheVariants.{TypeTooLarge, ClaimedTwice, Exhausted}
 use Rattle.str0m_formats.specs.declared.row.payload_params.PayloadParams.{PayloadParams}
@@ -38,7 +38,7 @@ red_type taken unlocked receives (Some asked) (Some own) =
 red_type taken unlocked receives _ _ = None
 
 -- a RED goes with audio alone (RFC 2198)
-abbrev pub only_audio : Content → Option ℕ → Option ℕ
+abbrev pub only_audio : CodecContent → Option ℕ → Option ℕ
 only_audio audio red = red
 only_audio _ red = None
 
@@ -52,7 +52,7 @@ locked_to taken unlocked receives row choice =
     Ok (record row {
       pt = pt;
       resend = resend;
-      red = only_audio (content row.spec.codec) (red_type taken2 unlocked receives choice.red row.red);
+      red = only_audio (codec_content row.spec.codec) (red_type taken2 unlocked receives choice.red row.red);
       spec = narrowed row.spec choice.spec;
       fb_transport_cc = row.fb_transport_cc && choice.fb_transport_cc;
       locked = true;
@@ -65,7 +65,7 @@ placed taken unlocked receives row (Some choice) =
     if row.locked then Ok (record row { spec = narrowed row.spec choice.spec }) else locked_to taken unlocked receives row choice
 
 -- what becomes of a row in the first pass
-pub record Becomes (taken unlocked : TypeSet) (remote : List PayloadParams) (receives : Bool) (row : PayloadParams) (outcome : Result PayloadParams NegotiationError) : Type 0 where
+pub record RowBecomes (taken unlocked : TypeSet) (remote : List PayloadParams) (receives : Bool) (row : PayloadParams) (outcome : Result PayloadParams NegotiationError) : Type 0 where
   pub choice : Option PayloadParams
   pub is_choice : IsChoice (points_for taken receives row) remote choice
   pub placed_so : placed taken unlocked receives row choice ≡ outcome
@@ -78,7 +78,7 @@ types_taken_by before done = has (locked_types before ++ locked_types done)
 pub record RoundBegun (before remote : List PayloadParams) (receives : Bool) (done : List PayloadParams) : Type 0 where
   pub within : length done ≤ length before
   pub each : (i : ℕ) (row new : PayloadParams) → slice_get before i ≡ Some row → slice_get done i ≡ Some new
-      → Becomes (types_taken_by before (take i done)) (has (open_types before)) remote receives row (Ok new)
+      → RowBecomes (types_taken_by before (take i done)) (has (open_types before)) remote receives row (Ok new)
 
 -- ---- A row that stays open
 
@@ -159,7 +159,7 @@ pub record StopsFirstPass (before remote : List PayloadParams) (receives : Bool)
   pub begun : RoundBegun before remote receives done
   pub row : PayloadParams
   pub next : slice_get before (length done) ≡ Some row
-  pub stops : Becomes (types_taken_by before done) (has (open_types before)) remote receives row (Err cause)
+  pub stops : RowBecomes (types_taken_by before done) (has (open_types before)) remote receives row (Err cause)
 
 -- the first pass is done, and an open row can't be settled
 pub record StopsSecondPass (before remote : List PayloadParams) (receives : Bool) (cause : NegotiationError) : Type 0 where

@@ -74,7 +74,7 @@ LevelsNarrow = AtEachRow (λ old new. old.spec.codec ≡ H264
     → (new.spec.codec ≡ H264) × NamesNoHigher had new.spec.format.profile_level_id)
 
 -- what an accepted round promises
-pub record Promises (before remote : List PayloadParams) (receives : Bool) (after : List PayloadParams) : Type 0 where
+pub record RoundPromises (before remote : List PayloadParams) (receives : Bool) (after : List PayloadParams) : Type 0 where
   pub leaves : RoundLeaves before remote receives after
   pub rows : length after ≡ length before
   pub alone : LockedStandAlone after
@@ -107,13 +107,13 @@ pub record Negotiates (remote : List PayloadParams) (receives : Bool) (old new :
   -- where few rows with types of seven bits meet a side that demands nothing, it can only be out of memory
   pub bounded : length old.params.items ≤ 14 → KeepsRowBounds old.params.items remote → receives ≡ false → RunFailsOnlyForMemory result
   -- what holds of the rows before, the remote rows and the rows after alone
-  pub promises : OnOk result (Promises old.params.items remote receives new.params.items)
+  pub promises : OnOk result (RoundPromises old.params.items remote receives new.params.items)
   pub else_same : new ≡ record old { params = new.params }
   pub err : OnErr result (new ≡ old)
 
 -- what a run of rounds promises: at each accepted round, and from its first rows to its last
 pub record RunPromises (before : List PayloadParams) (rounds : List Round) (outcomes : List Outcome) (after : List PayloadParams) : Type 0 where
-  pub each : AtEachOk Promises before rounds outcomes after
+  pub each : AtEachOk RoundPromises before rounds outcomes after
   pub rows : length after ≡ length before
   pub stay : LockedStay before after
   pub distinct : AllTypesDistinct (types before) → AllTypesDistinct (types after)

@@ -65,12 +65,12 @@ default_rows Null _ = []
 default_rows Unknown _ = []
 
 -- the rows of all other codecs
-abbrev pub except : Codec → List PayloadParams → List PayloadParams
-except codec rows = filter (λ row. not (same_codec row.spec.codec codec)) rows
+abbrev pub rows_except : Codec → List PayloadParams → List PayloadParams
+rows_except codec rows = filter (λ row. not (same_codec row.spec.codec codec)) rows
 
 -- the rows of the codec are taken out, and its default rows come last where it is enabled
 abbrev pub enabled_rows : Codec → Bool → Bool → List PayloadParams → List PayloadParams
-enabled_rows codec enabled use_red rows = except codec rows ++ (if enabled then default_rows codec use_red else [])
+enabled_rows codec enabled use_red rows = rows_except codec rows ++ (if enabled then default_rows codec use_red else [])
 
 -- a row of the table, with or without its RED
 abbrev pub IsDefault : PayloadParams → Type 0

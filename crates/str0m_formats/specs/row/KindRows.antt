@@ -2,7 +2,7 @@
 use Rattle.std.specs.List.{list_any}
 use Rattle.std.specs.Prelude.{◌==◌, ℕ, Bool, true, false, ◌&&◌, ◌||◌, not, List, filter}
 use Rattle.str0m_formats.specs.Prelude.{MediaKind}
-use Rattle.str0m_formats.specs.codec.Codec.{Content, content, audio}
+use Rattle.str0m_formats.specs.codec.Codec.{CodecContent, codec_content, audio}
 use Rattle.str0m_formats.specs.codec.CodecSpec.{rtp_rate}
 use Rattle.str0m_formats.specs.declared.row.kind_rows.KindRows.{KindRows}
 use Rattle.str0m_formats.specs.declared.row.payload_params.PayloadParams.{PayloadParams}
@@ -10,19 +10,19 @@ use Rattle.str0m_formats.specs.round.Choices.{has_events}
 use Rattle.str0m_formats.specs.row.PayloadParams.{has_video}
 use Rattle.str0m_values.specs.declared.media_kind.MediaKind.TheVariants.{Audio, Video}
 
-abbrev pub has_audio : Content → Bool
+abbrev pub has_audio : CodecContent → Bool
 has_audio audio = true
 has_audio _ = false
 
 -- whether a row carries audio, video, telephone events
 abbrev pub is_audio : PayloadParams → Bool
-is_audio row = has_audio (content row.spec.codec)
+is_audio row = has_audio (codec_content row.spec.codec)
 
 abbrev pub is_video : PayloadParams → Bool
-is_video row = has_video (content row.spec.codec)
+is_video row = has_video (codec_content row.spec.codec)
 
 abbrev pub is_events : PayloadParams → Bool
-is_events row = has_events (content row.spec.codec)
+is_events row = has_events (codec_content row.spec.codec)
 
 -- whether the timestamps of the row count at the rate of some audio row
 abbrev pub rate_of : PayloadParams → ℕ

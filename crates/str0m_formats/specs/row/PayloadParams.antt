@@ -1,13 +1,13 @@
 -- Rows: which a call makes, when two are the same, and the payload types that they hold.
 use Rattle.std.specs.Prelude.{◌≡◌, find, nat_lt, ℕ, Bool, true, false, not, Option, None, List, ◌∷◌, ◌++◌, filter, flat_map, option_to_list}
-use Rattle.str0m_formats.specs.codec.Codec.{Content, content, video}
+use Rattle.str0m_formats.specs.codec.Codec.{CodecContent, codec_content, video}
 use Rattle.str0m_formats.specs.declared.codec.Codec.TheVariants.{Null}
 use Rattle.str0m_formats.specs.declared.codec.codec_spec.CodecSpec.{CodecSpec}
 use Rattle.str0m_formats.specs.declared.row.payload_params.PayloadParams.{PayloadParams}
 use Rattle.str0m_formats.specs.format.FormatParams.{empty}
 
 -- whether it carries video
-abbrev pub has_video : Content → Bool
+abbrev pub has_video : CodecContent → Bool
 has_video video = true
 has_video _ = false
 
@@ -19,10 +19,10 @@ new_row pt resend spec = record {
   red = None;
   spec = spec;
   fb_transport_cc = true;
-  fb_fir = has_video (content spec.codec);
-  fb_nack = has_video (content spec.codec);
-  fb_pli = has_video (content spec.codec);
-  fb_remb = has_video (content spec.codec);
+  fb_fir = has_video (codec_content spec.codec);
+  fb_nack = has_video (codec_content spec.codec);
+  fb_pli = has_video (codec_content spec.codec);
+  fb_remb = has_video (codec_content spec.codec);
   locked = false;
 }
 

@@ -87,7 +87,7 @@ fn is_flag_one(value: &str) -> bool
 }
 
 #[tactic(auto, using(crate::proofs::format::FormatParamReadingLaws::hex_is))]
-fn hex(text: &str) -> Option<u32>
+fn hex_number(text: &str) -> Option<u32>
     ensures { result ≡ number_read 16 4294967295 text.now }
 {
     hex_u32(text)
@@ -98,7 +98,7 @@ fn hex(text: &str) -> Option<u32>
 fn hex_else_decimal(text: &str) -> Option<u32>
     ensures { result ≡ hex_read text.now }
 {
-    match hex(text) {
+    match hex_number(text) {
         Some(n) => Some(n),
         None => num_u32(text),
     }
@@ -167,9 +167,9 @@ impl FormatKey {
             FormatKey::OctetAlign => Some(FormatParam::OctetAlign(is_flag_one(value))),
             FormatKey::ModeSet => Some(FormatParam::ModeSet(modes(value)?)),
             FormatKey::Apt => Some(FormatParam::Apt(Pt::new_with_value(num_u8(value, 255)?))),
-            FormatKey::Crc => unsupported(is_flag_one(value)),
-            FormatKey::RobustSorting => unsupported(is_flag_one(value)),
-            FormatKey::ModeChangePeriod => unsupported(is_key_text(value, "2")),
+            FormatKey::Crc => unsupported_param(is_flag_one(value)),
+            FormatKey::RobustSorting => unsupported_param(is_flag_one(value)),
+            FormatKey::ModeChangePeriod => unsupported_param(is_key_text(value, "2")),
             FormatKey::Interleaving => Some(FormatParam::AmrWbUnsupported),
         }
     }
@@ -210,7 +210,7 @@ impl FormatParam {
     }
 }
 
-fn unsupported(is_asked: bool) -> Option<FormatParam>
+fn unsupported_param(is_asked: bool) -> Option<FormatParam>
     ensures { result ≡ option_map (λ x. AmrWbUnsupported) (when is_asked (tt {0})) }
 {
     if is_asked {
@@ -238,7 +238,7 @@ fn parsed(key: &str, value: &str) -> FormatParam
     param(key, value)
 }
 
-fn byte(text: &str) -> Option<u8>
+fn byte_number(text: &str) -> Option<u8>
     ensures { IsTheOnly (IsNum 255 text.now) result }
 {
     num_u8(text, 255)
@@ -249,7 +249,7 @@ fn last_event(value: &str) -> Option<u8>
     ensures { IsTheOnly (IsEventRange value.now) result }
 {
     match value.strip_prefix("0-") {
-        Some(end) if !end.starts_with('+') => byte(end),
+        Some(end) if !end.starts_with('+') => byte_number(end),
         _ => None,
     }
 }

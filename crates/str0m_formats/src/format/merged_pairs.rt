@@ -39,7 +39,7 @@ pub(crate) fn lowered<'a>(
 }
 
 /// Where the key stands, by a look at each entry.
-pub(crate) fn scan(entries: &[(&str, &str)], key: &str) -> Option<usize>
+pub(crate) fn key_place(entries: &[(&str, &str)], key: &str) -> Option<usize>
     ensures place { IsPlace (bytes_eq key.now) (pair_texts entries.now) result }
     ensures within { IfSome result (λ place. place < length entries.now) }
 {
@@ -68,7 +68,7 @@ fn put_pair_among<'a>(
 ) -> Result<(), AllocError>
     ensures { OnOk result (pair_texts entries.new.items ≡ insert_entry bytes_eq (pair_texts entries.old.items) key.now value.now) }
 {
-    match scan(entries.as_slice(), key) {
+    match key_place(entries.as_slice(), key) {
         Some(place) => set_value(entries, place, value),
         None => entries.push((key, value))?,
     }

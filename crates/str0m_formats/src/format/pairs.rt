@@ -8,7 +8,7 @@ ghost use Rattle.str0m_formats.specs.format.PairsReading.{lay, triple_read, join
 
 use crate::format::format_key::{LEVEL_ID, PROFILE_ID, TIER_FLAG};
 use crate::format::format_param::{FormatParam, param};
-use crate::format::merged_pairs::{lowered, merge, scan};
+use crate::format::merged_pairs::{key_place, lowered, merge};
 use std::alloc::{AllocError, Global};
 use str0m_values::cuts::is_same_text;
 use str0m_values::{H265ProfileTierLevel, H266ProfileTierLevel};
@@ -37,7 +37,7 @@ fn has_triple_mark(pairs: &[(&str, &str)]) -> bool
 fn value_of_key<'a>(merged: &[(&str, &'a str)], key: &str) -> Option<&'a str>
     ensures { lay result ≡ value_of_key key.now (pair_texts merged.now) }
 {
-    match scan(merged, key) {
+    match key_place(merged, key) {
         Some(place) => Some(merged[place].1),
         None => None,
     }

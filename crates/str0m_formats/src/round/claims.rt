@@ -1,13 +1,13 @@
 //! What a round has claimed: which remote row a row then goes with, and which types it may take.
 ghost use Rattle.std.specs.Bool.{OnTrue, OnFalse};
 ghost use Rattle.std.specs.Prelude.{◌≡◌, ◌≤◌, IfOk, IfSome, not, option_copied};
-ghost use Rattle.str0m_formats.specs.codec.Codec.{content};
+ghost use Rattle.str0m_formats.specs.codec.Codec.{codec_content};
 ghost use Rattle.str0m_formats.specs.round.Choices.{points_for, IsChoice};
 ghost use Rattle.str0m_formats.specs.round.Claimed.{with_type, claimed_with_option, either_set, free};
 ghost use Rattle.str0m_formats.specs.round.Rounds.{role_type, own_or_free, rtx_type, red_type, only_audio};
 
 use crate::codec::Codec;
-use crate::round::choices::better;
+use crate::round::choices::better_row;
 use crate::round::claimed::Claimed;
 use crate::round::negotiation_error::NegotiationError;
 use crate::row::payload_params::PayloadParams;
@@ -52,7 +52,7 @@ impl<C: Claimed> Claims<C> {
     {
         let mut best = None;
         for theirs in remote {
-            best = better(best, theirs, self.points(row, theirs));
+            best = better_row(best, theirs, self.points(row, theirs));
         }
         match best {
             Some((theirs, _)) => Some(theirs),
@@ -181,7 +181,7 @@ impl<C: Claimed> Claims<C> {
     ) -> Option<Pt>
         requires { IfSome asked (λ t. t ≤ 127) }
         ensures value { result
-            ≡ only_audio (content codec) (red_type (C.holds self.old.claimed) (C.holds self.old.unlocked) self.old.receives asked own) }
+            ≡ only_audio (codec_content codec) (red_type (C.holds self.old.claimed) (C.holds self.old.unlocked) self.old.receives asked own) }
         ensures claimed { C.holds self.new.claimed ≡ claimed_with_option (C.holds self.old.claimed) result }
         ensures unlocked { self.new.unlocked ≡ self.old.unlocked }
         ensures receives { self.new.receives ≡ self.old.receives }

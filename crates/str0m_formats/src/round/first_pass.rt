@@ -12,7 +12,7 @@ use crate::round::negotiation_error::NegotiationError;
 use crate::row::payload_params::PayloadParams;
 
 /// Locks a row whose types are those that its choice gives it: the rest of it is what both agree on.
-fn agree(row: &mut PayloadParams, choice: &PayloadParams)
+fn lock_agreed(row: &mut PayloadParams, choice: &PayloadParams)
     ensures { row.new ≡ record row.old {
       spec = narrowed row.old.spec choice.now.spec;
       fb_transport_cc = row.old.fb_transport_cc && choice.now.fb_transport_cc;
@@ -49,7 +49,7 @@ impl<C: Claimed> Claims<C> {
         row.pt = pt;
         row.resend = resend;
         row.red = red;
-        agree(row, choice);
+        lock_agreed(row, choice);
         Ok(())
     }
 

@@ -14,7 +14,7 @@ ghost use Rattle.str0m_formats.specs.row.RedDistances.{AreDistancesKept};
 use crate::codec::Codec;
 use crate::codec::codec_spec::CodecSpec;
 use crate::format::format_params::FormatParams;
-use crate::round::choices::{better, is_event_row};
+use crate::round::choices::{better_row, is_event_row};
 use crate::row::kind_rows::{KindRows, some_share_rate};
 use crate::row::payload_params::PayloadParams;
 use crate::row::red_distances::RedDistances;
@@ -160,7 +160,7 @@ impl CodecConfig {
     {
         let mut best = None;
         for row in self.params.as_slice() {
-            best = better(best, row, row.match_score(&params));
+            best = better_row(best, row, row.match_score(&params));
         }
         match best {
             Some((row, _)) => Some(row),

@@ -4,7 +4,7 @@ use Rattle.str0m_sdp.proofs.Common.{◌≡◌, ◌<◌, ◌+◌, ℕ, Bool, fals
 use Rattle.str0m_sdp.proofs.Common.{IsTrue, MatchOption, FormatParam, arith, is_some, length-map}
 use Rattle.str0m_sdp.specs.attribute.Fmtp.{is_fmtp_shown}
 use Rattle.str0m_sdp.specs.declared.attribute.simulcast.SimulcastLayer.{SimulcastLayer}
-use Rattle.str0m_sdp.specs.section.Alike.{as_read, ids, alike_shown}
+use Rattle.str0m_sdp.specs.section.Alike.{as_read, layer_ids, alike_shown}
 
 alike_shown_first : (value : FormatParam) (values : List FormatParam) (b : Bool) → is_fmtp_shown value ≡ b
     → alike_shown (value ∷ values) ≡ cond b (as_read value ∷ alike_shown values) (alike_shown values)
@@ -42,9 +42,9 @@ alike_first_passed left xs right iff at = (λ e. iff.0 (at ∙ e), λ p. sym at 
 
 -- the names from a layer on
 pub ids_from : (layers : List SimulcastLayer) (i : ℕ) (layer : SimulcastLayer) → i < length layers → layer ≡ get_or layers i layer
-    → ids (drop i layers) ≡ layer.restriction_id ∷ ids (drop (i + 1) layers)
+    → layer_ids (drop i layers) ≡ layer.restriction_id ∷ layer_ids (drop (i + 1) layers)
 ids_from layers i layer lt at = grind (arith, drop-cons)
 
 -- the names of lists of another length are others
-pub other_length : (layers others : List SimulcastLayer) → (length layers ≡ length others → ⊥) → ids layers ≡ ids others → ⊥
+pub other_length : (layers others : List SimulcastLayer) → (length layers ≡ length others → ⊥) → layer_ids layers ≡ layer_ids others → ⊥
 other_length layers others differ same = grind (arith, length-map)

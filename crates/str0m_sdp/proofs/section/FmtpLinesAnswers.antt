@@ -4,8 +4,8 @@ use Rattle.str0m_sdp.proofs.Common.{FormatParam, PayloadParams, filter_map}
 use Rattle.str0m_sdp.proofs.section.RowAttributesAnswers.{row_eq_false_flipped}
 use Rattle.str0m_sdp.proofs.section.RowAttributesReads.{fmtp_lines, red_reads, reads, row_lines_each, all_fmtp, all_rtx, all_red}
 use Rattle.str0m_sdp.proofs.section.RowAttributesReads.{row_lines_quiet, parts_said}
-use Rattle.str0m_sdp.proofs.section.SectionRowsApart.{Roles, row_type_is_itself, pt_apart, rtx_apart, red_apart}
-use Rattle.str0m_sdp.proofs.section.SectionRowsParts.{always}
+use Rattle.str0m_sdp.proofs.section.SectionRowsApart.{RowRoles, row_type_is_itself, pt_apart, rtx_apart, red_apart}
+use Rattle.str0m_sdp.proofs.section.SectionRowsParts.{rows_all_always}
 use Rattle.str0m_sdp.specs.declared.attribute.MediaAttribute.{MediaAttribute}
 use Rattle.str0m_sdp.specs.declared.attribute.MediaAttribute.TheVariants.{RtpMap, RtcpFb, Fmtp}
 use Rattle.str0m_sdp.specs.declared.attribute.rtp_map.RtpMap.{RtpMap as Mapping}
@@ -20,7 +20,7 @@ fmtp_apart : {Y : Type 0} (q : MediaAttribute → Option Y) (row : PayloadParams
     → has (types_of row) t ≡ false → filter_map q (reads row vs) ≡ []
 fmtp_apart q row vs t map feedback fmtp h =
     row_lines_quiet q (reads row vs)
-    (row_lines_each (λ a. q a ≡ None) row vs (map row.pt) feedback (always _ (λ v. fmtp row.pt v (pt_apart row t h)) vs)
+    (row_lines_each (λ a. q a ≡ None) row vs (map row.pt) feedback (rows_all_always _ (λ v. fmtp row.pt v (pt_apart row t h)) vs)
     (λ n e. (map n, fmtp n _ (rtx_apart row t n h e))) (λ n e. (map n, fmtp n _ (red_apart row t n h e))))
 
 -- ---- fmtp values
@@ -35,7 +35,7 @@ own_fmtp t [] = refl
 own_fmtp t (v ∷ vs) = rw (row_type_is_itself t) (ap (λ ws. v ∷ ws) (own_fmtp t vs))
 
 -- of the row's own primary type
-pub fmtp_values_own : (row : PayloadParams) (vs : List (List FormatParam)) → Roles row
+pub fmtp_values_own : (row : PayloadParams) (vs : List (List FormatParam)) → RowRoles row
     → filter_map (fmtp_values_in row.pt) (reads row vs) ≡ vs
 fmtp_values_own row vs r =
     parts_said (fmtp_values_in row.pt) row vs vs [] [] refl (λ w. refl) (own_fmtp row.pt vs)
@@ -51,12 +51,12 @@ pub apt_apart : (row : PayloadParams) (vs : List (List FormatParam)) (t : ℕ) �
     → filter_map (apt_in t) (reads row vs) ≡ []
 apt_apart row vs t h = fmtp_apart (apt_in t) row vs t (λ n m. refl) (λ w. refl) (λ n v e. rw e refl) h
 
-pub apt_own : (row : PayloadParams) (vs : List (List FormatParam)) (t : ℕ) → Roles row → row.resend ≡ Some t
+pub apt_own : (row : PayloadParams) (vs : List (List FormatParam)) (t : ℕ) → RowRoles row → row.resend ≡ Some t
     → filter_map (apt_in t) (reads row vs) ≡ row.pt ∷ []
 apt_own row vs t r is =
     parts_said (apt_in t) row vs [] (row.pt ∷ []) [] refl (λ w. refl)
     (row_lines_quiet (apt_in t) (fmtp_lines row.pt vs)
-    (all_fmtp (λ a. apt_in t a ≡ None) row vs (always _ (λ v. rw (row_eq_false_flipped t row.pt (r.rtx t is)) refl) vs)))
+    (all_fmtp (λ a. apt_in t a ≡ None) row vs (rows_all_always _ (λ v. rw (row_eq_false_flipped t row.pt (r.rtx t is)) refl) vs)))
     (ap (λ o. filter_map (apt_in t) (rtx_lines row o)) is ∙ here)
     (row_lines_quiet (apt_in t) (red_reads row row.red)
     (all_red (λ a. apt_in t a ≡ None) row row.red (λ n e. (λ m. refl, rw (row_eq_false_flipped t n (r.rtx_red t n is e)) refl))))

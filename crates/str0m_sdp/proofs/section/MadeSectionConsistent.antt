@@ -1,7 +1,8 @@
 -- A section of plain, distinct rows is consistent, and each of its RTX and RED lines names one primary type.
 use Rattle.str0m_formats.specs.declared.codec.Codec.TheVariants as codec
 use Rattle.str0m_sdp.proofs.Common.{◌≡◌, ◌≢◌, ◌≤◌, inl, ℕ, Bool, true, false, List, [], ◌∷◌, ◌++◌, Option, Some, IfSome, All, refl, sym, ap}
-use Rattle.str0m_sdp.proofs.Common.{◌∙◌, subst, arith, AllByRecursion, flat_map, All-from_recursion, content, other, types, same_codec, has}
+use Rattle.str0m_sdp.proofs.Common.{◌∙◌, subst, arith, AllByRecursion, flat_map, All-from_recursion, codec_content, other, types}
+use Rattle.str0m_sdp.proofs.Common.{same_codec, has}
 use Rattle.str0m_sdp.proofs.Common.{AllTypesDistinct, Codec, FormatParam, Apt, BarePtList, PayloadParams, IsPlain, count_by, true≢false}
 use Rattle.str0m_sdp.proofs.Common.{type_times-some, line_all_of_both}
 use Rattle.str0m_sdp.proofs.section.MadeSectionFrame.{HasNoTypes, NameNoType, NamesNoType}
@@ -9,7 +10,7 @@ use Rattle.str0m_sdp.proofs.section.MappingsBack.{IsMappingSaid, section, each_t
 use Rattle.str0m_sdp.proofs.section.RowAttributesQuestions.{lines, attrs_of, apt_is, maps_are}
 use Rattle.str0m_sdp.proofs.section.RowAttributesReads.{row_lines_each}
 use Rattle.str0m_sdp.proofs.section.SectionRowsAgain.{pt_mapped, rtx_mapped, red_mapped, primary_among}
-use Rattle.str0m_sdp.proofs.section.SectionRowsParts.{always, rows_all_weaker, rows_over_lines, rows_each_among, rows_taken_apart}
+use Rattle.str0m_sdp.proofs.section.SectionRowsParts.{rows_all_always, rows_all_weaker, rows_over_lines, rows_each_among, rows_taken_apart}
 use Rattle.str0m_sdp.proofs.section.SectionRowsParts.{count-append}
 use Rattle.str0m_sdp.proofs.section.SectionRowsParts.{rows_none_counted}
 use Rattle.str0m_sdp.specs.declared.attribute.MediaAttribute.{MediaAttribute}
@@ -39,7 +40,7 @@ IfSome_all o P f = grind arith
 made_section_no_other : (first : ℕ) (v : List FormatParam) → AllByRecursion NamesNoType v → All (NamesNoOther first) v
 made_section_no_other first v h = grind (arith, All-from_recursion, rows_all_weaker, NamesNoType)
 
-no_companion : (c : Codec) → content c ≢ other → (same_codec c codec.Rtx ≡ false) × (same_codec c codec.Red ≡ false)
+no_companion : (c : Codec) → codec_content c ≢ other → (same_codec c codec.Rtx ≡ false) × (same_codec c codec.Red ≡ false)
 no_companion c h = grind arith
 
 pub frame_agrees : (attrs : List MediaAttribute) (attr : MediaAttribute) → is_of_type attr ≡ false → AgreesOnApt attrs attr
@@ -51,7 +52,7 @@ frame_names m attr h = grind arith
 module _ (values : PayloadParams → List (List FormatParam)) where
   of_types : (rows : List PayloadParams) → AllByRecursion (λ attr. is_of_type attr ≡ true) (flat_map (lines values) rows)
   of_types rows = rows_over_lines (λ attr. is_of_type attr ≡ true) (lines values) rows (rows_each_among _ rows (λ before row after e.
-      row_lines_each (λ attr. is_of_type attr ≡ true) row (values row) (λ m. refl) (λ w. refl) (always _ (λ v. refl) (values row))
+      row_lines_each (λ attr. is_of_type attr ≡ true) row (values row) (λ m. refl) (λ w. refl) (rows_all_always _ (λ v. refl) (values row))
       (λ n k. (λ m. refl, refl)) (λ n k. (λ m. refl, refl))))
 
   -- what no line of a type passes is counted in the frame alone
@@ -74,8 +75,8 @@ module _ (values : PayloadParams → List (List FormatParam)) where
               omega (arith, same, one, at_most)
 
     -- what an RTX type names agrees
-    pub agree : All (AgreesOnApt (attrs_of values frame.attrs rows)) (attrs_of values frame.attrs rows)
-    agree =
+    pub made_section_agrees : All (AgreesOnApt (attrs_of values frame.attrs rows)) (attrs_of values frame.attrs rows)
+    made_section_agrees =
         All-from_recursion (AgreesOnApt attrs) attrs
         (line_all_of_both (AgreesOnApt attrs) frame.attrs (flat_map (lines values) rows)
         (rows_all_weaker _ (AgreesOnApt attrs) (frame_agrees attrs) frame.attrs bare)
@@ -120,7 +121,7 @@ module _ (values : PayloadParams → List (List FormatParam)) where
       setup = let same = counted_in_frame is_setup no_setup frame.attrs rows in omega (arith, same, setup);
       proto = λ e. (counted_in_frame is_direction no_direction frame.attrs rows ∙ direction e, λ enabled. some_types rows some);
       mapped = mapped_once;
-      apt = agree;
+      apt = made_section_agrees;
     } where
       some_types : (rows : List PayloadParams) → rows ≢ [] → types rows ≢ []
       some_types [] h = absurd (h refl)
@@ -140,7 +141,7 @@ module _ (values : PayloadParams → List (List FormatParam)) where
         one : (before : List PayloadParams) (row : PayloadParams) (after : List PayloadParams) → rows ≡ before ++ row ∷ after
             → AllByRecursion (NamesOnePrimary m) (lines values row)
         one before row after e =
-            row_lines_each (NamesOnePrimary m) row (values row) (λ m. tt) (λ w. tt) (always _ format (values row))
+            row_lines_each (NamesOnePrimary m) row (values row) (λ m. tt) (λ w. tt) (rows_all_always _ format (values row))
             (λ n is. (λ m. tt, (λ named. (row.pt, primary, refl), λ named. absurd (true≢false (sym named ∙ of_rtx n is)))))
             (λ n is. (λ m. tt, (λ named. absurd (true≢false (sym named ∙ of_red n is)), λ named. (row.pt, primary, refl))))
           where
@@ -166,7 +167,7 @@ module _ (values : PayloadParams → List (List FormatParam)) where
                 ap (λ xs. is_mapped_to codec.Rtx (mapped (section values frame xs)) n) e
                 ∙ red_mapped values frame bare before row after plain' d' codec.Rtx n is ∙ refl
 
-            carried : content row.spec.codec ≢ other
+            carried : codec_content row.spec.codec ≢ other
             carried = (rows_taken_apart IsPlain before row after plain').1.carried
 
             of_pt : (c : Codec) → same_codec row.spec.codec c ≡ false → is_mapped_to c (mapped m) row.pt ≡ false

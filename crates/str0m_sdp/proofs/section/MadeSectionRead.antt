@@ -2,7 +2,7 @@
 use Rattle.str0m_sdp.proofs.Common.{arith, ◌≡◌, ◌≢◌, ◌≤◌, false, List, [], map, All, AllZip, flat_map, recursion_from_All, IsPlain, types}
 use Rattle.str0m_sdp.proofs.Common.{SameRow, AllTypesDistinct, FormatParam, PayloadParams, count_by}
 use Rattle.str0m_sdp.proofs.section.MadeSectionConsistent.{consistent, names_one}
-use Rattle.str0m_sdp.proofs.section.MappingsBack.{IsMappingSaid, unlocked, section, mapped_is}
+use Rattle.str0m_sdp.proofs.section.MappingsBack.{IsMappingSaid, unlocked_row, section, mapped_is}
 use Rattle.str0m_sdp.proofs.section.RowAttributesAnswers.{row_entries}
 use Rattle.str0m_sdp.proofs.section.RowAttributesQuestions.{attrs_of}
 use Rattle.str0m_sdp.proofs.section.SectionRowsAgain.{rows_are, rows_same}
@@ -27,16 +27,18 @@ pub record DescribesRows (m : MediaLine) (rows : List PayloadParams) : Type 0 wh
   pub consistent : Consistent m
   pub names_one : All (NamesOnePrimary m) m.attrs
   pub types_are : mapped m ≡ flat_map row_entries rows
-  pub rows_are : rows_of m ≡ map unlocked rows
+  pub rows_are : rows_of m ≡ map unlocked_row rows
   pub same : AllZip SameRow (rows_of m) rows
 
 module _ (values : PayloadParams → List (List FormatParam)) where
-  describing : (frame : MediaLine) (rows : List PayloadParams) → IsBareFrame frame frame.attrs → All IsPlain rows
+  made_section_describing : (frame : MediaLine) (rows : List PayloadParams) → IsBareFrame frame frame.attrs → All IsPlain rows
       → AllTypesDistinct (types rows)
       → All (λ row. IsMappingSaid row (values row)) rows → rows ≢ [] → DescribesRows (section values frame rows) rows
-  describing frame rows f plain d said some = grind (arith, consistent, names_one, mapped_is, rows_are, rows_same, recursion_from_All)
+  made_section_describing frame rows f plain d said some = grind
+      (arith, consistent, names_one, mapped_is, rows_are, rows_same, recursion_from_All)
 
-  pub describes : (m : MediaLine) (frame : List MediaAttribute) (rows : List PayloadParams) → IsBareFrame m frame
+  pub made_section_describes : (m : MediaLine) (frame : List MediaAttribute) (rows : List PayloadParams) → IsBareFrame m frame
       → m.attrs ≡ attrs_of values frame rows → m.pts ≡ types rows → All IsPlain rows → AllTypesDistinct (types rows)
       → All (λ row. IsMappingSaid row (values row)) rows → rows ≢ [] → DescribesRows m rows
-  describes m frame rows f attrs pts plain d said some = grind (arith, describing (record m { attrs = frame }) rows)
+  made_section_describes m frame rows f attrs pts plain d said some = grind
+      (arith, made_section_describing (record m { attrs = frame }) rows)

@@ -6,10 +6,11 @@ use Rattle.str0m_formats.specs.format.Pairs.{has_triple_mark}
 use Rattle.str0m_formats.specs.format.PairsReading.{params_read}
 use Rattle.str0m_formats.specs.round.Narrowing.{telephone_max}
 use Rattle.str0m_sdp.proofs.Common.{rules, arith, ◌≡◌, ◌≢◌, ℕ, false, List, [], ◌∷◌, Some, refl, All, get_or, AllByRecursion, types}
-use Rattle.str0m_sdp.proofs.Common.{AllTypesDistinct, content, events, format_of_fmtp, empty, IsPlain, Codec, FormatParam, FormatParams}
+use Rattle.str0m_sdp.proofs.Common.{AllTypesDistinct, codec_content, events, format_of_fmtp, empty, IsPlain, Codec, FormatParam}
+use Rattle.str0m_sdp.proofs.Common.{FormatParams}
 use Rattle.str0m_sdp.proofs.Common.{PayloadParams, HoldsRowNumbers, BareRange}
 use Rattle.str0m_sdp.proofs.section.MadeSectionFrame.{NamesNoType, NameNoType}
-use Rattle.str0m_sdp.proofs.section.MadeSectionRead.{IsBareFrame, DescribesRows, describes}
+use Rattle.str0m_sdp.proofs.section.MadeSectionRead.{IsBareFrame, DescribesRows, made_section_describes}
 use Rattle.str0m_sdp.proofs.section.MappingsBack.{IsMappingSaid}
 use Rattle.str0m_sdp.proofs.section.RowAttributesQuestions.{attrs_of}
 use Rattle.str0m_sdp.specs.declared.attribute.MediaAttribute.{MediaAttribute}
@@ -76,11 +77,11 @@ pub describes_printed : (pairs : PayloadParams → List (List ℕ × List ℕ)) 
     (rows : List PayloadParams) → IsBareFrame m frame
     → m.attrs ≡ attrs_of (values_by pairs) frame rows → m.pts ≡ types rows → All IsPlain rows → AllTypesDistinct (types rows)
     → All (λ row. row.spec.codec ≢ codec.Tele → IsLineOf row.spec.format (pairs row)) rows → rows ≢ [] → DescribesRows m rows
-describes_printed pairs m frame rows f attrs pts plain d line some = search (rules, describes, made_each_line_said)
+describes_printed pairs m frame rows f attrs pts plain d line some = search (rules, made_section_describes, made_each_line_said)
 
 -- ---- the pairs that a format prints
 
-not_events : (c : Codec) → c ≢ codec.Tele → content c ≢ events
+not_events : (c : Codec) → c ≢ codec.Tele → codec_content c ≢ events
 not_events c other = grind arith
 
 pub format_line_printed : (row : PayloadParams) → IsPlain row → HoldsRowNumbers row → row.spec.codec ≢ codec.Tele

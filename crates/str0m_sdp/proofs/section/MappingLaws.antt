@@ -12,7 +12,7 @@ use Rattle.str0m_sdp.specs.declared.attribute.MediaAttribute.{MediaAttribute}
 use Rattle.str0m_sdp.specs.declared.attribute.MediaAttribute.TheVariants.{RtpMap}
 use Rattle.str0m_sdp.specs.declared.attribute.rtp_map.RtpMap.{RtpMap as Mapping}
 use Rattle.str0m_sdp.specs.section.Consistency.{maps}
-use Rattle.str0m_sdp.specs.section.Mappings.{mapping, static_type, unmapped}
+use Rattle.str0m_sdp.specs.section.Mappings.{mapping, static_type, unmapped_type}
 
 -- a type that was seen adds no row; else it adds what it stands for
 one_type_more : {X Y : Type 0} (f : X → Option Y) (x : X) (o : Option Y) (a b : Bool) → f x ≡ cond a None o
@@ -21,22 +21,23 @@ one_type_more f x o a b is = grind arith
 
 -- the rows of the m-line's types, one type more
 pub statics_more : (attrs : List MediaAttribute) (pts : List ℕ) (i pt : ℕ) → i < length pts → pt ≡ get_or pts i pt
-    → filter_map (unmapped attrs) (distinct nat_eq (take (i + 1) pts))
-    ≡ filter_map (unmapped attrs) (distinct nat_eq (take i pts))
+    → filter_map (unmapped_type attrs) (distinct nat_eq (take (i + 1) pts))
+    ≡ filter_map (unmapped_type attrs) (distinct nat_eq (take i pts))
     ++ cond (list_any (maps pt) attrs || list_any (λ n. n == pt) (take i pts)) [] (option_to_list (static_type pt))
 statics_more attrs pts i pt lt is = grind (arith, take_at_read, distinct_push, filter_map-append, one_type_more)
 
 -- a type that is new adds what it stands for
 pub statics_new : (attrs : List MediaAttribute) (pts : List ℕ) (i pt : ℕ) → i < length pts → pt ≡ get_or pts i pt
     → (list_any (maps pt) attrs || list_any (λ n. n == pt) (take i pts)) ≡ false
-    → filter_map (unmapped attrs) (distinct nat_eq (take (i + 1) pts))
-    ≡ filter_map (unmapped attrs) (distinct nat_eq (take i pts)) ++ option_to_list (static_type pt)
+    → filter_map (unmapped_type attrs) (distinct nat_eq (take (i + 1) pts))
+    ≡ filter_map (unmapped_type attrs) (distinct nat_eq (take i pts)) ++ option_to_list (static_type pt)
 statics_new attrs pts i pt lt is new = grind (arith, statics_more)
 
 -- one that was seen adds nothing
 pub statics_seen : (attrs : List MediaAttribute) (pts : List ℕ) (i pt : ℕ) → i < length pts → pt ≡ get_or pts i pt
     → (list_any (maps pt) attrs || list_any (λ n. n == pt) (take i pts)) ≡ true
-    → filter_map (unmapped attrs) (distinct nat_eq (take (i + 1) pts)) ≡ filter_map (unmapped attrs) (distinct nat_eq (take i pts))
+    → filter_map (unmapped_type attrs) (distinct nat_eq (take (i + 1) pts))
+    ≡ filter_map (unmapped_type attrs) (distinct nat_eq (take i pts))
 statics_seen attrs pts i pt lt is seen = grind (arith, statics_more, append-nil)
 
 bools_assoc : (a b c : Bool) → ((a || b) || c) ≡ (a || (b || c))

@@ -8,7 +8,7 @@ use Rattle.str0m_sdp.proofs.section.MadeSectionFrame.{HasNoTypes, NameNoType}
 use Rattle.str0m_sdp.proofs.section.RowAttributesAnswers.{NamesItself, row_entries, rtx_entry, red_entry, row_eq_false_flipped}
 use Rattle.str0m_sdp.proofs.section.RowAttributesQuestions.{attrs_of, mappings_are, maps_are}
 use Rattle.str0m_sdp.proofs.section.RowAttributesReads.{row_lines_quiet}
-use Rattle.str0m_sdp.proofs.section.SectionRowsApart.{LacksType, Roles, unique, row_type_is_itself, has_at-append}
+use Rattle.str0m_sdp.proofs.section.SectionRowsApart.{LacksType, RowRoles, row_type_unique, row_type_is_itself, has_at-append}
 use Rattle.str0m_sdp.proofs.section.SectionRowsParts.{all-filter, rows_all_weaker, rows_each_among, rows_none_passes, rows_or_false}
 use Rattle.str0m_sdp.proofs.section.SectionRowsParts.{rows_own_holds, AllFail, rows_counted_passes}
 use Rattle.str0m_sdp.specs.Common.{distinct}
@@ -36,13 +36,13 @@ module _ (c : Codec) (t : ℕ) (row : PayloadParams) where
   pub entries_apart : has (types_of row) t ≡ false → list_any (stands_for_codec c t) (row_entries row) ≡ false
   entries_apart h = grind arith
 
-  pub entry_pt : Roles row → t ≡ row.pt → list_any (stands_for_codec c t) (row_entries row) ≡ same_codec row.spec.codec c
+  pub entry_pt : RowRoles row → t ≡ row.pt → list_any (stands_for_codec c t) (row_entries row) ≡ same_codec row.spec.codec c
   entry_pt r same = grind (arith, rows_none_passes, line_all_of_both, rtx_fails, red_fails, row_type_is_itself, rows_or_false)
 
-  pub entry_rtx : Roles row → row.resend ≡ Some t → list_any (stands_for_codec c t) (row_entries row) ≡ same_codec codec.Rtx c
+  pub entry_rtx : RowRoles row → row.resend ≡ Some t → list_any (stands_for_codec c t) (row_entries row) ≡ same_codec codec.Rtx c
   entry_rtx r is = grind (arith, row_eq_false_flipped, list_any-append, rows_none_passes, red_fails, rows_or_false, row_type_is_itself)
 
-  pub entry_red : Roles row → row.red ≡ Some t → list_any (stands_for_codec c t) (row_entries row) ≡ same_codec codec.Red c
+  pub entry_red : RowRoles row → row.red ≡ Some t → list_any (stands_for_codec c t) (row_entries row) ≡ same_codec codec.Red c
   entry_red r is = grind (arith, row_eq_false_flipped, list_any-append, rows_none_passes, rtx_fails, row_type_is_itself, rows_or_false)
 
 -- among the types of all rows a type stands for what its own row says
@@ -50,8 +50,8 @@ pub mapped_among : (c : Codec) (t : ℕ) (before : List PayloadParams) (row : Pa
     → AllTypesDistinct (types (before ++ row ∷ after)) → has (types_of row) t ≡ true
     → is_mapped_to c (flat_map row_entries (before ++ row ∷ after)) t ≡ list_any (stands_for_codec c t) (row_entries row)
 mapped_among c t before row after d h =
-    rows_own_holds (stands_for_codec c t) row_entries [] before row after refl (others before (unique before row after t d h).0)
-    (others after (unique before row after t d h).1) where
+    rows_own_holds (stands_for_codec c t) row_entries [] before row after refl (others before (row_type_unique before row after t d h).0)
+    (others after (row_type_unique before row after t d h).1) where
       others : (rows : List PayloadParams) → LacksType t rows → AllFail (stands_for_codec c t) row_entries rows
       others rows k = rows_all_weaker _ (λ r. list_any (stands_for_codec c t) (row_entries r) ≡ false) (λ r l. entries_apart c t r l) rows k
 
@@ -62,8 +62,8 @@ pub record IsMappingSaid (row : PayloadParams) (vs : List (List FormatParam)) : 
   pub format : format_of_fmtp row.spec.codec vs ≡ Some row.spec.format
   pub silent : NameNoType vs
 
-abbrev pub unlocked : PayloadParams → PayloadParams
-unlocked row = record row { locked = false }
+abbrev pub unlocked_row : PayloadParams → PayloadParams
+unlocked_row row = record row { locked = false }
 
 mappings_of_distinct : (P : ℕ → Type 0) (xs : List ℕ) → AllByRecursion P xs → AllByRecursion P (distinct nat_eq xs)
 mappings_of_distinct P [] h = tt

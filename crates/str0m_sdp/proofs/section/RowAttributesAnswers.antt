@@ -9,7 +9,7 @@ use Rattle.str0m_sdp.proofs.section.RowAttributesReads.{fmtp_lines, red_reads, r
 use Rattle.str0m_sdp.proofs.section.RowAttributesReads.{all_red, row_lines_quiet}
 use Rattle.str0m_sdp.proofs.section.RowAttributesReads.{append_said, parts_said}
 use Rattle.str0m_sdp.proofs.section.SectionRowsApart.{row_type_is_itself, pt_apart}
-use Rattle.str0m_sdp.proofs.section.SectionRowsParts.{always, rows_none_passes, rows_or_false, rows_all_weaker}
+use Rattle.str0m_sdp.proofs.section.SectionRowsParts.{rows_all_always, rows_none_passes, rows_or_false, rows_all_weaker}
 use Rattle.str0m_sdp.specs.attribute.Feedback.{is_feedback}
 use Rattle.str0m_sdp.specs.attribute.RtpMap.{map_of_spec, spec_of_map}
 use Rattle.str0m_sdp.specs.declared.attribute.MediaAttribute.{MediaAttribute}
@@ -108,7 +108,8 @@ pub feedback_apart : (row : PayloadParams) (vs : List (List FormatParam)) (t : �
     → list_any (is_feedback t words) (reads row vs) ≡ false
 feedback_apart row vs t words h =
     rows_none_passes (is_feedback t words) (reads row vs)
-    (row_lines_each (λ a. is_feedback t words a ≡ false) row vs (λ m. refl) (λ w. rw (pt_apart row t h) refl) (always _ (λ v. refl) vs)
+    (row_lines_each (λ a. is_feedback t words a ≡ false) row vs (λ m. refl) (λ w. rw (pt_apart row t h) refl)
+    (rows_all_always _ (λ v. refl) vs)
     (λ n e. (λ m. refl, refl)) (λ n e. (λ m. refl, refl)))
 
 row_one_flag : (t : ℕ) (w words : List ℕ) (b : Bool) → list_any (is_feedback t words) (feedback_line t w b) ≡ (b && bytes_eq w words)
@@ -138,7 +139,7 @@ feedback_own row vs words =
     quiet_rest =
         rows_none_passes (is_feedback row.pt words) rest
         (line_all_of_both (λ a. is_feedback row.pt words a ≡ false) _ _
-        (all_fmtp (λ a. is_feedback row.pt words a ≡ false) row vs (always _ (λ v. refl) vs))
+        (all_fmtp (λ a. is_feedback row.pt words a ≡ false) row vs (rows_all_always _ (λ v. refl) vs))
         (line_all_of_both (λ a. is_feedback row.pt words a ≡ false) _ _
         (all_rtx (λ a. is_feedback row.pt words a ≡ false) row row.resend (λ n e. (λ m. refl, refl)))
         (all_red (λ a. is_feedback row.pt words a ≡ false) row row.red (λ n e. (λ m. refl, refl)))))
@@ -179,7 +180,7 @@ mapping_own row vs same =
     (append_said mapping (feedback_attrs row) after_feedback [] _
     (row_lines_quiet mapping (feedback_attrs row) (all_feedback (λ a. mapping a ≡ None) row (λ w. refl)))
     (append_said mapping (fmtp_lines row.pt vs) (rtx_lines row row.resend ++ red_reads row row.red) [] _
-    (row_lines_quiet mapping (fmtp_lines row.pt vs) (all_fmtp (λ a. mapping a ≡ None) row vs (always _ (λ v. refl) vs)))
+    (row_lines_quiet mapping (fmtp_lines row.pt vs) (all_fmtp (λ a. mapping a ≡ None) row vs (rows_all_always _ (λ v. refl) vs)))
     (append_said mapping (rtx_lines row row.resend) (red_reads row row.red) _ _ (rtx row.resend) (red row.red))))
   where
     after_feedback : List MediaAttribute

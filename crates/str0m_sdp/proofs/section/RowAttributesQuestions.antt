@@ -13,9 +13,9 @@ use Rattle.str0m_sdp.proofs.section.RowAttributesAnswers.{NamesItself, row_entri
 use Rattle.str0m_sdp.proofs.section.RowAttributesAnswers.{feedback_apart}
 use Rattle.str0m_sdp.proofs.section.RowAttributesAnswers.{feedback_own, mapping_own}
 use Rattle.str0m_sdp.proofs.section.RowAttributesReads.{reads, fmtp_lines, red_reads, row_lines_quiet, all_feedback, all_fmtp}
-use Rattle.str0m_sdp.proofs.section.SectionRowsApart.{LacksType, Roles, unique, roles, row_distinct, has_pt, has_rtx, pt_apart}
+use Rattle.str0m_sdp.proofs.section.SectionRowsApart.{LacksType, RowRoles, row_type_unique, roles, row_distinct, has_pt, has_rtx, pt_apart}
 use Rattle.str0m_sdp.proofs.section.SectionRowsOwn.{AreRowsOpen, own_said}
-use Rattle.str0m_sdp.proofs.section.SectionRowsParts.{always, rows_or_false, rows_all_weaker, rows_all_together, rows_taken_apart}
+use Rattle.str0m_sdp.proofs.section.SectionRowsParts.{rows_all_always, rows_or_false, rows_all_weaker, rows_all_together, rows_taken_apart}
 use Rattle.str0m_sdp.proofs.section.SectionRowsParts.{rows_none_passes}
 use Rattle.str0m_sdp.proofs.section.SectionRowsParts.{rows_none_counted}
 use Rattle.str0m_sdp.proofs.section.SectionRowsParts.{count-append, rows_own_holds, AllFail}
@@ -65,7 +65,7 @@ module _ (values : PayloadParams → List (List FormatParam)) where
 
   module _ (frame : List MediaAttribute) (bare : HasNoTypes frame) (before : List PayloadParams) (row : PayloadParams)
       (after : List PayloadParams) (d : AllTypesDistinct (types (before ++ row ∷ after))) where
-    own_roles : Roles row
+    own_roles : RowRoles row
     own_roles = roles row (row_distinct before row after d)
 
     -- the values of its fmtp lines
@@ -75,7 +75,8 @@ module _ (values : PayloadParams → List (List FormatParam)) where
         own_said (fmtp_values_in row.pt) lines frame before row after
         (row_lines_quiet (fmtp_values_in row.pt) frame
         (rows_all_weaker _ (λ a. fmtp_values_in row.pt a ≡ None) (frame_values row.pt) frame bare))
-        (others before (unique before row after row.pt d (has_pt row)).0) (others after (unique before row after row.pt d (has_pt row)).1)
+        (others before (row_type_unique before row after row.pt d (has_pt row)).0)
+        (others after (row_type_unique before row after row.pt d (has_pt row)).1)
         ∙ fmtp_values_own row (values row) own_roles
       where
         others : (rows : List PayloadParams) → LacksType row.pt rows → AreRowsOpen (fmtp_values_in row.pt) lines rows
@@ -89,7 +90,8 @@ module _ (values : PayloadParams → List (List FormatParam)) where
         first_apt-is t (attrs_of frame (before ++ row ∷ after))
         ∙ ap first (own_said (apt_in t) lines frame before row after
         (row_lines_quiet (apt_in t) frame (rows_all_weaker _ (λ a. apt_in t a ≡ None) (frame_apt t) frame bare))
-        (others before (unique before row after t d (has_rtx row t is)).0) (others after (unique before row after t d (has_rtx row t is)).1)
+        (others before (row_type_unique before row after t d (has_rtx row t is)).0)
+        (others after (row_type_unique before row after t d (has_rtx row t is)).1)
         ∙ apt_own row (values row) t own_roles is)
       where
         others : (rows : List PayloadParams) → LacksType t rows → AreRowsOpen (apt_in t) lines rows
@@ -103,7 +105,8 @@ module _ (values : PayloadParams → List (List FormatParam)) where
         rows_own_holds (is_feedback row.pt words) lines frame before row after
         (rows_none_passes (is_feedback row.pt words) frame
         (rows_all_weaker _ (λ a. is_feedback row.pt words a ≡ false) (frame_feedback row.pt words) frame bare))
-        (others before (unique before row after row.pt d (has_pt row)).0) (others after (unique before row after row.pt d (has_pt row)).1)
+        (others before (row_type_unique before row after row.pt d (has_pt row)).0)
+        (others after (row_type_unique before row after row.pt d (has_pt row)).1)
       where
         others : (rows : List PayloadParams) → LacksType row.pt rows → AllFail (is_feedback row.pt words) lines rows
         others rows h =
@@ -129,8 +132,8 @@ module _ (values : PayloadParams → List (List FormatParam)) where
           ap last (own_said (companion_in c mapped row.pt) lines frame before row after
           (row_lines_quiet (companion_in c mapped row.pt) frame
           (rows_all_weaker _ (λ a. companion_in c mapped row.pt a ≡ None) (frame_companion c mapped row.pt) frame bare))
-          (others before (rows_taken_apart _ before row after silent).0 (unique before row after row.pt d (has_pt row)).0)
-          (others after (rows_taken_apart _ before row after silent).2 (unique before row after row.pt d (has_pt row)).1)
+          (others before (rows_taken_apart _ before row after silent).0 (row_type_unique before row after row.pt d (has_pt row)).0)
+          (others after (rows_taken_apart _ before row after silent).2 (row_type_unique before row after row.pt d (has_pt row)).1)
           ∙ is)
           ∙ last_of_row_option own
         where
@@ -174,7 +177,7 @@ module _ (values : PayloadParams → List (List FormatParam)) where
       let e = count-append (maps t) (rtx_lines row row.resend) (red_reads row row.red) in
       let none = rows_none_counted (maps t) (feedback_attrs row) (all_feedback (λ x. maps t x ≡ false) row (λ w. refl)) in
       let none' = rows_none_counted (maps t) (fmtp_lines row.pt (values row))
-      (all_fmtp (λ x. maps t x ≡ false) row (values row) (always _ (λ v. refl) (values row))) in
+      (all_fmtp (λ x. maps t x ≡ false) row (values row) (rows_all_always _ (λ v. refl) (values row))) in
       let whole = type_times-cons row.pt (option_to_list row.resend ++ option_to_list row.red) t in
       let parts = type_times-append (option_to_list row.resend) (option_to_list row.red) t in
       let r = rtx row.resend in

@@ -10,7 +10,7 @@ use Rattle.str0m_sdp.specs.Common.{distinct}
 use Rattle.str0m_sdp.specs.declared.attribute.MediaAttribute.{MediaAttribute}
 use Rattle.str0m_sdp.specs.declared.section.media_line.MediaLine.{MediaLine}
 use Rattle.str0m_sdp.specs.section.Companions.{companion_in, companion, rtx_companion, red_companion}
-use Rattle.str0m_sdp.specs.section.Mappings.{mapping, unmapped, mapped}
+use Rattle.str0m_sdp.specs.section.Mappings.{mapping, unmapped_type, mapped}
 use Rattle.str0m_sdp.specs.section.SectionRows.{IsRowInBounds, KeepsToLine, KeepsToLines, fmtp_values_in, fmtps_of, is_kept, row_with, row}
 use Rattle.str0m_sdp.specs.section.SectionRows.{rows}
 
@@ -81,15 +81,16 @@ small_static pt o is = grind (arith, static_small)
 unless_mapped : {X : Type 0} (P : X → Type 0) (b : Bool) (o : Option X) → IfSome o P → IfSome (cond b None o) P
 unless_mapped P b o holds = grind arith
 
-unmapped_small : (attrs : List MediaAttribute) (pt : ℕ) → Unit {0} → IfSome (unmapped attrs pt) (λ type. IsType type.0)
+unmapped_small : (attrs : List MediaAttribute) (pt : ℕ) → Unit {0} → IfSome (unmapped_type attrs pt) (λ type. IsType type.0)
 unmapped_small attrs pt _ = grind (arith, unless_mapped, small_static)
 
 mapped_small : (m : MediaLine) → KeepsToLines m → All (λ type. IsType type.0) (mapped m)
 unfolding mapped
 mapped_small m keeps =
-    All-append (λ type. IsType type.0) (filter_map mapping m.attrs) (filter_map (unmapped m.attrs) (distinct nat_eq m.pts))
+    All-append (λ type. IsType type.0) (filter_map mapping m.attrs) (filter_map (unmapped_type m.attrs) (distinct nat_eq m.pts))
     (all_mapped KeepsToLine (λ type. IsType type.0) mapping mapping_small m.attrs keeps)
-    (all_mapped (λ _. Unit {0}) (λ type. IsType type.0) (unmapped m.attrs) (unmapped_small m.attrs) (distinct nat_eq m.pts) (λ k d lt. tt))
+    (all_mapped (λ _. Unit {0}) (λ type. IsType type.0) (unmapped_type m.attrs) (unmapped_small m.attrs) (distinct nat_eq m.pts)
+    (λ k d lt. tt))
 
 -- ---- rows
 

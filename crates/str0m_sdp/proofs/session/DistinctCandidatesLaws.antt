@@ -14,30 +14,31 @@ use Rattle.str0m_sdp.specs.session.DistinctCandidates.{IsEachOnce}
 
 module _ {X : Type 0} (same : X → X → Bool) (laws : IsEquivalence same) where
   -- those that aren't among others
-  abbrev unseen : List X → List X → List X
-  unseen seen xs = filter (λ y. not (list_any (same y) seen)) xs
+  abbrev distinct_unseen : List X → List X → List X
+  distinct_unseen seen xs = filter (λ y. not (list_any (same y) seen)) xs
 
   -- those that differ from x
   abbrev distinct_others_than : X → List X → List X
   distinct_others_than x xs = filter (λ y. not (same x y)) xs
 
-  unseen-none : (xs : List X) → unseen [] xs ≡ xs
-  unseen-none [] = refl
-  unseen-none (x ∷ xs) = ap (λ rest. x ∷ rest) (unseen-none xs)
+  distinct_unseen-none : (xs : List X) → distinct_unseen [] xs ≡ xs
+  distinct_unseen-none [] = refl
+  distinct_unseen-none (x ∷ xs) = ap (λ rest. x ∷ rest) (distinct_unseen-none xs)
 
   -- what is the same as one that was seen was seen
   distinct_seen_others : (seen : List X) (x : X) → list_any (same x) seen ≡ true → (xs : List X)
-      → unseen seen (distinct_others_than x xs) ≡ unseen seen xs
+      → distinct_unseen seen (distinct_others_than x xs) ≡ distinct_unseen seen xs
   distinct_seen_others seen x was [] = refl
   distinct_seen_others seen x was (y ∷ ys) = grind (arith, distinct_seen_others seen x was ys, list_any_congr)
 
   -- one more that was seen
-  unseen_more : (seen : List X) (x : X) (xs : List X) → unseen (seen ++ x ∷ []) xs ≡ unseen seen (distinct_others_than x xs)
+  unseen_more : (seen : List X) (x : X) (xs : List X) → distinct_unseen (seen ++ x ∷ []) xs
+      ≡ distinct_unseen seen (distinct_others_than x xs)
   unseen_more seen x [] = refl
   unseen_more seen x (y ∷ ys) = grind (arith, list_any-append, unseen_more seen x ys)
 
   -- a set keeps what it had, and then each value that it hadn't
-  distinct_unseen_inserted : (seen xs : List X) → insert_all same seen xs ≡ seen ++ unseen seen (distinct same xs)
+  distinct_unseen_inserted : (seen xs : List X) → insert_all same seen xs ≡ seen ++ distinct_unseen seen (distinct same xs)
   distinct_unseen_inserted seen [] = sym (append-nil seen)
   distinct_unseen_inserted seen (x ∷ xs) = grind (
     arith,
@@ -50,7 +51,7 @@ module _ {X : Type 0} (same : X → X → Bool) (laws : IsEquivalence same) wher
 
   -- a set into which a list is put has its values, each once
   pub distinct_unseen_inserted-distinct : (xs : List X) → insert_all same [] xs ≡ distinct same xs
-  distinct_unseen_inserted-distinct xs = distinct_unseen_inserted [] xs ∙ unseen-none (distinct same xs)
+  distinct_unseen_inserted-distinct xs = distinct_unseen_inserted [] xs ∙ distinct_unseen-none (distinct same xs)
 
   -- leaving out what differs from k loses no k
   any-others : (k x : X) → same k x ≡ false → (xs : List X) → list_any (same k) (distinct_others_than x xs) ≡ list_any (same k) xs

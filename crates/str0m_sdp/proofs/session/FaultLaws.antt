@@ -13,7 +13,8 @@ use Rattle.str0m_sdp.specs.declared.session.fault.Fault.{Fault}
 use Rattle.str0m_sdp.specs.declared.session.fault.Fault.TheVariants.{SecondSetup}
 use Rattle.str0m_sdp.specs.section.Consistency.{Consistent, NeedsNoMapping, NamesNoOther, AgreesOnApt, IsMapped, FitsProto, apt_of}
 use Rattle.str0m_sdp.specs.section.Consistency.{is_direction, is_mid, is_setup, maps as maps_to, mid_of}
-use Rattle.str0m_sdp.specs.session.Fault.{after_mid, apt_fault, clash, err_if, fault_beside, first_fault, map_fault, mapping_fault, one_mid}
+use Rattle.str0m_sdp.specs.session.Fault.{after_mid, apt_fault, apt_clash, err_if, fault_beside, first_fault, map_fault, mapping_fault}
+use Rattle.str0m_sdp.specs.session.Fault.{one_mid}
 use Rattle.str0m_sdp.specs.session.Fault.{proto_fault, setup_fault, value_fault, values_fault}
 
 -- ---- the first of several
@@ -73,17 +74,19 @@ proto_fits : (m : MediaLine) (mid : List ℕ) (proto : Proto)
 proto_fits m mid Sctp = ((λ is same. absurd cc), λ fits. refl)
 proto_fits m mid Srtp = grind (arith, fault_when_none, fault_or_none, fault_not_one, has_some_type)
 
-clashes : (mid : List ℕ) (pt named : ℕ) (other : Option ℕ) → (clash mid pt named other ≡ None) ↔ IfSome other (λ other. named ≡ other)
-clashes mid pt named other = grind arith
+fault_apts_clash : (mid : List ℕ) (pt named : ℕ) (other : Option ℕ)
+    → (apt_clash mid pt named other ≡ None) ↔ IfSome other (λ other. named ≡ other)
+fault_apts_clash mid pt named other = grind arith
 
 values_agree : (mid : List ℕ) (pt : ℕ) (values : List FormatParam) (o : Option ℕ)
     → (values_fault mid pt values o ≡ None) ↔ IfSome o (λ named. All (NamesNoOther named) values)
 values_agree mid pt values None = ((λ is. tt), λ is. refl)
 values_agree mid pt values (Some named) =
-    no_fault_among (value_fault mid pt named) (NamesNoOther named) (λ value. clashes mid pt named (apt_of value)) values
+    no_fault_among (value_fault mid pt named) (NamesNoOther named) (λ value. fault_apts_clash mid pt named (apt_of value)) values
 
-agrees : (attrs : List MediaAttribute) (mid : List ℕ) (attr : MediaAttribute) → (apt_fault attrs mid attr ≡ None) ↔ AgreesOnApt attrs attr
-agrees attrs mid attr = grind (arith, values_agree)
+fault_apts_agree : (attrs : List MediaAttribute) (mid : List ℕ) (attr : MediaAttribute)
+    → (apt_fault attrs mid attr ≡ None) ↔ AgreesOnApt attrs attr
+fault_apts_agree attrs mid attr = grind (arith, values_agree)
 
 -- ---- all of them
 
@@ -102,7 +105,7 @@ fault_beside_none m mid =
     let proto = proto_fits m mid m.proto in
     let mapping = no_fault_among (map_fault m.attrs mid) (IsMapped m.attrs) (λ pt. mapping_none mid pt (count_by (maps_to pt) m.attrs))
     m.pts in
-    let apt = no_fault_among (apt_fault m.attrs mid) (AgreesOnApt m.attrs) (agrees m.attrs mid) m.attrs in (
+    let apt = no_fault_among (apt_fault m.attrs mid) (AgreesOnApt m.attrs) (fault_apts_agree m.attrs mid) m.attrs in (
       (λ is. let p = a.0 is in let q = b.0 p.1 in let r = d.0 q.1 in (setup.0 p.0, (proto.0 q.0, (mapping.0 r.0, apt.0 r.1)))),
       λ holds. a.1 (setup.1 holds.0, b.1 (proto.1 holds.1.0, d.1 (mapping.1 holds.1.1.0, apt.1 holds.1.1.1))),
     )

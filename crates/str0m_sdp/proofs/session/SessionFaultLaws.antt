@@ -78,4 +78,4 @@ sdp_not_some sdp text told is = absurd (let none = sections_quiet sdp is in cc)
 pub sdp_not_fault : (sdp : Sdp) (fault : SessionFault) → Some fault ≡ first_session_fault sdp → ConsistentSdp sdp → ⊥
 sdp_not_fault sdp fault told is = grind (arith, no_session_fault)
 
-pub ruleset contradictions = (sections_quiet, sdp_not_some, sdp_not_fault)
+pub ruleset session_fault_contradictions = (sections_quiet, sdp_not_some, sdp_not_fault)

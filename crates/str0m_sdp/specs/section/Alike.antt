@@ -19,14 +19,14 @@ as_read param = param
 abbrev pub alike_shown : List FormatParam → List FormatParam
 alike_shown values = map as_read (filter is_fmtp_shown values)
 
-abbrev pub ids : List SimulcastLayer → List RestrictionId
-ids layers = map (λ layer. layer.restriction_id) layers
+abbrev pub layer_ids : List SimulcastLayer → List RestrictionId
+layer_ids layers = map (λ layer. layer.restriction_id) layers
 
 -- layers of the same names on both sides, on lines that print
 pub record AlikeLayers (a b : Simulcast) : Type 0 where
   pub whole : (a.is_munged ≡ false) × (b.is_munged ≡ false)
-  pub send : ids a.send.0 ≡ ids b.send.0
-  pub recv : ids a.recv.0 ≡ ids b.recv.0
+  pub send : layer_ids a.send.0 ≡ layer_ids b.send.0
+  pub recv : layer_ids a.recv.0 ≡ layer_ids b.recv.0
 
 -- equal, or fmtp lines of one type whose shown values are the same, or layers of the same names
 abbrev pub Alike : MediaAttribute → MediaAttribute → Type 0

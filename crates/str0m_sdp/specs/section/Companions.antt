@@ -4,7 +4,7 @@ use Rattle.std.specs.Prelude.{ℕ, Bool, false, ◌==◌, ◌&&◌, List, Option
 use Rattle.str0m_formats.specs.declared.codec.Codec.TheVariants as codecs
 use Rattle.str0m_formats.specs.declared.format.format_param.FormatParam.TheVariants.{BarePtList, Red}
 use Rattle.str0m_sdp.specs.Common.{last}
-use Rattle.str0m_sdp.specs.Prelude.{Codec, CodecSpec, FormatParam, content, has_audio, when}
+use Rattle.str0m_sdp.specs.Prelude.{Codec, CodecSpec, FormatParam, codec_content, has_audio, when}
 use Rattle.str0m_sdp.specs.declared.attribute.MediaAttribute.{MediaAttribute}
 use Rattle.str0m_sdp.specs.declared.attribute.MediaAttribute.TheVariants.{Fmtp}
 use Rattle.str0m_sdp.specs.declared.section.media_line.MediaLine.{MediaLine}
@@ -47,4 +47,4 @@ rtx_companion m pt = companion codecs.Rtx (mapped m) m.attrs pt
 
 -- the type under which audio is repeated (RFC 2198)
 abbrev pub red_companion : MediaLine → ℕ → Codec → Option ℕ
-red_companion m pt codec = if has_audio (content codec) then companion codecs.Red (mapped m) m.attrs pt else None
+red_companion m pt codec = if has_audio (codec_content codec) then companion codecs.Red (mapped m) m.attrs pt else None

@@ -20,12 +20,12 @@ abbrev pub static_type : ℕ → Option (ℕ × CodecSpec)
 static_type pt = option_map (λ spec. (pt, spec)) (static_spec pt)
 
 -- where no rtpmap line names the type
-abbrev pub unmapped : List MediaAttribute → ℕ → Option (ℕ × CodecSpec)
-unmapped attrs pt = if list_any (maps pt) attrs then None else static_type pt
+abbrev pub unmapped_type : List MediaAttribute → ℕ → Option (ℕ × CodecSpec)
+unmapped_type attrs pt = if list_any (maps pt) attrs then None else static_type pt
 
 -- the types with their codecs: those of rtpmap lines, then those of the m-line that need none, each once
 unfoldable pub mapped : MediaLine → List (ℕ × CodecSpec)
-mapped m = filter_map mapping m.attrs ++ filter_map (unmapped m.attrs) (distinct nat_eq m.pts)
+mapped m = filter_map mapping m.attrs ++ filter_map (unmapped_type m.attrs) (distinct nat_eq m.pts)
 
 -- whether the type stands for the codec
 abbrev pub stands_for_codec : Codec → ℕ → ℕ × CodecSpec → Bool

@@ -64,5 +64,5 @@ row_attrs row =
     ∷ (feedback_attrs row ++ (format_attrs row ++ (rtx_attrs row ++ red_attrs row)))
 
 -- the second list begins with the first
-abbrev pub Appends : List MediaAttribute → List MediaAttribute → Type 0
-Appends before after = (rest : List MediaAttribute) × (after ≡ before ++ rest)
+abbrev pub AppendsLines : List MediaAttribute → List MediaAttribute → Type 0
+AppendsLines before after = (rest : List MediaAttribute) × (after ≡ before ++ rest)

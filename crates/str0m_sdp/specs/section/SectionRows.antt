@@ -3,7 +3,7 @@ use Rattle.std.specs.List.{list_any}
 use Rattle.std.specs.Prelude.{ℕ, Bool, ◌==◌, ◌&&◌, ◌||◌, List, Option, Some, None, option_map, filter, filter_map, if◌then◌else◌, ◌≡◌, true, [], ◌∷◌, map, ◌≤◌, All}
 use Rattle.str0m_formats.specs.declared.codec.Codec.TheVariants.{Rtx, Red}
 use Rattle.str0m_formats.specs.declared.format.format_param.FormatParam.TheVariants.{Apt, BarePtList, ModeSet, SpropMaxDonDiff}
-use Rattle.str0m_sdp.specs.Prelude.{AreModes, CodecSpec, FormatParam, FormatParams, IsBounded, IsDistance, PayloadParams, content, format_of_fmtp, has, has_events, has_video, has_audio, new_row}
+use Rattle.str0m_sdp.specs.Prelude.{AreModes, CodecSpec, FormatParam, FormatParams, IsBounded, IsDistance, PayloadParams, codec_content, format_of_fmtp, has, has_events, has_video, has_audio, new_row}
 use Rattle.str0m_sdp.specs.attribute.Feedback.{feedback_of, with_feedback}
 use Rattle.str0m_sdp.specs.declared.attribute.MediaAttribute.{MediaAttribute}
 use Rattle.str0m_sdp.specs.declared.attribute.MediaAttribute.TheVariants.{Fmtp, RtpMap}
@@ -23,8 +23,8 @@ fmtps_of attrs pt = filter_map (fmtp_values_in pt) attrs
 -- whether a type has a row: it carries audio or video, or telephone events and stands in the m-line
 abbrev pub is_kept : MediaLine → ℕ × CodecSpec → Bool
 is_kept m (pt, spec) =
-    has_audio (content spec.codec) || (has_video (content spec.codec)
-    || (has_events (content spec.codec) && list_any (λ n. n == pt) m.pts))
+    has_audio (codec_content spec.codec) || (has_video (codec_content spec.codec)
+    || (has_events (codec_content spec.codec) && list_any (λ n. n == pt) m.pts))
 
 -- the row of a type with this format: a new one, with its RTX and RED types and the feedback of its lines
 abbrev pub row_with : MediaLine → ℕ → CodecSpec → FormatParams → PayloadParams

@@ -3,7 +3,7 @@ use Rattle.std.specs.Borrow.{Bor}
 use Rattle.std.specs.List.{list_any}
 use Rattle.std.specs.Prelude.{◌≡◌, ◌==◌, ◌<◌, ℕ, false, List, None, get_or, length, if◌then◌else◌}
 use Rattle.str0m_formats.specs.declared.codec.Codec.TheVariants.{Rtx, Red}
-use Rattle.str0m_sdp.specs.Prelude.{CodecSpec, FormatParam, PayloadParams, content, has_audio, line_values, new_row}
+use Rattle.str0m_sdp.specs.Prelude.{CodecSpec, FormatParam, PayloadParams, codec_content, has_audio, line_values, new_row}
 use Rattle.str0m_sdp.specs.attribute.Feedback.{empty_feedback, feedback_of, with_feedback}
 use Rattle.str0m_sdp.specs.declared.attribute.MediaAttribute.{MediaAttribute}
 use Rattle.str0m_sdp.specs.declared.section.media_line.MediaLine.{MediaLine}
@@ -18,7 +18,7 @@ abbrev pub row_of : TypeFacts → ℕ → CodecSpec → PayloadParams
 row_of words pt spec =
     with_feedback (get_or words.feedback pt empty_feedback)
     (record (new_row pt (get_or words.rtx pt None) spec) {
-      red = if has_audio (content spec.codec) then get_or words.red pt None else None;
+      red = if has_audio (codec_content spec.codec) then get_or words.red pt None else None;
     })
 
 -- the tables say what the section says

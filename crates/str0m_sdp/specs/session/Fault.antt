@@ -45,13 +45,13 @@ abbrev pub map_fault : List MediaAttribute → List ℕ → ℕ → Option Fault
 map_fault attrs mid pt = mapping_fault (count_by (maps pt) attrs) mid pt
 
 -- another primary type than the first that is named for the payload type
-abbrev pub clash : List ℕ → ℕ → ℕ → Option ℕ → Option Fault
-clash mid pt first None = None
-clash mid pt first (Some other) =
+abbrev pub apt_clash : List ℕ → ℕ → ℕ → Option ℕ → Option Fault
+apt_clash mid pt first None = None
+apt_clash mid pt first (Some other) =
     when (not (other == first)) (Apts (record { mid = mid; pt = pt; first = first; other = other }))
 
 abbrev pub value_fault : List ℕ → ℕ → ℕ → FormatParam → Option Fault
-value_fault mid pt first value = clash mid pt first (apt_of value)
+value_fault mid pt first value = apt_clash mid pt first (apt_of value)
 
 -- the first value of an fmtp line that names one
 abbrev pub values_fault : List ℕ → ℕ → List FormatParam → Option ℕ → Option Fault
@@ -93,8 +93,8 @@ abbrev pub for_mid : List ℕ → List ℕ
 for_mid mid = codes " for mid: " ++ mid
 
 -- a section without a name of its own, by its media type and its protocol
-abbrev pub nameless : MediaLine → List ℕ
-nameless m = media_type_text m.typ ++ (codes " " ++ proto_text m.proto)
+abbrev pub nameless_section : MediaLine → List ℕ
+nameless_section m = media_type_text m.typ ++ (codes " " ++ proto_text m.proto)
 
 abbrev pub clash_text : Clash → List ℕ
 clash_text c =
@@ -102,8 +102,8 @@ clash_text c =
     ++ (codes " and " ++ (decimal c.other ++ for_mid c.mid)))))
 
 abbrev pub fault_text : MediaLine → Fault → List ℕ
-fault_text m MissingMid = codes "Media is missing a=mid: " ++ nameless m
-fault_text m SecondMid = codes "Media has more than one a=mid: " ++ nameless m
+fault_text m MissingMid = codes "Media is missing a=mid: " ++ nameless_section m
+fault_text m SecondMid = codes "Media has more than one a=mid: " ++ nameless_section m
 fault_text m (SecondSetup mid) = codes "Expected 0 or 1 a=setup: line" ++ for_mid mid
 fault_text m (Directions mid) =
     codes "Expected exactly one of a=sendrecv, a=sendonly, a=recvonly, a=inactive" ++ for_mid mid

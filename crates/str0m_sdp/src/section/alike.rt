@@ -1,7 +1,7 @@
 //! Attributes that say the same once they are printed and read.
 
 ghost use Rattle.std.specs.Prelude.{◌≡◌, ◌∷◌, ◌↔◌, [], IsTrue, MatchOption};
-ghost use Rattle.str0m_sdp.specs.section.Alike.{Alike, AlikeLayers, as_read, ids, alike_shown};
+ghost use Rattle.str0m_sdp.specs.section.Alike.{Alike, AlikeLayers, as_read, layer_ids, alike_shown};
 
 use crate::attribute::MediaAttribute;
 use crate::attribute::fmtp::{first_fmtp_shown, is_fmtp_shown};
@@ -67,7 +67,7 @@ fn has_alike_name(layer: &SimulcastLayer, other: &SimulcastLayer) -> bool
 
 /// Whether the layers have the same names, in the same order.
 fn have_alike_names(layers: &[SimulcastLayer], others: &[SimulcastLayer]) -> bool
-    ensures { IsTrue result ↔ (ids layers.now ≡ ids others.now) }
+    ensures { IsTrue result ↔ (layer_ids layers.now ≡ layer_ids others.now) }
 {
     if layers.len() != others.len() {
         return false;

@@ -162,7 +162,7 @@ fn check_apts(attrs: &[MediaAttribute], mid: Mid) -> Result<(), Fault>
 }
 
 /// The first fault of a section, as the error.
-pub(crate) fn check(m: &MediaLine) -> Result<(), Fault>
+pub(crate) fn check_section(m: &MediaLine) -> Result<(), Fault>
     ensures { result ≡ err_if (first_fault m.now) }
 {
     let attrs = m.attrs.as_slice();

@@ -2,7 +2,7 @@
 ghost use Rattle.std.specs.Prelude.{◌≡◌, ◌∷◌, ◌++◌, [], List, OnOk, OnErr, IfOk};
 ghost use Rattle.str0m_sdp.specs.Prelude.{FormatParam};
 ghost use Rattle.str0m_sdp.specs.declared.attribute.MediaAttribute.{MediaAttribute};
-ghost use Rattle.str0m_sdp.specs.section.RowAttributes.{Appends, feedback_line, feedback_attrs, fmtp_line, format_values, format_attrs, rtx_lines, rtx_attrs, red_lines, red_attrs, row_attrs};
+ghost use Rattle.str0m_sdp.specs.section.RowAttributes.{AppendsLines, feedback_line, feedback_attrs, fmtp_line, format_values, format_attrs, rtx_lines, rtx_attrs, red_lines, red_attrs, row_attrs};
 
 use crate::attribute::MediaAttribute;
 use crate::attribute::rtp_map::RtpMap;
@@ -78,7 +78,7 @@ fn one_value_list(alloc: Global, value: FormatParam) -> Result<Vec<FormatParam>,
 
 fn append_feedback(list: &mut Vec<MediaAttribute>, row: &PayloadParams) -> Result<(), AllocError>
     ensures ok { OnOk result (list.new.items ≡ list.old.items ++ feedback_attrs row.now) }
-    ensures begins { Appends list.old.items list.new.items }
+    ensures begins { AppendsLines list.old.items list.new.items }
 {
     let pt = row.pt();
     push_feedback(list, pt, TRANSPORT_CC, row.fb_transport_cc())?;
@@ -118,7 +118,7 @@ fn append_beside(
     value: FormatParam,
 ) -> Result<(), AllocError>
     ensures ok { OnOk result (list.new.items ≡ list.old.items ++ MediaAttribute.RtpMap pt map ∷ (MediaAttribute.Fmtp pt (value ∷ []) ∷ [])) }
-    ensures begins { Appends list.old.items list.new.items }
+    ensures begins { AppendsLines list.old.items list.new.items }
 {
     push_map(list, pt, map)?;
     let values = one_value_list(*list.allocator(), value)?;
@@ -127,7 +127,7 @@ fn append_beside(
 
 fn append_rtx(list: &mut Vec<MediaAttribute>, row: &PayloadParams) -> Result<(), AllocError>
     ensures ok { OnOk result (list.new.items ≡ list.old.items ++ rtx_attrs row.now) }
-    ensures begins { Appends list.old.items list.new.items }
+    ensures begins { AppendsLines list.old.items list.new.items }
 {
     let Some(pt) = row.resend() else {
         return Ok(());
@@ -142,7 +142,7 @@ fn append_rtx(list: &mut Vec<MediaAttribute>, row: &PayloadParams) -> Result<(),
 
 fn append_red(list: &mut Vec<MediaAttribute>, row: &PayloadParams) -> Result<(), AllocError>
     ensures ok { OnOk result (list.new.items ≡ list.old.items ++ red_attrs row.now) }
-    ensures begins { Appends list.old.items list.new.items }
+    ensures begins { AppendsLines list.old.items list.new.items }
 {
     let Some(pt) = row.red() else {
         return Ok(());
@@ -157,9 +157,9 @@ fn append_red(list: &mut Vec<MediaAttribute>, row: &PayloadParams) -> Result<(),
 }
 
 /// Appends as far as there is memory.
-fn append(list: &mut Vec<MediaAttribute>, row: &PayloadParams) -> Result<(), AllocError>
+fn append_row_lines(list: &mut Vec<MediaAttribute>, row: &PayloadParams) -> Result<(), AllocError>
     ensures ok { OnOk result (list.new.items ≡ list.old.items ++ row_attrs row.now) }
-    ensures begins { Appends list.old.items list.new.items }
+    ensures begins { AppendsLines list.old.items list.new.items }
 {
     push_map(list, row.pt(), RtpMap::from(row.spec()))?;
     append_feedback(list, row)?;
@@ -178,7 +178,7 @@ impl AsMediaAttrs for PayloadParams {
 
     fn as_media_attrs(&self, list: &mut Vec<MediaAttribute>) -> Result<(), AllocError> {
         let before = list.len();
-        let appended = append(list, self);
+        let appended = append_row_lines(list, self);
         if appended.is_err() {
             list.truncate(before);
         }

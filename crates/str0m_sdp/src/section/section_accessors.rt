@@ -17,7 +17,7 @@ use crate::attribute::MediaAttribute;
 use crate::attribute::msid::Msid;
 use crate::attribute::setup::Setup;
 use crate::attribute::simulcast::Simulcast;
-use crate::section::consistency::{check, first_mid};
+use crate::section::consistency::{check_section, first_mid};
 use crate::section::media_line::MediaLine;
 use crate::section::section_direction::{direction_place, first_direction};
 use crate::section::sources::Sources;
@@ -265,7 +265,7 @@ impl MediaLine {
         ensures first { IfOk result (λ message. option_map string_bytes message ≡ section_message self.now) }
         ensures takes_no_memory { Consistent self.now → result ≡ Ok None }
     {
-        match check(self) {
+        match check_section(self) {
             Ok(()) => Ok(None),
             Err(fault) => {
                 let section = self;

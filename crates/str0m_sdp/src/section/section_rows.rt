@@ -1,6 +1,6 @@
 //! The rows that a section describes.
 ghost use Rattle.std.specs.Prelude.{◌≡◌, ◌<◌, ◌++◌, [], All, IfOk, OnOk, option_to_list};
-ghost use Rattle.str0m_sdp.specs.Prelude.{IsBounded, content, format_of_fmtp, has_events, has_video, has_audio};
+ghost use Rattle.str0m_sdp.specs.Prelude.{IsBounded, codec_content, format_of_fmtp, has_events, has_video, has_audio};
 ghost use Rattle.str0m_sdp.specs.declared.section.media_line.MediaLine.{MediaLine};
 ghost use Rattle.str0m_sdp.specs.section.SectionRows.{KeepsToLines, fmtps_of, is_kept, row, rows};
 
@@ -109,19 +109,19 @@ impl TypeFacts {
 }
 
 fn is_audio(codec: Codec) -> bool
-    ensures { result ≡ has_audio (content codec) }
+    ensures { result ≡ has_audio (codec_content codec) }
 {
     codec.is_audio()
 }
 
 fn is_video(codec: Codec) -> bool
-    ensures { result ≡ has_video (content codec) }
+    ensures { result ≡ has_video (codec_content codec) }
 {
     codec.is_video()
 }
 
 fn is_events(codec: Codec) -> bool
-    ensures { result ≡ has_events (content codec) }
+    ensures { result ≡ has_events (codec_content codec) }
 {
     codec.is_tele()
 }

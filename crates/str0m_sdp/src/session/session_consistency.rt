@@ -303,7 +303,7 @@ impl Sdp {
     ///
     /// Time grows as that of a sort of the mids, and with the session's length beside: those of more
     /// than sixteen sections, and of a group of more than sixteen mids, are put in an ordered set.
-    #[tactic(auto, using(crate::proofs::session::SessionFaultLaws::contradictions))]
+    #[tactic(auto, using(crate::proofs::session::SessionFaultLaws::session_fault_contradictions))]
     pub fn assert_consistency(&self) -> Result<(), SdpError>
         ensures exact { SaysWhether (ConsistentSdp self.now) result }
         ensures takes_no_memory { AreSectionsFew self.now.media_lines → ConsistentSdp self.now → result ≡ Ok tt }

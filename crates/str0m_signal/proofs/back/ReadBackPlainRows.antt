@@ -2,7 +2,8 @@
 use Rattle.str0m_formats.specs.declared.codec.Codec.TheVariants as codec
 use Rattle.str0m_signal.proofs.Common.{◌≡◌, ◌≢◌, ◌≤◌, ℕ, List, [], ◌∷◌, ◌++◌, IfSome, refl, sym, ◌∙◌, arith, AllByRecursion}
 use Rattle.str0m_signal.proofs.Common.{HoldsRowNumbers, telephone_max, types_of, types, Codec, PayloadParams, values_printed, reads}
-use Rattle.str0m_signal.proofs.Common.{row_attrs, IsPlain, content, other, AllTypesSmall, values_read, format_line_printed, printed_pairs}
+use Rattle.str0m_signal.proofs.Common.{row_attrs, IsPlain, codec_content, other, AllTypesSmall, values_read, format_line_printed}
+use Rattle.str0m_signal.proofs.Common.{printed_pairs}
 use Rattle.str0m_signal.proofs.back.ReadBackRowLines.{ReadAs, IsRateInRange, KeepsToRow, events_read, pairs_row_read}
 use Rattle.str0m_signal.proofs.session.SectionLines.{AreTypes}
 
@@ -16,7 +17,8 @@ plain_each_small [] h = tt
 plain_each_small (n ∷ ns) h = let p = plain_small_first n ns h in (p.0, plain_each_small ns p.1)
 
 -- a row whose codec carries audio, video or events, and whose numbers keep to their ranges
-pub keeps_row : (row : PayloadParams) → AllTypesSmall (types_of row) → content row.spec.codec ≢ other → IsRateInRange row.spec.clock_rate
+pub keeps_row : (row : PayloadParams) → AllTypesSmall (types_of row) → codec_content row.spec.codec ≢ other
+    → IsRateInRange row.spec.clock_rate
     → IfSome row.spec.channels (λ n. n ≤ 255) → KeepsToRow row
 keeps_row row small carried rate channels = grind arith
 

@@ -10,7 +10,8 @@ use Rattle.str0m_signal.proofs.Common.{subst, arith, lit<, AllByRecursion, flat_
 use Rattle.str0m_signal.proofs.Common.{TelephoneEvents, BareRange, BarePtList, Red, PayloadParams, IsSolidPair, joined_pair}
 use Rattle.str0m_signal.proofs.Common.{media_attribute_text, row_attrs, MediaAttribute, Fmtp, reads, feedback_line, feedback_attrs}
 use Rattle.str0m_signal.proofs.Common.{fmtp_line, format_values, format_attrs, rtx_lines, rtx_attrs, red_lines, red_attrs, map_of_spec}
-use Rattle.str0m_signal.proofs.Common.{pairs_line_read, fmtp_lines, red_reads, RtpMap, linked, TRANSPORT_CC, REMB, FIR, NACK, PLI}
+use Rattle.str0m_signal.proofs.Common.{pairs_line_read, fmtp_lines, red_reads, RtpMap, line_linked_texts, TRANSPORT_CC, REMB, FIR, NACK}
+use Rattle.str0m_signal.proofs.Common.{PLI}
 use Rattle.str0m_signal.proofs.form.FmtpPrinted.{AreFmtpPairsShown, apt_printed, list_printed, range_printed, pairs_printed}
 use Rattle.str0m_signal.proofs.form.RtpMapPrinted.{KeepsToMapping, mapping_printed, feedback_printed}
 use Rattle.str0m_signal.proofs.session.AttributesPrinted.{LinesReadAs, one_read, both_read, HoldsNoEnd, no_end}
@@ -98,7 +99,7 @@ module _ (row : PayloadParams) (keeps : KeepsToRow row) where
 -- ---- the lines of a format
 
 pub params_printed : (pt : ℕ) (params : List FormatParam) (pairs : List (List ℕ × List ℕ)) → pt ≤ 127 → AreFmtpPairsShown params
-    → AllByRecursion IsSolidPair pairs → linked (map param_text params) ≡ linked (map joined_pair pairs)
+    → AllByRecursion IsSolidPair pairs → line_linked_texts (map param_text params) ≡ line_linked_texts (map joined_pair pairs)
     → (params ≢ [] → pairs ≢ []) → (params ≡ [] → pairs ≡ [])
     → ReadAs (fmtp_line pt params) (fmtp_lines pt (pairs_line_read pairs))
 params_printed pt params pairs small shown plain e some none = grind (arith, pairs_printed)

@@ -17,14 +17,15 @@ use Rattle.str0m_signal.specs.session.Reader.{Reading}
 
 -- ---- what is read, without what goes with it
 
-plainly : {X : Type 0} (text : X → List ℕ) (F : List ℕ → X → Type 0) (GoesWith : X → X → Type 0) (xs reads : List X)
+printed_plainly : {X : Type 0} (text : X → List ℕ) (F : List ℕ → X → Type 0) (GoesWith : X → X → Type 0) (xs reads : List X)
     → writable.AreReadAs text F GoesWith xs reads → LinesReadAs text F xs reads
-plainly text F GoesWith [] reads h = h
-plainly text F GoesWith (x ∷ xs) reads (inl nothing) = inl (nothing.0, plainly text F GoesWith xs reads nothing.1)
-plainly text F GoesWith (x ∷ xs) reads (inr (read, more, e, line, goes, later)) = grind (arith, plainly text F GoesWith xs more later)
+printed_plainly text F GoesWith [] reads h = h
+printed_plainly text F GoesWith (x ∷ xs) reads (inl nothing) = inl (nothing.0, printed_plainly text F GoesWith xs reads nothing.1)
+printed_plainly text F GoesWith (x ∷ xs) reads (inr (read, more, e, line, goes, later)) = grind
+    (arith, printed_plainly text F GoesWith xs more later)
 
 section_read_as : (m read : MediaLine) → writable.IsMediaReadAs m read → SectionReadAs m read
-section_read_as m read h = grind (arith, plainly)
+section_read_as m read h = grind (arith, printed_plainly)
 
 -- ---- all sections, and another in the place of one
 
@@ -41,14 +42,14 @@ sections_all_read (m ∷ ms) each =
     (one.0 ∷ more.0, (section_read_as m one.0 one.1, one.2, more.1))
 
 -- the sections as they are read, where the i-th is another
-record Placed (ms : List MediaLine) (i : ℕ) (x read : MediaLine) : Type 0 where
+record PlacedSections (ms : List MediaLine) (i : ℕ) (x read : MediaLine) : Type 0 where
   sections : List MediaLine
   are : AreSectionsRead (slice_set ms i x) sections
   at : slice_get sections i ≡ Some read
 
 placed_read : (ms : List MediaLine) (i : ℕ) (section x read : MediaLine) → slice_get ms i ≡ Some section → SectionReadAs x read
     → Consistent read
-    → ((j : ℕ) (m : MediaLine) → slice_get ms j ≡ Some m → j ≢ i → IsReadConsistent m) → Placed ms i x read
+    → ((j : ℕ) (m : MediaLine) → slice_get ms j ≡ Some m → j ≢ i → IsReadConsistent m) → PlacedSections ms i x read
 placed_read [] i section x read e h consistent others = absurd cc
 placed_read (m ∷ ms) zero section x read e h consistent others =
     let more = sections_all_read ms (λ j n f. others (suc j) n f (λ same. absurd (omega (arith, same)))) in
@@ -98,6 +99,7 @@ with_rows_read sdp i w row rows values small media fits each consistent =
       read = read_of sdp w.session.0 sections.sections;
       whole =
           reading_printed (with_rows sdp i w.section theirs) w.session.0 sections.sections small w.bandwidth
-          (plainly session_attribute_text IsSessionLine writable.SessionGoesWith sdp.session.attrs w.session.0 w.session.1) sections.are;
+          (printed_plainly session_attribute_text IsSessionLine writable.SessionGoesWith sdp.session.attrs w.session.0 w.session.1)
+          sections.are;
       at = sections.at;
     }

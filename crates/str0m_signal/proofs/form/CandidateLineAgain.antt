@@ -3,7 +3,8 @@ use Rattle.std.proofs.Math.Nat.{pow-le-pow_right}
 use Rattle.std.proofs.lemmas.Int.Digits.{digits_value-lt}
 use Rattle.str0m_signal.proofs.Common.{rules, ◌≡◌, ◌≢◌, ◌≤◌, ◌<◌, ◌^◌, ℕ, zero, suc, List, [], ◌∷◌, ◌++◌, Option, Some, None, IfSome, refl}
 use Rattle.str0m_signal.proofs.Common.{sym, subst, arith, lit<, lit≤, inl, inr, codes, digit_value, decimal, AllByRecursion}
-use Rattle.str0m_signal.proofs.Common.{IsCandidateText, candidate_text, Parted, Lacks, IsWord, some_is, Lacks-append, address_lacks_both}
+use Rattle.str0m_signal.proofs.Common.{IsCandidateText, candidate_text, PartedAddress, Lacks, IsWord, some_is, Lacks-append}
+use Rattle.str0m_signal.proofs.Common.{address_lacks_both}
 use Rattle.str0m_signal.proofs.Common.{replicate}
 use Rattle.str0m_signal.proofs.Common.{AllDigits, IsOctet, IsHexGroup, IsOneGroup, IsAddressEnd, AreGroups, AreAnyGroups, IsIpText}
 use Rattle.str0m_signal.proofs.Common.{IsSocket}
@@ -39,7 +40,7 @@ candidate_all_small : (limit : ℕ) (xs ys : List ℕ) → AreCandidateNumbersSm
 candidate_all_small limit [] ys h k = k
 candidate_all_small limit (x ∷ xs) ys h k = (h.0, candidate_all_small limit xs ys h.1 k)
 
-octets_small : (text octets : List ℕ) → Parted 46 IsOctet text octets → AreCandidateNumbersSmall (2 ^ 8) octets
+octets_small : (text octets : List ℕ) → PartedAddress 46 IsOctet text octets → AreCandidateNumbersSmall (2 ^ 8) octets
 octets_small text [] h = absurd h
 octets_small text (n ∷ []) h = (h.1, tt)
 octets_small text (n ∷ (m ∷ ms)) h = (h.3.1, octets_small h.1 (m ∷ ms) h.4)
@@ -90,7 +91,7 @@ module _ (c : ℕ) (far : 16 ≤ digit_value c) (no_dot : 46 ≢ c) (no_colon : 
   hex_lack [] h = tt
   hex_lack (x ∷ xs) h = grind (arith, hex_lack xs h.1)
 
-  octets_lack : (text octets : List ℕ) → Parted 46 IsOctet text octets → Lacks c text
+  octets_lack : (text octets : List ℕ) → PartedAddress 46 IsOctet text octets → Lacks c text
   octets_lack text [] h = absurd h
   octets_lack text (n ∷ []) h = subst (Lacks c) (sym h.0) (decimal_lacks c n (omega arith) (omega (arith, h.1)))
   octets_lack text (n ∷ (m ∷ ms)) h =

@@ -1,6 +1,6 @@
 -- Pieces of lines that are printed as they were read: each has its form again, and holds no character that it hadn't.
 use Rattle.str0m_signal.proofs.Common.{◌≤◌, ◌<◌, ◌^◌, ℕ, List, [], ◌∷◌, ◌++◌, refl, sym, subst, arith, inl, digit_value, decimal, join_by}
-use Rattle.str0m_signal.proofs.Common.{append-nil, Parted, Lacks, IsNum, Lacks-append, address_lacks_both}
+use Rattle.str0m_signal.proofs.Common.{append-nil, PartedAddress, Lacks, IsNum, Lacks-append, address_lacks_both}
 use Rattle.str0m_signal.proofs.form.FmtpPrinted.{fmtp_behind_lacks}
 use Rattle.str0m_signal.proofs.session.AttributesPrinted.{num_is, decimal_lacks}
 use Rattle.str0m_signal.specs.form.Forms.{Behind, IsText, TwoParts, IsBeforeDroppedTail}
@@ -47,12 +47,12 @@ module _ {A : Type 0} {F : List ℕ → A → Type 0} {p : A → List ℕ} (agai
         (again.lacks d other h.0 x h.2 (fmtp_behind_lacks d label h.0 whole));
   }
 
-  parted_form : (c : ℕ) (text : List ℕ) (xs : List A) → Parted c F text xs → Parted c F (join_by p (c ∷ []) xs) xs
+  parted_form : (c : ℕ) (text : List ℕ) (xs : List A) → PartedAddress c F text xs → PartedAddress c F (join_by p (c ∷ []) xs) xs
   parted_form c text [] h = absurd h
   parted_form c text (x ∷ []) h = subst (λ (t : List ℕ). F t x) (sym (append-nil (p x))) (again.form text x h)
   parted_form c text (x ∷ (y ∷ ys)) h = grind (arith, parted_form c h.1 (y ∷ ys) h.4)
 
-  parted_text_lacks : (c d : ℕ) → 16 ≤ digit_value d → (text : List ℕ) (xs : List A) → Parted c F text xs → Lacks d text
+  parted_text_lacks : (c d : ℕ) → 16 ≤ digit_value d → (text : List ℕ) (xs : List A) → PartedAddress c F text xs → Lacks d text
       → Lacks d (join_by p (c ∷ []) xs)
   parted_text_lacks c d other text [] h lacks = absurd h
   parted_text_lacks c d other text (x ∷ []) h lacks = grind (arith, append-nil)
@@ -62,5 +62,5 @@ module _ {A : Type 0} {F : List ℕ → A → Type 0} {p : A → List ℕ} (agai
       address_lacks_both d (p x) (c ∷ join_by p (c ∷ []) (y ∷ ys)) (again.lacks d other h.0 x h.3 (Lacks-append d h.0 (c ∷ h.1) whole))
       (behind.0, parted_text_lacks c d other h.1 (y ∷ ys) h.4 behind.1)
 
-  pub parted_again : (c : ℕ) → Again (Parted c F) (join_by p (c ∷ []))
+  pub parted_again : (c : ℕ) → Again (PartedAddress c F) (join_by p (c ∷ []))
   parted_again c = record { form = parted_form c; lacks = λ d. parted_text_lacks c d }

@@ -3,12 +3,14 @@ use Rattle.str0m_signal.proofs.Common.{num_both, ◌≡◌, ◌≤◌, ◌<◌, 
 use Rattle.str0m_signal.proofs.Common.{inr, digit_value, decimal, attribute_line}
 use Rattle.str0m_signal.proofs.form.FormLaws.{text_both, form_two_both, form_tailed_both}
 use Rattle.str0m_signal.proofs.form.FormPiecesAgain.{Again, text_again, num_again, two_again, tailed_again, behind_again}
-use Rattle.str0m_signal.proofs.form.FormTableLaws.{Readable, Lawful, AllOfForms, labelled_lawful, words_lawful, all_labelled_lawful}
+use Rattle.str0m_signal.proofs.form.FormTableLaws.{ReadablePiece, LawfulForm, AllOfForms, labelled_lawful, words_lawful}
+use Rattle.str0m_signal.proofs.form.FormTableLaws.{all_labelled_lawful}
 use Rattle.str0m_signal.proofs.form.FormTableLaws.{forms_apart}
 use Rattle.str0m_signal.proofs.form.FormTableLaws.{heads_same, form_tail_is}
 use Rattle.str0m_signal.proofs.line.WordsCharacterStarts.{StartsWithin}
 use Rattle.str0m_signal.proofs.session.AttributesPrinted.{HoldsNoEnd}
-use Rattle.str0m_signal.specs.form.FormTable.{Piece, Form, word, word_forms_of, any_word_form, made_as, labelled, labelled_by, any_form}
+use Rattle.str0m_signal.specs.form.FormTable.{Piece, Form, word, word_forms_of, any_word_form, made_as, labelled_form, labelled_by}
+use Rattle.str0m_signal.specs.form.FormTable.{any_form}
 use Rattle.str0m_signal.specs.form.FormTable.{a_text, number}
 use Rattle.str0m_signal.specs.form.FormTable.{two_pieces, two_texts, tailed_piece, form_led_by}
 
@@ -16,7 +18,7 @@ use Rattle.str0m_signal.specs.form.FormTable.{two_pieces, two_texts, tailed_piec
 
 -- a piece is read exactly where it holds, and printed as it was read
 pub record KeptPiece {B : Type 0} (piece : Piece B) (print : B → List ℕ) : Type 0 where
-  pub reads : Readable piece
+  pub reads : ReadablePiece piece
   pub again : Again piece.Is print
 
 pub text_kept : KeptPiece a_text (λ x. x)
@@ -51,7 +53,7 @@ pub record PrintsAgain {A : Type 0} (Fits : A → Type 0) (line : A → List ℕ
 
 -- and it is read exactly where it holds
 pub record WholeForm {A : Type 0} (Fits : A → Type 0) (line : A → List ℕ) (test : A → Bool) (form : Form A) : Type 0 where
-  pub lawful : Lawful form
+  pub lawful : LawfulForm form
   pub prints : PrintsAgain Fits line test form
 
 pub laws_of : {X : Type 1} (P Q : X → Type 0) → ((x : X) → P x → Q x) → (xs : List X) → AllOfForms P xs → AllOfForms Q xs
@@ -71,12 +73,12 @@ module _ {A : Type 0} {Fits : A → Type 0} {line : A → List ℕ} {test : A �
     passes = λ text attr h. subst (λ (a : A). test a ≡ true) (sym h.2) (passes h.0);
   }
 
-  pub form_entire : {form : Form A} → Lawful form → PrintsAgain Fits line test form → WholeForm Fits line test form
+  pub form_entire : {form : Form A} → LawfulForm form → PrintsAgain Fits line test form → WholeForm Fits line test form
   form_entire lawful prints = record { lawful = lawful; prints = prints }
 
   pub labelled_whole : {B : Type 0} {piece : Piece B} {print : B → List ℕ} (label : List ℕ) (make : B → A) → KeptPiece piece print
       → ((x : B) → line (make x) ≡ attribute_line (label ++ print x)) → ((x : B) → test (make x) ≡ true)
-      → WholeForm Fits line test (labelled label piece make)
+      → WholeForm Fits line test (labelled_form label piece make)
   labelled_whole {piece} {print} label make kept prints passes =
       let behind = behind_again kept.again label in
       form_entire (labelled_lawful label make kept.reads)

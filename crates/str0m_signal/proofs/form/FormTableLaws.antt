@@ -4,15 +4,15 @@ use Rattle.str0m_signal.proofs.Common.{refl, sym, ap, ◌∙◌, inl, inr, list_
 use Rattle.str0m_signal.proofs.Common.{false≢true, bytes_eq-Decides, ◌<|>◌, or_some, when_some, num_when_true, append_assoc, append-nil}
 use Rattle.str0m_signal.proofs.Common.{if◌then◌else◌, reads_none, Reads}
 use Rattle.str0m_signal.proofs.form.FormLaws.{form_behind_both}
-use Rattle.str0m_signal.specs.form.FormTable.{Piece, Form, own, made_as, labelled, word, AnyOfForms, labels_of, first_read, any_form}
+use Rattle.str0m_signal.specs.form.FormTable.{Piece, Form, own, made_as, labelled_form, word, AnyOfForms, labels_of, first_read, any_form}
 use Rattle.str0m_signal.specs.form.FormTable.{word_forms_of}
 use Rattle.str0m_signal.specs.form.FormTable.{any_word_form, labelled_by, IsUnused, unused_read, first_byte, form_begins_with}
 use Rattle.str0m_signal.specs.form.FormTable.{forms_beginning}
 use Rattle.str0m_signal.specs.form.FormTable.{letter_read}
 use Rattle.str0m_signal.specs.form.FormTable.{by_letter}
 
-abbrev pub Readable : {A : Type 0} → Piece A → Type 0
-Readable piece = Reads piece.Is piece.read
+abbrev pub ReadablePiece : {A : Type 0} → Piece A → Type 0
+ReadablePiece piece = Reads piece.Is piece.read
 
 abbrev pub AllOfForms {ℓ} : {X : Type ℓ} → (X → Type 0) → List X → Type 0
 AllOfForms P [] = Unit {0}
@@ -28,14 +28,14 @@ abbrev pub HasLabel : List ℕ → List (List ℕ) → Type 0
 HasLabel text labels = AnyOfForms (λ label. (rest : List ℕ) × (text ++ (10 ∷ []) ≡ label ++ rest)) labels
 
 -- a form reads exactly what it is, and its texts begin with its labels
-pub record Lawful {A : Type 0} (form : Form A) : Type 0 where
+pub record LawfulForm {A : Type 0} (form : Form A) : Type 0 where
   pub reads : Reads form.Is form.read
   pub begins : (text : List ℕ) (x : A) → form.Is text x → HasLabel text form.labels
 
 -- ---- single forms
 
 pub own_lawful : {A : Type 0} (label : List ℕ) {Is : List ℕ → A → Type 0} {read : List ℕ → Option A} → Reads Is read
-    → ((text : List ℕ) (x : A) → Is text x → (body : List ℕ) × (text ≡ label ++ body)) → Lawful (own label Is read)
+    → ((text : List ℕ) (x : A) → Is text x → (body : List ℕ) × (text ≡ label ++ body)) → LawfulForm (own label Is read)
 own_lawful label reads begins = record {
   reads = reads;
   begins = λ text x h.
@@ -43,13 +43,14 @@ own_lawful label reads begins = record {
       inl (b.0 ++ (10 ∷ []), ap (λ (t : List ℕ). t ++ (10 ∷ [])) b.1 ∙ append_assoc label b.0 (10 ∷ []));
 }
 
-pub made_lawful : {A B : Type 0} {form : Form A} (make : A → B) → Lawful form → Lawful (made_as form make)
+pub made_lawful : {A B : Type 0} {form : Form A} (make : A → B) → LawfulForm form → LawfulForm (made_as form make)
 made_lawful {A} {B} {form} make law = grind arith
 
-pub labelled_lawful : {A B : Type 0} {piece : Piece A} (label : List ℕ) (make : A → B) → Readable piece → Lawful (labelled label piece make)
+pub labelled_lawful : {A B : Type 0} {piece : Piece A} (label : List ℕ) (make : A → B) → ReadablePiece piece
+    → LawfulForm (labelled_form label piece make)
 labelled_lawful label make reads = made_lawful make (own_lawful label (form_behind_both label reads) (λ text x h. (h.0, h.1)))
 
-word_lawful : {A : Type 0} (name : List ℕ) (x : A) → Lawful (word name x)
+word_lawful : {A : Type 0} (name : List ℕ) (x : A) → LawfulForm (word name x)
 word_lawful name x = grind (arith, when_some, bytes_eq-Decides, num_when_true, append-nil)
 
 pub unused_reads : {A : Type 0} (make : List ℕ → A) → Reads (IsUnused make) (unused_read make)
@@ -110,7 +111,7 @@ form_begins_either (a ∷ ls) ms text (inl (inr h)) = inr (form_begins_either ls
 form_begins_either (a ∷ ls) ms text (inr h) = inr (form_begins_either ls ms text (inr h))
 
 module _ {A : Type 0} where
-  any_sound : (forms : List (Form A)) → AllOfForms Lawful forms → (text : List ℕ) (x : A) → first_read forms text ≡ Some x
+  any_sound : (forms : List (Form A)) → AllOfForms LawfulForm forms → (text : List ℕ) (x : A) → first_read forms text ≡ Some x
       → (any_form forms).Is text x
   any_sound [] laws text x e = absurd cc
   any_sound (form ∷ forms) laws text x e = elim (or_some (form.read text) (first_read forms text) x (sym (next_form form forms text) ∙ e)) [
@@ -118,14 +119,14 @@ module _ {A : Type 0} where
     | inr h ↦ inr (any_sound forms laws.1 text x h.1)
   ]
 
-  form_any_begins : (forms : List (Form A)) → AllOfForms Lawful forms → (text : List ℕ) (x : A) → (any_form forms).Is text x
+  form_any_begins : (forms : List (Form A)) → AllOfForms LawfulForm forms → (text : List ℕ) (x : A) → (any_form forms).Is text x
       → HasLabel text (labels_of forms)
   form_any_begins [] laws text x h = absurd h
   form_any_begins (form ∷ forms) laws text x (inl h) = form_begins_either form.labels (labels_of forms) text (inl (laws.0.begins text x h))
   form_any_begins (form ∷ forms) laws text x (inr h) = form_begins_either form.labels (labels_of forms) text
       (inr (form_any_begins forms laws.1 text x h))
 
-  form_any_complete : (forms : List (Form A)) → AllOfForms Lawful forms → forms_apart forms ≡ true → (text : List ℕ) (x : A)
+  form_any_complete : (forms : List (Form A)) → AllOfForms LawfulForm forms → forms_apart forms ≡ true → (text : List ℕ) (x : A)
       → (any_form forms).Is text x
       → first_read forms text ≡ Some x
   form_any_complete [] laws far text x h = absurd h
@@ -137,24 +138,24 @@ module _ {A : Type 0} where
       (form_any_begins forms laws.1 text x h)) in
       next_form form forms text ∙ rw none (form_any_complete forms laws.1 parts.1 text x h)
 
-  pub any_lawful : (forms : List (Form A)) → AllOfForms Lawful forms → forms_apart forms ≡ true → Lawful (any_form forms)
+  pub any_lawful : (forms : List (Form A)) → AllOfForms LawfulForm forms → forms_apart forms ≡ true → LawfulForm (any_form forms)
   any_lawful forms laws far = grind (arith, any_sound, form_any_complete, form_any_begins)
 
-  words_lawful_each : (rows : List (List ℕ × A)) → AllOfForms Lawful (word_forms_of rows)
+  words_lawful_each : (rows : List (List ℕ × A)) → AllOfForms LawfulForm (word_forms_of rows)
   words_lawful_each [] = tt
   words_lawful_each (row ∷ rows) = (word_lawful row.0 row.1, words_lawful_each rows)
 
-  pub words_lawful : (rows : List (List ℕ × A)) → forms_apart (word_forms_of rows) ≡ true → Lawful (any_word_form rows)
+  pub words_lawful : (rows : List (List ℕ × A)) → forms_apart (word_forms_of rows) ≡ true → LawfulForm (any_word_form rows)
   words_lawful rows far = any_lawful (word_forms_of rows) (words_lawful_each rows) far
 
-  labelled_each : {B : Type 0} (piece : Piece B) → Readable piece → (rows : List (List ℕ × (B → A)))
-      → AllOfForms Lawful (labelled_by piece rows)
+  labelled_each : {B : Type 0} (piece : Piece B) → ReadablePiece piece → (rows : List (List ℕ × (B → A)))
+      → AllOfForms LawfulForm (labelled_by piece rows)
   labelled_each piece reads [] = tt
   labelled_each piece reads (row ∷ rows) = (labelled_lawful row.0 row.1 reads, labelled_each piece reads rows)
 
-  pub all_labelled_lawful : {B : Type 0} (piece : Piece B) → Readable piece → (rows : List (List ℕ × (B → A)))
+  pub all_labelled_lawful : {B : Type 0} (piece : Piece B) → ReadablePiece piece → (rows : List (List ℕ × (B → A)))
       → forms_apart (labelled_by piece rows) ≡ true
-      → Lawful (any_form (labelled_by piece rows))
+      → LawfulForm (any_form (labelled_by piece rows))
   all_labelled_lawful piece reads rows far = any_lawful (labelled_by piece rows) (labelled_each piece reads rows) far
 
 -- ---- the look at the first letter
@@ -186,14 +187,14 @@ start_in letters [] = true
 start_in letters (form ∷ forms) = list_all (starts_in letters) form.labels && start_in letters forms
 
 module _ {A : Type 0} (letters text : List ℕ) where
-  form_not_asked : (form : Form A) → Lawful form → list_all (starts_in letters) form.labels ≡ true
+  form_not_asked : (form : Form A) → LawfulForm form → list_all (starts_in letters) form.labels ≡ true
       → (form_letter_is_in (first_byte text) letters ≡ false) ⊎ (form_begins_with (first_byte text) form.labels ≡ false)
       → form.read text ≡ None
   form_not_asked form law within other = reads_none law.reads text (λ x h.
       let both = letter_in letters form.labels text within (law.begins text x h) in
       elim other [ inl e ↦ false≢true (sym e ∙ both.0) | inr e ↦ false≢true (sym e ∙ both.1) ])
 
-  letter_asked : (forms : List (Form A)) → AllOfForms Lawful forms → start_in letters forms ≡ true
+  letter_asked : (forms : List (Form A)) → AllOfForms LawfulForm forms → start_in letters forms ≡ true
       → letter_read forms (first_byte text) text ≡ first_read forms text
   letter_asked [] laws within = refl
   letter_asked (form ∷ forms) laws within =
@@ -204,7 +205,7 @@ module _ {A : Type 0} (letters text : List ℕ) where
         | inr not ↦ rw not (more ∙ sym (next_form form forms text ∙ rw (form_not_asked form laws.0 parts.0 (inr not)) refl))
       ]
 
-  form_none_asked : (forms : List (Form A)) → AllOfForms Lawful forms → start_in letters forms ≡ true
+  form_none_asked : (forms : List (Form A)) → AllOfForms LawfulForm forms → start_in letters forms ≡ true
       → form_letter_is_in (first_byte text) letters ≡ false
       → first_read forms text ≡ None
   form_none_asked [] laws within e = refl
@@ -223,7 +224,7 @@ module _ {A : Type 0} (letters text : List ℕ) where
   form_letter_unknown (l ∷ ls) forms c e = grind (arith, cases_eq, eq-eqb, ne_eqb, form_letter_unknown ls forms c)
 
   -- the look at the first letter changes nothing
-  by_letter_is : (forms : List (Form A)) → AllOfForms Lawful forms → start_in letters forms ≡ true
+  by_letter_is : (forms : List (Form A)) → AllOfForms LawfulForm forms → start_in letters forms ≡ true
       → by_letter letters forms (first_byte text) text ≡ first_read forms text
   by_letter_is forms laws within = elim (cases_Bool (form_letter_is_in (first_byte text) letters)) [
     | inl is ↦ letter_chosen letters forms (first_byte text) is ∙ letter_asked forms laws within
@@ -231,9 +232,9 @@ module _ {A : Type 0} (letters text : List ℕ) where
   ]
 
 -- so the table is read, whichever letter is asked
-pub lettered : {A : Type 0} (letters : List ℕ) (forms : List (Form A)) → AllOfForms Lawful forms → forms_apart forms ≡ true
+pub table_lettered : {A : Type 0} (letters : List ℕ) (forms : List (Form A)) → AllOfForms LawfulForm forms → forms_apart forms ≡ true
     → start_in letters forms ≡ true → Reads (any_form forms).Is (λ text. by_letter letters forms (first_byte text) text)
-lettered letters forms laws far within = record {
+table_lettered letters forms laws far within = record {
   sound = λ text x e. any_sound forms laws text x (sym (by_letter_is letters text forms laws within) ∙ e);
   complete = λ text x h. by_letter_is letters text forms laws within ∙ form_any_complete forms laws far text x h;
 }

@@ -7,7 +7,7 @@ use Rattle.str0m_sdp.specs.declared.label.TheConstants as label
 use Rattle.str0m_signal.proofs.Common.{arith, ◌≡◌, ◌⊎◌, ◌≤◌, ℕ, Bool, true, false, false≢true, List, [], ◌∷◌, ◌++◌, Option, Some, IfSome}
 use Rattle.str0m_signal.proofs.Common.{refl, ap, ◌∙◌, subst, sym, lit<, lit≤, inl, inr, codes, printed_and_read, Codec}
 use Rattle.str0m_signal.proofs.Common.{media_attribute_text, is_fmtp_shown, attribute_line, KeepsToLine, setup_text, MediaAttribute, Fmtp}
-use Rattle.str0m_signal.proofs.Common.{RestrictionId, SimulcastLayer, candidate_text, candidate_both, IsCandidateText, Parted}
+use Rattle.str0m_signal.proofs.Common.{RestrictionId, SimulcastLayer, candidate_text, candidate_both, IsCandidateText, PartedAddress}
 use Rattle.str0m_signal.proofs.Common.{IsLongestBeginning, decimal, join_by, length, ltb-true, Lacks, IsNum, is_rest, text_beginning_of}
 use Rattle.str0m_signal.proofs.Common.{beginning_is, beginning_only, lacks_from, num_rest_true, when_some, num_when_true, IsReadAs, RtpMap}
 use Rattle.str0m_signal.proofs.Common.{Simulcast, filter, sides_text, unless_munged, Fingerprint, Setup, Mid, Candidate, SsrcGroup, Unused}
@@ -23,7 +23,7 @@ use Rattle.str0m_signal.proofs.form.FormTableAgain.{text_kept}
 use Rattle.str0m_signal.proofs.form.FormTableAgain.{number_kept, two_pieces_kept, pair_kept, tailed_piece_kept, labelled_whole}
 use Rattle.str0m_signal.proofs.form.FormTableAgain.{form_words_whole}
 use Rattle.str0m_signal.proofs.form.FormTableAgain.{all_labelled_whole, any_again}
-use Rattle.str0m_signal.proofs.form.FormTableLaws.{Readable, Lawful, AllOfForms, ◌also◌, own_lawful, labelled_lawful, made_lawful}
+use Rattle.str0m_signal.proofs.form.FormTableLaws.{ReadablePiece, LawfulForm, AllOfForms, ◌also◌, own_lawful, labelled_lawful, made_lawful}
 use Rattle.str0m_signal.proofs.form.RidAgain.{IsUntypedRid, rid_again, sides_words, sides_form, sides_lack}
 use Rattle.str0m_signal.proofs.form.RidLaws.{rid_fields_both}
 use Rattle.str0m_signal.proofs.form.RtpMapPrinted.{mapping_printed}
@@ -34,7 +34,7 @@ use Rattle.str0m_signal.proofs.line.WordsLaws.{hex_pairs_both, sources_both}
 use Rattle.str0m_signal.proofs.session.AttributesPrinted.{HoldsNoEnd, no_end, no_ends, line_printed, attribute_printed}
 use Rattle.str0m_signal.specs.back.Writable.{IsPrintedAs}
 use Rattle.str0m_signal.specs.back.WritableAgain.{FitsAgain, NamesNoTypes}
-use Rattle.str0m_signal.specs.form.FormTable.{Form, any_form, form_led_by, two_pieces, parted, a_text, number}
+use Rattle.str0m_signal.specs.form.FormTable.{Form, any_form, form_led_by, two_pieces, parted_piece, a_text, number}
 use Rattle.str0m_signal.specs.form.FormTransport.{candidate, fingerprint, role}
 use Rattle.str0m_signal.specs.form.Forms.{Behind, IsText, TwoParts}
 use Rattle.str0m_signal.specs.form.MediaAttribute.{media_texts, media_pairs, name, mid, ssrc_group, rid, simulcast, other_forms}
@@ -64,10 +64,10 @@ role_kept = record {
   again = record { form = λ text setup h. refl; lacks = λ c far text setup h lacks. subst (Lacks c) h lacks };
 }
 
-pub candidate_lawful : Lawful candidate
+pub candidate_lawful : LawfulForm candidate
 candidate_lawful = own_lawful candidate_label.CANDIDATE.now candidate_both candidate_begins
 
-pub fingerprint_lawful : Lawful fingerprint
+pub fingerprint_lawful : LawfulForm fingerprint
 fingerprint_lawful = labelled_lawful _ _ (form_two_both 32 text_both hex_pairs_both)
 
 pub candidate_back : {Fits : Type 0} (text : List ℕ) (candidate : TheCandidate) → HoldsNoEnd text → StartsWithin 3 text → Fits
@@ -89,7 +89,7 @@ printed_fingerprint text hash quiet starts fits (p, h, e) =
     made : TheFingerprint
     made = record { hash_func = p.0; bytes = p.1 }
 
-    whole : Again (Behind label.FINGERPRINT.now (TwoParts 32 IsText (Parted 58 IsHexPair)))
+    whole : Again (Behind label.FINGERPRINT.now (TwoParts 32 IsText (PartedAddress 58 IsHexPair)))
         (λ p. label.FINGERPRINT.now ++ fingerprint_pair p)
     whole = behind_again hash_again label.FINGERPRINT.now
 
@@ -118,7 +118,7 @@ OtherAgain = PrintsAgain FitsAgain media_attribute_text media_is_other
 abbrev pub OtherForm : Form MediaAttribute → Type 0
 OtherForm = WholeForm FitsAgain media_attribute_text media_is_other
 
-name_readable : Readable name
+name_readable : ReadablePiece name
 name_readable = record {
   sound = λ text mid e. let w = when_some (is_rest text) (text_beginning_of 16 text) mid e in
       rw (← w.1) (ltb-true 0 (length text) w.0, beginning_is 16 text);
@@ -215,11 +215,12 @@ sources_line semantics ssrcs = label.SSRC_GROUP.now ++ (semantics ++ (32 ∷ joi
 ssrc_group_comes_back : OtherAgain ssrc_group
 ssrc_group_comes_back =
     let whole = behind_again (two_again 32 (lit≤ tt) text_again (parted_again (num_again 4294967295 (lit< tt)) 32)) label.SSRC_GROUP.now in
-    made_again (form_led_by label.SSRC_GROUP.now (two_pieces 32 a_text (parted 32 (number 4294967295)))) _ _
+    made_again (form_led_by label.SSRC_GROUP.now (two_pieces 32 a_text (parted_piece 32 (number 4294967295)))) _ _
     (λ text p quiet starts fits h. (whole.form text p h, quiet_again whole text p quiet h)) (λ p h. shows p.0 p.1 h) (λ _. refl)
   where
     shows : (semantics ssrcs : List ℕ)
-        → Behind label.SSRC_GROUP.now (TwoParts 32 IsText (Parted 32 (IsNum 4294967295))) (sources_line semantics ssrcs) (semantics, ssrcs)
+        → Behind label.SSRC_GROUP.now (TwoParts 32 IsText (PartedAddress 32 (IsNum 4294967295))) (sources_line semantics ssrcs)
+        (semantics, ssrcs)
         → media_attribute_text (SsrcGroup semantics ssrcs) ≡ attribute_line (sources_line semantics ssrcs)
     shows semantics [] h = absurd h.2.5
     shows semantics (ssrc ∷ ssrcs) h = refl

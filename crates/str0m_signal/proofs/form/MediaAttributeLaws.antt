@@ -2,18 +2,18 @@
 use Rattle.str0m_signal.proofs.Common.{refl, reads_first, Reads, Unused}
 use Rattle.str0m_signal.proofs.form.FmtpLaws.{fmtp_fields_both}
 use Rattle.str0m_signal.proofs.form.FormTableAgain.{laws_of}
-use Rattle.str0m_signal.proofs.form.FormTableLaws.{Lawful, AllOfForms, ◌also◌, own_lawful, made_lawful, unused_reads, lettered}
+use Rattle.str0m_signal.proofs.form.FormTableLaws.{LawfulForm, AllOfForms, ◌also◌, own_lawful, made_lawful, unused_reads, table_lettered}
 use Rattle.str0m_signal.proofs.form.MediaAttributeAgain.{OtherForm, other_laws}
 use Rattle.str0m_signal.proofs.form.RtpMapLaws.{rtpmap_fields_both}
 use Rattle.str0m_signal.proofs.line.LinesLaws.{attribute_both}
 use Rattle.str0m_signal.specs.form.MediaAttribute.{other_forms, media_forms, letters, IsMediaLine, media_read}
 use Rattle.str0m_signal.specs.line.LinesReading.{read_attribute}
 
-media_laws : AllOfForms Lawful media_forms
+media_laws : AllOfForms LawfulForm media_forms
 media_laws =
     made_lawful _ (own_lawful _ rtpmap_fields_both (λ text p h. (_, h.joined)))
     also made_lawful _ (own_lawful _ fmtp_fields_both (λ text p h. (_, h.joined)))
-    also laws_of OtherForm Lawful (λ form law. law.lawful) other_forms other_laws
+    also laws_of OtherForm LawfulForm (λ form law. law.lawful) other_forms other_laws
 
 pub media_line_both : Reads IsMediaLine (read_attribute media_read)
-media_line_both = attribute_both (reads_first (lettered letters media_forms media_laws refl refl) (unused_reads Unused))
+media_line_both = attribute_both (reads_first (table_lettered letters media_forms media_laws refl refl) (unused_reads Unused))

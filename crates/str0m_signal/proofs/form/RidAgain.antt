@@ -2,7 +2,8 @@
 use Rattle.str0m_sdp.specs.attribute.Rid.{restriction_text, pts_part, restrictions_part}
 use Rattle.str0m_signal.proofs.Common.{rules, ◌≡◌, ◌≢◌, ◌≤◌, ℕ, List, [], ◌∷◌, ◌++◌, refl, sym, subst, ap, ◌∙◌, arith, lit<, lit≤, inl, inr}
 use Rattle.str0m_signal.proofs.Common.{codes, digit_value, decimal, join_by, append_assoc, append-nil, RestrictionId, SimulcastLayer}
-use Rattle.str0m_signal.proofs.Common.{Parted, Lacks, IsRest, IsPt, Lacks-append, address_lacks_both, id_text, layer_text, layers_text}
+use Rattle.str0m_signal.proofs.Common.{PartedAddress, Lacks, IsRest, IsPt, Lacks-append, address_lacks_both, id_text, layer_text}
+use Rattle.str0m_signal.proofs.Common.{layers_text}
 use Rattle.str0m_signal.proofs.form.FmtpPrinted.{fmtp_behind_lacks}
 use Rattle.str0m_signal.proofs.form.FormPiecesAgain.{Again, num_again, two_again, behind_again, parted_again}
 use Rattle.str0m_signal.proofs.line.PartLaws.{cons_parts}
@@ -20,7 +21,7 @@ restriction_again = grind (arith, fmtp_behind_lacks)
 abbrev pub restrictions_text : List (List ℕ × List ℕ) → List ℕ
 restrictions_text pairs = join_by restriction_text (codes ";") pairs
 
-restrictions_again : Again (Parted 59 IsRestriction) restrictions_text
+restrictions_again : Again (PartedAddress 59 IsRestriction) restrictions_text
 restrictions_again = parted_again restriction_again 59
 
 restrictions_form : (text : List ℕ) (pairs : List (List ℕ × List ℕ)) → AreRestrictions text pairs
@@ -57,7 +58,8 @@ rid_join_first pair pairs = go (join_rest pairs)
         → (more : List ℕ) × (restrictions_text (pair ∷ pairs) ≡ pair.0 ++ (codes "=" ++ more))
     go h = (pair.1 ++ h.0, h.1 ∙ simp (append_assoc))
 
-rid_first_key : (text : List ℕ) (pair : List ℕ × List ℕ) (pairs : List (List ℕ × List ℕ)) → Parted 59 IsRestriction text (pair ∷ pairs)
+rid_first_key : (text : List ℕ) (pair : List ℕ × List ℕ) (pairs : List (List ℕ × List ℕ))
+    → PartedAddress 59 IsRestriction text (pair ∷ pairs)
     → IsFmtpKey pair.0
 rid_first_key text pair pairs h = grind arith
 
@@ -68,7 +70,7 @@ no_label text (pair ∷ pairs) h named rest e = grind (arith, rid_join_first pai
 
 -- ---- rids
 
-pts_again : Again (Parted 44 IsPt) (join_by decimal (codes ","))
+pts_again : Again (PartedAddress 44 IsPt) (join_by decimal (codes ","))
 pts_again = parted_again (num_again 127 (lit< tt)) 44
 
 abbrev pub more_text : List ℕ × List (List ℕ × List ℕ) → List ℕ
@@ -78,9 +80,9 @@ more_text lists = pts_part lists.0 ++ restrictions_part lists.0 lists.1
 typed_form : (text : List ℕ) (n : ℕ) (ns : List ℕ) (pairs : List (List ℕ × List ℕ)) → AreTyped text (n ∷ ns, pairs)
     → AreTyped (join_by decimal (codes ",") (n ∷ ns) ++ restrictions_part (n ∷ ns) pairs) (n ∷ ns, pairs)
 typed_form text n ns [] (inl h) =
-    inl (subst (λ (t : List ℕ). Parted 44 IsPt t (n ∷ ns)) (sym (append-nil _)) (pts_again.form text (n ∷ ns) h.0), refl)
+    inl (subst (λ (t : List ℕ). PartedAddress 44 IsPt t (n ∷ ns)) (sym (append-nil _)) (pts_again.form text (n ∷ ns) h.0), refl)
 typed_form text n ns [] (inr h) =
-    inl (subst (λ (t : List ℕ). Parted 44 IsPt t (n ∷ ns)) (sym (append-nil _)) (pts_again.form h.0 (n ∷ ns) h.4), refl)
+    inl (subst (λ (t : List ℕ). PartedAddress 44 IsPt t (n ∷ ns)) (sym (append-nil _)) (pts_again.form h.0 (n ∷ ns) h.4), refl)
 typed_form text n ns (pair ∷ pairs) (inl h) = absurd (let e = h.1 in cc)
 typed_form text n ns (pair ∷ pairs) (inr h) =
     inr (
@@ -178,7 +180,8 @@ both_again first second = behind_again (two_again 32 (lit≤ tt) side_again (beh
 -- ---- sides
 
 -- no name of a layer holds a space
-rid_stream_name_lacks : (text : List ℕ) (id : RestrictionId) (others : List RestrictionId) → Parted 44 IsAlternative text (id ∷ others)
+rid_stream_name_lacks : (text : List ℕ) (id : RestrictionId) (others : List RestrictionId)
+    → PartedAddress 44 IsAlternative text (id ∷ others)
     → Lacks 32 (id_text id)
 rid_stream_name_lacks text id others h = grind arith
 

@@ -1,6 +1,7 @@
 -- The line of a stream that may be restricted is read exactly where its form holds.
 use Rattle.str0m_signal.proofs.Common.{◌≡◌, ℕ, suc, ◌<◌, List, [], ◌∷◌, ◌++◌, length, Option, Some, None, refl, sym, ap, subst, ◌∙◌, arith}
-use Rattle.str0m_signal.proofs.Common.{inl, inr, length-append, codes, some_pair_parts, none-some, append-nil, ◌>>=◌, cut, strip, Parted}
+use Rattle.str0m_signal.proofs.Common.{inl, inr, length-append, codes, some_pair_parts, none-some, append-nil, ◌>>=◌, cut, strip}
+use Rattle.str0m_signal.proofs.Common.{PartedAddress}
 use Rattle.str0m_signal.proofs.Common.{Lacks, IsPt, bind_some, some_is, cut_none, cut_at, cut_found, strip_at, strip_found, when_some}
 use Rattle.str0m_signal.proofs.Common.{number_lacks, num_rest_true, num_both, Reads, append_assoc, strip_none, Pairs}
 use Rattle.str0m_signal.proofs.form.FmtpLaws.{fmtp_value_found, fmtp_key_found, fmtp_key_given, fmtp_skips_blanks, starts_kept, key_starts}
@@ -101,23 +102,23 @@ restriction_shorter text pair more e = grind (arith, restriction_found text pair
 
 -- ---- restrictions
 
-found_parted : (pairs : Pairs) (text : List ℕ) → ArePairsOneByOne RidPairStands text pairs → Parted 59 IsRestriction text pairs
+found_parted : (pairs : Pairs) (text : List ℕ) → ArePairsOneByOne RidPairStands text pairs → PartedAddress 59 IsRestriction text pairs
 found_parted [] text h = h
 found_parted (p ∷ []) text h = h
 found_parted (p ∷ (q ∷ qs)) text h = (h.1.0, h.0, h.1.1, h.1.2, found_parted (q ∷ qs) h.0 h.2)
 
-parted_stands : (pairs : Pairs) (text : List ℕ) → Parted 59 IsRestriction text pairs → ArePairsOneByOne RidPairStands text pairs
+parted_stands : (pairs : Pairs) (text : List ℕ) → PartedAddress 59 IsRestriction text pairs → ArePairsOneByOne RidPairStands text pairs
 parted_stands [] text h = h
 parted_stands (p ∷ []) text h = h
 parted_stands (p ∷ (q ∷ qs)) text h = (h.1, (h.0, h.2, h.3), parted_stands (q ∷ qs) h.1 h.4)
 
-restrictions_found : (text : List ℕ) (pairs : Pairs) → restrictions_read text ≡ Some pairs → Parted 59 IsRestriction text pairs
+restrictions_found : (text : List ℕ) (pairs : Pairs) → restrictions_read text ≡ Some pairs → PartedAddress 59 IsRestriction text pairs
 restrictions_found text pairs e =
     found_parted pairs text (all_pairs_found restriction_read restriction_shorter RidPairStands restriction_found restriction_given
     (suc (length text))
     text pairs e)
 
-restrictions_given : (text : List ℕ) (pairs : Pairs) → Parted 59 IsRestriction text pairs → restrictions_read text ≡ Some pairs
+restrictions_given : (text : List ℕ) (pairs : Pairs) → PartedAddress 59 IsRestriction text pairs → restrictions_read text ≡ Some pairs
 restrictions_given text pairs h =
     all_pairs_given restriction_read restriction_shorter RidPairStands restriction_found restriction_given pairs (suc (length text)) text
     (parted_stands pairs text h) (omega arith)
@@ -129,7 +130,7 @@ none_restrict = refl
 restricted_both : Reads AreRestrictions restricted_read
 restricted_both = record { sound = found; complete = given }
   where
-    some_of : (text : List ℕ) (pairs : Pairs) → Parted 59 IsRestriction text pairs → AreRestrictions text pairs
+    some_of : (text : List ℕ) (pairs : Pairs) → PartedAddress 59 IsRestriction text pairs → AreRestrictions text pairs
     some_of text [] h = absurd h
     some_of text (p ∷ ps) h = h
 
@@ -146,10 +147,10 @@ restricted_both = record { sound = found; complete = given }
 
 -- ---- payload types
 
-pts_both : Reads (Parted 44 IsPt) pts_read
+pts_both : Reads (PartedAddress 44 IsPt) pts_read
 pts_both = parted_both 44 (num_both 127) (λ text n h. number_lacks 44 text (omega arith) (λ e. absurd (omega arith)) h.numeral)
 
-types_semicolon : (text types : List ℕ) → Parted 44 IsPt text types → Lacks 59 text
+types_semicolon : (text types : List ℕ) → PartedAddress 44 IsPt text types → Lacks 59 text
 types_semicolon text types h = grind (arith, parted_lacks, number_lacks)
 
 -- ---- the lists

@@ -7,7 +7,7 @@ use Rattle.str0m_signal.proofs.form.FormPiecesAgain.{behind_again}
 use Rattle.str0m_signal.proofs.form.FormTableAgain.{KeptPiece, PrintsAgain, WholeForm, laws_of, quiet_again, made_again, form_entire}
 use Rattle.str0m_signal.proofs.form.FormTableAgain.{text_kept}
 use Rattle.str0m_signal.proofs.form.FormTableAgain.{labelled_whole, form_words_whole, all_labelled_whole, any_again}
-use Rattle.str0m_signal.proofs.form.FormTableLaws.{Lawful, AllOfForms, ◌also◌, any_lawful, labelled_lawful, made_lawful, unused_reads}
+use Rattle.str0m_signal.proofs.form.FormTableLaws.{LawfulForm, AllOfForms, ◌also◌, any_lawful, labelled_lawful, made_lawful, unused_reads}
 use Rattle.str0m_signal.proofs.form.MediaAttributeAgain.{role_kept, candidate_lawful, fingerprint_lawful, candidate_back}
 use Rattle.str0m_signal.proofs.form.MediaAttributeAgain.{printed_fingerprint}
 use Rattle.str0m_signal.proofs.line.LinesLaws.{attribute_both}
@@ -58,7 +58,7 @@ session_laws =
 
 pub session_line_both : Reads IsSessionLine (read_attribute session_read)
 session_line_both =
-    attribute_both (reads_first (any_lawful session_forms (laws_of KeptForm Lawful (λ form law. law.lawful) session_forms session_laws)
+    attribute_both (reads_first (any_lawful session_forms (laws_of KeptForm LawfulForm (λ form law. law.lawful) session_forms session_laws)
     refl).reads (unused_reads Unused))
 
 -- an attribute that a line was read as prints a line that is read as it

@@ -2,7 +2,8 @@
 use Rattle.str0m_sdp.specs.declared.attribute.simulcast.Simulcast.{Simulcast}
 use Rattle.str0m_signal.proofs.Common.{rules, ◌≡◌, ◌≢◌, ℕ, Bool, true, List, [], ◌∷◌, ◌++◌, Option, Some, None, refl, sym, ap, subst, ◌∙◌}
 use Rattle.str0m_signal.proofs.Common.{arith, inl, inr, codes, is_some, ltb-true, and_parts, and_from, RestrictionId, SimulcastLayer}
-use Rattle.str0m_signal.proofs.Common.{layer_name_text, ◌>>=◌, cut, strip, when, lacks, Parted, Lacks, IsRest, Sound, bind_some, some_is}
+use Rattle.str0m_signal.proofs.Common.{layer_name_text, ◌>>=◌, cut, strip, when, lacks, PartedAddress, Lacks, IsRest, Sound, bind_some}
+use Rattle.str0m_signal.proofs.Common.{some_is}
 use Rattle.str0m_signal.proofs.Common.{sound_or, cut_none, cut_at, cut_found, strip_found, lacks_true, lacks_from, when_some, num_when_true}
 use Rattle.str0m_signal.proofs.Common.{num_rest_true, Reads, chars}
 use Rattle.str0m_signal.proofs.form.FormLaws.{form_behind_both}
@@ -54,7 +55,7 @@ alternative_lacks c other lacks text name o is h = grind arith
 alternative_comma : (text : List ℕ) (id : RestrictionId) → IsAlternative text id → Lacks 44 text
 alternative_comma text id h = alternative_lacks 44 (λ e. absurd (omega arith)) (λ name k. k.comma) text id.0 id.1 h.0 h.1
 
-alternatives_both : Reads (Parted 44 IsAlternative) (parted_read 44 alternative_read)
+alternatives_both : Reads (PartedAddress 44 IsAlternative) (parted_read 44 alternative_read)
 alternatives_both = parted_both 44 alternative_both alternative_comma
 
 -- ---- what parts lack, the whole lacks
@@ -64,7 +65,7 @@ simulcast_lacks_joined c d [] b other h k = (other, k)
 simulcast_lacks_joined c d (x ∷ xs) b other h k = (h.0, simulcast_lacks_joined c d xs b other h.1 k)
 
 pub parted_lacks : {A : Type 0} {F : List ℕ → A → Type 0} (c d : ℕ) → d ≢ c → ((text : List ℕ) (x : A) → F text x → Lacks c text)
-    → (xs : List A) (text : List ℕ) → Parted d F text xs → Lacks c text
+    → (xs : List A) (text : List ℕ) → PartedAddress d F text xs → Lacks c text
 parted_lacks c d other lacks [] text h = absurd h
 parted_lacks c d other lacks (x ∷ []) text h = lacks text x h
 parted_lacks c d other lacks (x ∷ (y ∷ ys)) text h = rw h.2
@@ -74,7 +75,7 @@ parted_lacks c d other lacks (x ∷ (y ∷ ys)) text h = rw h.2
 
 simulcast_first_layer_found : (text : List ℕ) (id : RestrictionId) (o : Option (List ℕ × List ℕ)) → cut 44 text ≡ o
     → first_layer_name_after text o ≡ Some id
-    → (others : List RestrictionId) × Parted 44 IsAlternative text (id ∷ others)
+    → (others : List RestrictionId) × PartedAddress 44 IsAlternative text (id ∷ others)
 simulcast_first_layer_found text id None is e = ([], alternative_both.sound text id e)
 simulcast_first_layer_found text id (Some p) is e =
     let a = bind_some (alternative_read p.0) (λ x. when (is_some (parted_read 44 alternative_read p.1)) x) id e in
@@ -84,17 +85,18 @@ simulcast_first_layer_found text id (Some p) is e =
     others_of (parted_read 44 alternative_read p.1) refl w.0 p.0 found.0 first
   where
     listed : (front : List ℕ) → text ≡ front ++ (44 ∷ p.1) → IsAlternative front id → (others : List RestrictionId)
-        → Parted 44 IsAlternative p.1 others → (more : List RestrictionId) × Parted 44 IsAlternative text (id ∷ more)
+        → PartedAddress 44 IsAlternative p.1 others → (more : List RestrictionId) × PartedAddress 44 IsAlternative text (id ∷ more)
     listed front joined first [] h = absurd h
     listed front joined first (x ∷ xs) h = (x ∷ xs, (front, p.1, joined, first, h))
 
     others_of : (o : Option (List RestrictionId)) → parted_read 44 alternative_read p.1 ≡ o → is_some o ≡ true → (front : List ℕ)
-        → text ≡ front ++ (44 ∷ p.1) → IsAlternative front id → (more : List RestrictionId) × Parted 44 IsAlternative text (id ∷ more)
+        → text ≡ front ++ (44 ∷ p.1) → IsAlternative front id → (more : List RestrictionId)
+        × PartedAddress 44 IsAlternative text (id ∷ more)
     others_of None e some front joined first = absurd cc
     others_of (Some others) e some front joined first = listed front joined first others (alternatives_both.sound p.1 others e)
 
 simulcast_first_layer_given : (text : List ℕ) (id : RestrictionId) (others : List RestrictionId)
-    → Parted 44 IsAlternative text (id ∷ others)
+    → PartedAddress 44 IsAlternative text (id ∷ others)
     → first_layer_name_after text (cut 44 text) ≡ Some id
 simulcast_first_layer_given text id others h = grind (
   arith,

@@ -1,6 +1,6 @@
 -- The values without keys of an fmtp line are read exactly where they stand.
 use Rattle.str0m_signal.proofs.Common.{ℕ, List, [], ◌∷◌, Option, Some, refl, sym, ap, ◌∙◌, arith, codes, FormatParam, BareRange, BarePtList}
-use Rattle.str0m_signal.proofs.Common.{◌>>=◌, strip, num, FirstFit, Parted, Lacks, IsNum, bind_some, some_is, reads_first, cut_at}
+use Rattle.str0m_signal.proofs.Common.{◌>>=◌, strip, num, FirstFit, PartedAddress, Lacks, IsNum, bind_some, some_is, reads_first, cut_at}
 use Rattle.str0m_signal.proofs.Common.{strip_found, number_lacks, num_reads, num_both, Reads, IsEventRange, Unknown}
 use Rattle.str0m_signal.proofs.form.FormLaws.{digits_both, form_two_both, form_behind_both}
 use Rattle.str0m_signal.proofs.line.PartLaws.{parted_both}
@@ -14,12 +14,12 @@ use Rattle.str0m_signal.specs.form.Forms.{TwoParts}
 num_lacks : (text : List ℕ) (n : ℕ) → IsNum 255 text n → Lacks 47 text
 num_lacks text n h = number_lacks 47 text (omega arith) (λ e. absurd (omega arith)) h.numeral
 
-slashed_both : Reads (Parted 47 (IsNum 255)) (parted_read 47 (num 255))
+slashed_both : Reads (PartedAddress 47 (IsNum 255)) (parted_read 47 (num 255))
 slashed_both = parted_both 47 (num_both 255) num_lacks
 
 -- two or more numbers, by the first of them
 abbrev IsFirstNumber : List ℕ → ℕ → Type 0
-IsFirstNumber text first = (second : ℕ) × (others : List ℕ) × Parted 47 (IsNum 255) text (first ∷ second ∷ others)
+IsFirstNumber text first = (second : ℕ) × (others : List ℕ) × PartedAddress 47 (IsNum 255) text (first ∷ second ∷ others)
 
 bare_first_both : Reads IsFirstNumber first_number_read
 bare_first_both = record {
@@ -34,7 +34,7 @@ bare_first_both = record {
       ) refl;
 }
   where
-    listed : (text : List ℕ) (first : ℕ) (others : List ℕ) → TwoParts 47 (IsNum 255) (Parted 47 (IsNum 255)) text (first, others)
+    listed : (text : List ℕ) (first : ℕ) (others : List ℕ) → TwoParts 47 (IsNum 255) (PartedAddress 47 (IsNum 255)) text (first, others)
         → IsFirstNumber text first
     listed text first [] h = absurd h.5
     listed text first (x ∷ xs) h = (x, xs, (h.0, h.1, h.2, h.4, h.5))

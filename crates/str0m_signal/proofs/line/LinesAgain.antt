@@ -1,7 +1,8 @@
 -- The lines of what was read; m-lines and bandwidths are printed as they were.
 use Rattle.str0m_sdp.specs.declared.attribute.media_type.MediaType.TheVariants as typ
 use Rattle.str0m_signal.proofs.Common.{◌≡◌, ◌≢◌, ◌⊎◌, ℕ, List, [], ◌∷◌, ◌++◌, Option, Some, None, IfSome, refl, subst, arith, lit<, lit≤}
-use Rattle.str0m_signal.proofs.Common.{inl, inr, codes, AllByRecursion, append_assoc, FirstFit, Parted, Lacks, IsWord, IsNum, Lacks-append}
+use Rattle.str0m_signal.proofs.Common.{inl, inr, codes, AllByRecursion, append_assoc, FirstFit, PartedAddress, Lacks, IsWord, IsNum}
+use Rattle.str0m_signal.proofs.Common.{Lacks-append}
 use Rattle.str0m_signal.proofs.Common.{bandwidth_text, pts_text, formats_text, media_type_text, Bandwidth, MediaLine, MediaType, Proto}
 use Rattle.str0m_signal.proofs.Common.{Sctp, none_reads}
 use Rattle.str0m_signal.proofs.form.FmtpPrinted.{fmtp_behind_lacks}
@@ -56,7 +57,7 @@ bandwidth_again bw h = grind (arith, append_assoc)
 
 -- the formats of an m-line
 abbrev AreFormats : List ℕ → List ℕ → Type 0
-AreFormats = FirstFit (Parted 32 (IsNum 255)) NoTypes
+AreFormats = FirstFit (PartedAddress 32 (IsNum 255)) NoTypes
 
 types_again : (types pts : List ℕ) → AreFormats types pts → pts ≢ [] → HoldsNoEnd types
     → AreFormats (pts_text pts) pts × HoldsNoEnd (pts_text pts)

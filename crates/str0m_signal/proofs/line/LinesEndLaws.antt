@@ -38,17 +38,17 @@ line_longer_holds x lines h = (
   and_right (not (eqb x 13)) (lacks 13 h.0.content) h.3,
 )
 
-returned : (a rest : List ℕ) → Lacks 10 a → Lacks 13 a → is_crlf 13 rest ≡ false → HoldsReturn (lines_of (a ++ (13 ∷ rest)))
+line_returned : (a rest : List ℕ) → Lacks 10 a → Lacks 13 a → is_crlf 13 rest ≡ false → HoldsReturn (lines_of (a ++ (13 ∷ rest)))
 unfolding lines_of
-returned [] rest feed return lone = rw (line_at_other 13 rest (lines_of rest) (λ e. absurd cc) lone) (longer_returned (lines_of rest))
-returned (x ∷ xs) rest feed return lone =
+line_returned [] rest feed return lone = rw (line_at_other 13 rest (lines_of rest) (λ e. absurd cc) lone) (longer_returned (lines_of rest))
+line_returned (x ∷ xs) rest feed return lone =
     let more = xs ++ (13 ∷ rest) in
     rw (line_at_other x more (lines_of more) feed.0 (not_crlf_of x more return.0))
-    (line_longer_holds x (lines_of more) (returned xs rest feed.1 return.1 lone))
+    (line_longer_holds x (lines_of more) (line_returned xs rest feed.1 return.1 lone))
 
 lone_refused : (text a rest : List ℕ) → text ≡ a ++ (13 ∷ rest) → Lacks 10 a → Lacks 13 a → is_crlf 13 rest ≡ false
     → None ≡ clean_line (lines_of text)
-lone_refused text a rest e feed return lone = grind (arith, returned)
+lone_refused text a rest e feed return lone = grind (arith, line_returned)
 
 -- the line is the text up to its end, and what follows is after that
 pub clean_cut : (text a b : List ℕ) → text ≡ a ++ b → Lacks 10 a → Lacks 13 a → IsAtEnd b → IsRest text

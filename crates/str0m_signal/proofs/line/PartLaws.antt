@@ -1,7 +1,8 @@
 -- Parts with a character between them are read both ways, and one by one.
 use Rattle.str0m_signal.proofs.Common.{◌≡◌, ◌⊎◌, ℕ, ◌<◌, true, false, eqb, List, [], ◌∷◌, ◌++◌, length, Option, Some, None, Result, Ok}
 use Rattle.str0m_signal.proofs.Common.{IfOk, Bool, refl, sym, ap, subst, ◌∙◌, arith, inl, inr, length-append, is_some, ne_eqb, eq-eqb}
-use Rattle.str0m_signal.proofs.Common.{Lacks, ◌>>=◌, cut, Parted, bind_some, some_is, cut_found, cut_none_lacks, Reads, append_assoc, Vec}
+use Rattle.str0m_signal.proofs.Common.{Lacks, ◌>>=◌, cut, PartedAddress, bind_some, some_is, cut_found, cut_none_lacks, Reads, append_assoc}
+use Rattle.str0m_signal.proofs.Common.{Vec}
 use Rattle.str0m_signal.proofs.Common.{Global, option_map, slice_split, onto_first}
 use Rattle.str0m_signal.specs.form.FormReading.{all_read, parted_read}
 use Rattle.str0m_signal.specs.line.LinesReading.{TakesPart}
@@ -17,9 +18,9 @@ part_split_whole : (c : ℕ) (a : List ℕ) → Lacks c a → slice_split (λ x.
 part_split_whole c [] h = refl
 part_split_whole c (x ∷ xs) h = rw (ne_eqb x c h.0) (ap (onto_first x) (part_split_whole c xs h.1))
 
-pub regroup : {A : Type 0} (front : List A) (x : A) (o : Option (List A))
+pub parts_regroup : {A : Type 0} (front : List A) (x : A) (o : Option (List A))
     → part_with_front (front ++ x ∷ []) o ≡ part_with_front front (o >>= λ xs. Some (x ∷ xs))
-regroup front x o = grind (arith, append_assoc)
+parts_regroup front x o = grind (arith, append_assoc)
 
 pub cons_parts : {A : Type 0} (x y : A) (xs ys : List A) → x ∷ xs ≡ y ∷ ys → (x ≡ y) × (xs ≡ ys)
 cons_parts x y xs ys e = (cc, cc)
@@ -59,7 +60,7 @@ module _ {A : Type 0} (c : ℕ) (f : List ℕ → Option A) where
   pub part_more : (text : List ℕ) (front : List A) (rest a b : List ℕ) (x : A) → cut c rest ≡ Some (a, b) → f a ≡ Some x
       → part_with_front front (parted_read c f rest) ≡ parted_read c f text
       → part_with_front (front ++ x ∷ []) (parted_read c f b) ≡ parted_read c f text
-  part_more text front rest a b x cut-is is so_far = grind (arith, parted_cut rest a b cut-is, regroup front x (parted_read c f b))
+  part_more text front rest a b x cut-is is so_far = grind (arith, parted_cut rest a b cut-is, parts_regroup front x (parted_read c f b))
 
   pub part_fails : (text : List ℕ) (front : List A) (rest a b : List ℕ) → cut c rest ≡ Some (a, b) → f a ≡ None
       → part_with_front front (parted_read c f rest) ≡ parted_read c f text → None ≡ parted_read c f text
@@ -140,7 +141,7 @@ module _ {A : Type 0} {F : List ℕ → A → Type 0} {f : List ℕ → Option A
   parts_not_nil : (x : A) (xs : List A) → x ∷ xs ≡ [] → ⊥
   parts_not_nil x xs e = absurd cc
 
-  parted_found : (xs : List A) (text : List ℕ) → parted_read c f text ≡ Some xs → Parted c F text xs
+  parted_found : (xs : List A) (text : List ℕ) → parted_read c f text ≡ Some xs → PartedAddress c F text xs
   parted_found [] text e =
       elim (part_step text [] (cut c text) refl e) [
         | inl last ↦ absurd (parts_not_nil last.x [] last.same)
@@ -165,11 +166,11 @@ module _ {A : Type 0} {F : List ℕ → A → Type 0} {f : List ℕ → Option A
             )
       ]
 
-  parted_given : (xs : List A) (text : List ℕ) → Parted c F text xs → parted_read c f text ≡ Some xs
+  parted_given : (xs : List A) (text : List ℕ) → PartedAddress c F text xs → parted_read c f text ≡ Some xs
   parted_given [] text h = absurd h
   parted_given (x ∷ []) text h = parted_last c f text (lacks text x h) ∙ rw (reads.complete text x h) refl
   parted_given (x ∷ (y ∷ ys)) text h =
       ap (parted_read c f) h.2 ∙ parted_at c f h.0 h.1 (lacks h.0 x h.3) ∙ rw (reads.complete h.0 x h.3, parted_given (y ∷ ys) h.1 h.4) refl
 
-  pub parted_both : Reads (Parted c F) (parted_read c f)
+  pub parted_both : Reads (PartedAddress c F) (parted_read c f)
   parted_both = record { sound = λ text xs e. parted_found xs text e; complete = λ text xs h. parted_given xs text h }

@@ -1,6 +1,6 @@
 -- Words, names and bytes are printed as they were read.
 use Rattle.str0m_signal.proofs.Common.{◌≡◌, ◌≤◌, ◌<◌, ◌/◌, ◌%◌, ℕ, true, List, [], ◌∷◌, ◌++◌, refl, sym, subst, arith, lit≤, inl, inr}
-use Rattle.str0m_signal.proofs.Common.{codes, digit_value, AllByRecursion, flat_map, join_by, append-nil, Parted, Lacks, IsRest}
+use Rattle.str0m_signal.proofs.Common.{codes, digit_value, AllByRecursion, flat_map, join_by, append-nil, PartedAddress, Lacks, IsRest}
 use Rattle.str0m_signal.proofs.Common.{IsLongestBeginning, Lacks-append, digit_glyph, hex_pair, pairs_text, glyph_value}
 use Rattle.str0m_signal.proofs.form.FmtpPrinted.{fmtp_behind_lacks}
 use Rattle.str0m_signal.proofs.form.FormPiecesAgain.{Again, text_again, two_again, parted_again}
@@ -45,7 +45,7 @@ hex_pair_again = grind (arith, word_pair_small, glyph_value, glyph_lacks)
 abbrev pub fingerprint_pair : List ℕ × List ℕ → List ℕ
 fingerprint_pair hash = hash.0 ++ (32 ∷ join_by hex_pair (codes ":") hash.1)
 
-pub hash_again : Again (TwoParts 32 IsText (Parted 58 IsHexPair)) fingerprint_pair
+pub hash_again : Again (TwoParts 32 IsText (PartedAddress 58 IsHexPair)) fingerprint_pair
 hash_again = two_again 32 (lit≤ tt) text_again (parted_again hex_pair_again 58)
 
 pub word_pairs_are_joined : (bytes : List ℕ) → join_by hex_pair (codes ":") bytes ≡ pairs_text bytes
@@ -57,7 +57,8 @@ word_pairs_are_joined bytes = grind arith
 abbrev pub AreWordsFilled : List (List ℕ) → Type 0
 AreWordsFilled names = AllByRecursion IsRest names
 
-word_names_filled : (text : List ℕ) (names : List (List ℕ)) → StartsWithin 3 text → Parted 32 IsKeptName text names → AreWordsFilled names
+word_names_filled : (text : List ℕ) (names : List (List ℕ)) → StartsWithin 3 text → PartedAddress 32 IsKeptName text names
+    → AreWordsFilled names
 word_names_filled text [] starts h = tt
 word_names_filled text (x ∷ []) starts h = (kept_some text x h.0.0 starts h.1, tt)
 word_names_filled text (x ∷ (y ∷ ys)) starts h =
@@ -76,18 +77,20 @@ word_kind_and_names text typ (name ∷ names) starts h =
 pub group_filled : (text : List ℕ) (group : List ℕ × List (List ℕ)) → StartsWithin 3 text → IsGroup text group → AreWordsFilled group.1
 group_filled text group starts h = grind (arith, word_kind_and_names, front_starts)
 
-word_filled_names : (text : List ℕ) (names : List (List ℕ)) → Parted 32 IsKeptName text names → AreWordsFilled names
-    → Parted 32 IsFilledName text names
+word_filled_names : (text : List ℕ) (names : List (List ℕ)) → PartedAddress 32 IsKeptName text names → AreWordsFilled names
+    → PartedAddress 32 IsFilledName text names
 word_filled_names text [] h filled = h
 word_filled_names text (x ∷ []) h filled = (h, filled.0)
 word_filled_names text (x ∷ (y ∷ ys)) h filled = (h.0, h.1, h.2, (h.3, filled.0), word_filled_names h.1 (y ∷ ys) h.4 filled.1)
 
-word_only_names : (text : List ℕ) (names : List (List ℕ)) → Parted 32 IsFilledName text names → Parted 32 IsKeptName text names
+word_only_names : (text : List ℕ) (names : List (List ℕ)) → PartedAddress 32 IsFilledName text names
+    → PartedAddress 32 IsKeptName text names
 word_only_names text [] h = h
 word_only_names text (x ∷ []) h = h.0
 word_only_names text (x ∷ (y ∷ ys)) h = (h.0, h.1, h.2, h.3.0, word_only_names h.1 (y ∷ ys) h.4)
 
-group_filled_again : Again (TwoParts 32 IsText (Parted 32 IsFilledName)) (λ group. group.0 ++ (32 ∷ join_by (λ x. x) (codes " ") group.1))
+group_filled_again : Again (TwoParts 32 IsText (PartedAddress 32 IsFilledName))
+    (λ group. group.0 ++ (32 ∷ join_by (λ x. x) (codes " ") group.1))
 group_filled_again = two_again 32 (lit≤ tt) text_again (parted_again name_again 32)
 
 abbrev pub names_text : List ℕ → List (List ℕ) → List ℕ
@@ -126,7 +129,7 @@ group_again = record {
 abbrev pub meaning_text : List ℕ × List (List ℕ) → List ℕ
 meaning_text meant = codes " " ++ (meant.0 ++ (32 ∷ join_by (λ x. x) (codes " ") meant.1))
 
-meant_again : Again (TwoParts 32 IsText (Parted 32 IsWordText)) (λ meant. meant.0 ++ (32 ∷ join_by (λ x. x) (codes " ") meant.1))
+meant_again : Again (TwoParts 32 IsText (PartedAddress 32 IsWordText)) (λ meant. meant.0 ++ (32 ∷ join_by (λ x. x) (codes " ") meant.1))
 meant_again = two_again 32 (lit≤ tt) text_again (parted_again word_again 32)
 
 pub meaning_again : Again IsMsidSemantic meaning_text

@@ -48,21 +48,21 @@ behind_starts k (x ∷ xs) ys small (inr (no', more)) = behind_starts 3 xs ys (l
 
 -- ---- what is kept
 
-outside : (y : ℕ) → ¬ (IsInsideCharacter y) → 128 ≤ y → 192 ≤ y
-outside y no' high = elim (cases_lt y 192) [ inl low ↦ absurd (no' (high, low)) | inr above ↦ above ]
+outside_character : (y : ℕ) → ¬ (IsInsideCharacter y) → 128 ≤ y → 192 ≤ y
+outside_character y no' high = elim (cases_lt y 192) [ inl low ↦ absurd (no' (high, low)) | inr above ↦ above ]
 
-boundary : (k : ℕ) (xs : List ℕ) → k ≤ 3 → StartsWithin k xs → (n : ℕ) × (n ≤ k) × IsCharBoundary xs n
-boundary k [] small h = (0, omega arith, (omega arith, λ lt. absurd (omega (arith, lt))))
-boundary k (y ∷ ys) small (inr (no', more)) = (0, omega arith, (omega arith, λ lt high. outside y no' high))
-boundary k (y ∷ ys) small (inl (is, some, more)) =
-    let next = boundary (k - 1) ys (omega arith) more in
+character_boundary : (k : ℕ) (xs : List ℕ) → k ≤ 3 → StartsWithin k xs → (n : ℕ) × (n ≤ k) × IsCharBoundary xs n
+character_boundary k [] small h = (0, omega arith, (omega arith, λ lt. absurd (omega (arith, lt))))
+character_boundary k (y ∷ ys) small (inr (no', more)) = (0, omega arith, (omega arith, λ lt high. outside_character y no' high))
+character_boundary k (y ∷ ys) small (inl (is, some, more)) =
+    let next = character_boundary (k - 1) ys (omega arith) more in
     let at = next.1 in
     (suc next.0, omega (arith, at, some), (omega (arith, next.2.0), λ lt high. next.2.1 (omega (arith, lt)) high))
 
 pub kept_some : (text kept : List ℕ) → IsRest text → StartsWithin 3 text → IsLongestBeginning 16 text kept → IsRest kept
 kept_some [] kept filled starts h = absurd (omega (arith, filled))
 kept_some (x ∷ xs) kept filled starts h =
-    let next = boundary 3 xs (lit≤ tt) (tail starts) in
+    let next = character_boundary 3 xs (lit≤ tt) (tail starts) in
     let at = next.1 in
     elim (cases_lt 0 (length kept)) [
       | inl some ↦ some

@@ -1,7 +1,8 @@
 -- Lists of words are read both ways.
 use Rattle.str0m_signal.proofs.Common.{rules, ◌≡◌, ◌≢◌, ◌⊎◌, ◌<◌, ◌≤◌, ◌+◌, ℕ, List, [], ◌∷◌, ◌++◌, Option, Some, None, refl, sym, ap, ◌∙◌}
 use Rattle.str0m_signal.proofs.Common.{arith, inl, inr, codes, digit_value, lt-ltb, eq-eqb, ne_eqb, cases_eq, ◌>>=◌, cut, strip, lacks, num}
-use Rattle.str0m_signal.proofs.Common.{Parted, Lacks, IsRest, IsNum, beginning_is, beginning_only, bind_some, if_some, some_is, cut_none}
+use Rattle.str0m_signal.proofs.Common.{PartedAddress, Lacks, IsRest, IsNum, beginning_is, beginning_only, bind_some, if_some, some_is}
+use Rattle.str0m_signal.proofs.Common.{cut_none}
 use Rattle.str0m_signal.proofs.Common.{cut_none_lacks, cut_at, cut_found, strip_found, lacks_true, lacks_from, number_lacks, num_both}
 use Rattle.str0m_signal.proofs.Common.{Reads, append-nil}
 use Rattle.str0m_signal.proofs.form.FormLaws.{text_both, form_two_both}
@@ -41,16 +42,16 @@ hex_pair_lacks text byte h = rw h.2 (digit_other h.0 58 (omega arith) h.3, (digi
 
 -- ---- lists
 
-pub words_both : Reads (Parted 32 IsWordText) (parted_read 32 word_text_read)
+pub words_both : Reads (PartedAddress 32 IsWordText) (parted_read 32 word_text_read)
 words_both = parted_both 32 word_both (λ text x h. h.0.1)
 
-pub word_names_list_both : Reads (Parted 32 IsKeptName) (parted_read 32 name_read)
+pub word_names_list_both : Reads (PartedAddress 32 IsKeptName) (parted_read 32 name_read)
 word_names_list_both = parted_both 32 word_name_both (λ text x h. h.0.1)
 
-pub hex_pairs_both : Reads (Parted 58 IsHexPair) (parted_read 58 hex_pair_read)
+pub hex_pairs_both : Reads (PartedAddress 58 IsHexPair) (parted_read 58 hex_pair_read)
 hex_pairs_both = parted_both 58 hex_pair_both hex_pair_lacks
 
-pub sources_both : Reads (Parted 32 (IsNum 4294967295)) (parted_read 32 (num 4294967295))
+pub sources_both : Reads (PartedAddress 32 (IsNum 4294967295)) (parted_read 32 (num 4294967295))
 sources_both = parted_both 32 (num_both 4294967295) (λ text n h. number_lacks 32 text (omega arith) (λ e. absurd (omega arith)) h.numeral)
 
 -- ---- a space at the end
@@ -86,7 +87,7 @@ end_whole (x ∷ y ∷ ys) h = ap (λ (t : List ℕ). x ∷ t) (end_whole (y ∷
 pub space_gone : (text rest : List ℕ) → (text ≡ rest ++ (32 ∷ [])) ⊎ ((rest ≡ text) × (EndsIn 32 text → ⊥)) → rest ≡ without_space text
 space_gone text rest o = grind (arith, space_behind, append-nil, end_whole)
 
-parted_rest : (names : List (List ℕ)) (text : List ℕ) → Parted 32 IsKeptName text names → IsRest text
+parted_rest : (names : List (List ℕ)) (text : List ℕ) → PartedAddress 32 IsKeptName text names → IsRest text
 parted_rest [] text h = absurd h
 parted_rest (x ∷ []) text h = h.0.0
 parted_rest (x ∷ (y ∷ ys)) text h = rw h.2 (filled h.0 h.1)
@@ -98,7 +99,7 @@ parted_rest (x ∷ (y ∷ ys)) text h = rw h.2 (filled h.0 h.1)
 behind_word : (a b : List ℕ) → IsRest b → without_space b ≡ b → without_space (a ++ (32 ∷ b)) ≡ a ++ (32 ∷ b)
 behind_word a b h whole = grind (arith, space_behind)
 
-parted_whole : (names : List (List ℕ)) (text : List ℕ) → Parted 32 IsKeptName text names → without_space text ≡ text
+parted_whole : (names : List (List ℕ)) (text : List ℕ) → PartedAddress 32 IsKeptName text names → without_space text ≡ text
 parted_whole [] text h = absurd h
 parted_whole (x ∷ []) text h = word_whole text h.0.1
 parted_whole (x ∷ (y ∷ ys)) text h = grind (arith, behind_word h.0 h.1, parted_rest (y ∷ ys) h.1 h.4, parted_whole (y ∷ ys) h.1 h.4)
@@ -119,7 +120,7 @@ word_names_found text group (Some p) cut-is e =
     rw (← some_is (a.0, b.0) group b.2)
     (listed text a.0 b.0 (p.0, p.1, found.0, found.1, text_both.sound p.0 a.0 a.1, word_names_list_both.sound p.1 b.0 b.1))
   where
-    listed : (text typ : List ℕ) (names : List (List ℕ)) → TwoParts 32 IsText (Parted 32 IsKeptName) text (typ, names)
+    listed : (text typ : List ℕ) (names : List (List ℕ)) → TwoParts 32 IsText (PartedAddress 32 IsKeptName) text (typ, names)
         → AreGroupNames text typ names
     listed text typ [] h = absurd h.5
     listed text typ (x ∷ xs) h = h
@@ -144,7 +145,7 @@ group_both = record {
 
 -- ---- semantics of streams
 
-semantic_fields : Reads (TwoParts 32 IsText (Parted 32 IsWordText)) (two_read 32 text_read (parted_read 32 word_text_read))
+semantic_fields : Reads (TwoParts 32 IsText (PartedAddress 32 IsWordText)) (two_read 32 text_read (parted_read 32 word_text_read))
 semantic_fields = form_two_both 32 text_both words_both
 
 no_space_ahead : (a b : List ℕ) → IsRest a → Lacks 32 a → strip (codes " ") (a ++ b) ≡ None
@@ -163,7 +164,7 @@ semantic_found text meant (Some rest) is e = (
 )
 
 semantic_given : (text lead words : List ℕ) (meant : List ℕ × List (List ℕ)) → text ≡ lead ++ words → IsSpace lead
-    → TwoParts 32 IsText (Parted 32 IsWordText) words meant → msid_semantic_fields_read text ≡ Some meant
+    → TwoParts 32 IsText (PartedAddress 32 IsWordText) words meant → msid_semantic_fields_read text ≡ Some meant
 semantic_given text lead words meant is (inl none) h =
     let plain : text ≡ words = is ∙ ap (λ (t : List ℕ). t ++ words) none in
     let front : strip (codes " ") words ≡ None = ap (strip (codes " ")) h.2 ∙ no_space_ahead h.0 (32 ∷ h.1) h.4.0 h.3 in

@@ -6,7 +6,7 @@ use Rattle.str0m_signal.proofs.Common.{arith, ◌≡◌, ◌<◌, ◌+◌, ◌++
 use Rattle.str0m_signal.proofs.Common.{IfSome, length, take, get_or, map, filter_map, option_map, option_to_list, sym, subst, All-nil}
 use Rattle.str0m_signal.proofs.Common.{All-cons, All-head, All-tail, PayloadParams, Round, is_media, HasBoundedRows, MediaLine, OnErr}
 use Rattle.str0m_signal.proofs.Common.{map-append, IsBounded}
-use Rattle.str0m_signal.specs.session.Negotiation.{AreRoundsOf, brought, brought_by}
+use Rattle.str0m_signal.specs.session.Negotiation.{AreRoundsOf, brought_by_round, brought_by}
 use Rattle.str0m_values.specs.declared.direction.Direction.{Direction}
 
 round_map_found : {Y Z : Type 0} (g : Y → Z) (found : Option Y) → map g (option_to_list found) ≡ option_to_list (option_map g found)
@@ -42,6 +42,6 @@ of_images P f (x ∷ xs) all = All-cons (λ x. P (f x)) x xs (All-head P (f x) (
 pub rounds_bounded : (sections : List MediaLine) (rounds : List Round) → AreRoundsOf sections rounds → All HasBoundedRows sections
     → All (λ round. All IsBounded round.remote.items) rounds
 rounds_bounded sections rounds are bounded =
-    of_images BringsBounded brought rounds
+    of_images BringsBounded brought_by_round rounds
     (subst (All BringsBounded) (sym are)
     (all_mapped HasBoundedRows BringsBounded brought_by (λ m. when_media (is_media m.typ) m) sections bounded))

@@ -3,7 +3,7 @@ use Rattle.std.proofs.NetLemmas.Options.{cond_none}
 use Rattle.std.proofs.lemmas.Bool.Decides.{same_from_decides}
 use Rattle.str0m_sdp.specs.declared.attribute.media_type.MediaType.TheVariants.{Audio, Video, Application, Unknown}
 use Rattle.str0m_signal.proofs.Common.{rules, ◌≡◌, ℕ, Bool, false, cond, List, [], ◌∷◌, ◌++◌, length, Option, Some, None, refl, sym, ap}
-use Rattle.str0m_signal.proofs.Common.{subst, ◌∙◌, arith, codes, is_some, bytes_eq, ltb-true, both_ways, append-nil, Parted}
+use Rattle.str0m_signal.proofs.Common.{subst, ◌∙◌, arith, codes, is_some, bytes_eq, ltb-true, both_ways, append-nil, PartedAddress}
 use Rattle.str0m_signal.proofs.Common.{bytes_eq-Decides, Bandwidth, AUDIO, VIDEO, MediaType, Proto, IsRest, IsNum, FirstFit, ◌>>=◌, cut}
 use Rattle.str0m_signal.proofs.Common.{strip, when, is_rest, cut_at, cut_found, strip_at, strip_found, when_some, Sound, bind_some, some_is}
 use Rattle.str0m_signal.proofs.Common.{sound_or, reads_first, number_lacks, num_rest_true, num_both, Reads, false_from_ne_true, APPLICATION}
@@ -103,7 +103,7 @@ proto_filled text proto h = grind arith
 
 -- ---- types
 
-pub numbers_both : Reads (Parted 32 (IsNum 255)) numbers_read
+pub numbers_both : Reads (PartedAddress 32 (IsNum 255)) numbers_read
 numbers_both = parted_both 32 (num_both 255) (λ text n h. number_lacks 32 text (omega arith) (λ e. absurd (omega arith)) h.numeral)
 
 no_types_both : Reads NoTypes no_types_read
@@ -113,7 +113,7 @@ no_types_both = record {
   complete = λ text ns h. rw (section_begun_not (codes " ") text h.1) (ap (λ (t : List ℕ). Some t) (sym h.0));
 }
 
-types_both : Reads (FirstFit (Parted 32 (IsNum 255)) NoTypes) types_read
+types_both : Reads (FirstFit (PartedAddress 32 (IsNum 255)) NoTypes) types_read
 types_both = reads_first numbers_both no_types_both
 
 -- ---- the m-line

@@ -2,7 +2,8 @@
 use Rattle.str0m_sdp.specs.attribute.Proto.{proto_text}
 use Rattle.str0m_sdp.specs.declared.attribute.media_type.MediaType.TheVariants as typ
 use Rattle.str0m_signal.proofs.Common.{◌≡◌, ◌≤◌, inl, ℕ, Bool, true, List, [], ◌∷◌, ◌++◌, refl, sym, ap, ◌∙◌, subst, arith, lit<, ◌↔◌}
-use Rattle.str0m_signal.proofs.Common.{IsTrue, codes, AllByRecursion, join_by, decimal, append_assoc, append-nil, FirstFit, Parted, IsWord}
+use Rattle.str0m_signal.proofs.Common.{IsTrue, codes, AllByRecursion, join_by, decimal, append_assoc, append-nil, FirstFit, PartedAddress}
+use Rattle.str0m_signal.proofs.Common.{IsWord}
 use Rattle.str0m_signal.proofs.Common.{IsNum, line_end, pts_text, formats_text, m_line, media_type_text, is_media, MediaLine, MediaType}
 use Rattle.str0m_signal.proofs.Common.{Proto, port_text}
 use Rattle.str0m_signal.proofs.session.AttributesPrinted.{HoldsNoEnd, no_ends, no_end, num_is, decimal_no_end}
@@ -25,7 +26,7 @@ proto_is p = grind arith
 abbrev pub AreTypes : List ℕ → Type 0
 AreTypes pts = AllByRecursion (λ n. n ≤ 255) pts
 
-types_are : (pt : ℕ) (pts : List ℕ) → AreTypes (pt ∷ pts) → Parted 32 (IsNum 255) (join_by decimal (codes " ") (pt ∷ pts)) (pt ∷ pts)
+types_are : (pt : ℕ) (pts : List ℕ) → AreTypes (pt ∷ pts) → PartedAddress 32 (IsNum 255) (join_by decimal (codes " ") (pt ∷ pts)) (pt ∷ pts)
 types_are pt [] h = subst (λ (t : List ℕ). IsNum 255 t pt) (sym (append-nil (decimal pt))) (num_is 255 pt h.0 (lit< tt))
 types_are pt (q ∷ qs) h = (decimal pt, join_by decimal (codes " ") (q ∷ qs), refl, num_is 255 pt h.0 (lit< tt), types_are q qs h.1)
 
@@ -51,7 +52,7 @@ head_no_end kind port protocol types k p q t = grind (arith, no_ends, no_end)
 -- an m-line whose kind and whose types have their forms reads as what it says, with these types
 pub head_line_read : (m : MediaLine) (types pts : List ℕ)
     → IsWord (media_type_text m.typ) × IsMediaKindText (media_type_text m.typ) m.typ × HoldsNoEnd (media_type_text m.typ)
-    → formats_text m.typ m.pts ≡ types → HoldsNoEnd types → FirstFit (Parted 32 (IsNum 255)) NoTypes types pts
+    → formats_text m.typ m.pts ≡ types → HoldsNoEnd types → FirstFit (PartedAddress 32 (IsNum 255)) NoTypes types pts
     → IsPrintedAs IsHead (m_line m) (record { typ = m.typ; disabled = m.disabled; proto = m.proto; pts = pts })
 head_line_read m types pts kind printed no_end are =
     let port = port_is m.disabled in
@@ -82,4 +83,4 @@ pub head_printed : (m : MediaLine) → is_media m.typ ≡ true → (pt : ℕ) (p
 head_printed m media pt pts e small =
     let types = join_by decimal (codes " ") (pt ∷ pts) in
     head_line_read m types m.pts (kind_line m.typ media) (formats_are m.typ m.pts media ∙ ap pts_text e) (types_no_end pt pts small)
-    (inl (subst (λ (ns : List ℕ). Parted 32 (IsNum 255) types ns) (sym e) (types_are pt pts small)))
+    (inl (subst (λ (ns : List ℕ). PartedAddress 32 (IsNum 255) types ns) (sym e) (types_are pt pts small)))

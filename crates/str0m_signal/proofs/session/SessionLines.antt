@@ -16,10 +16,10 @@ use Rattle.str0m_signal.specs.session.Header.{IsHeader, IsOrigin, IsInfo}
 use Rattle.str0m_signal.specs.session.Reader.{IsSession}
 use Rattle.str0m_signal.specs.session.Section.{IsBandwidth}
 
-abbrev pub origin : ℕ → List ℕ
-origin id = codes "o=str0m-0.25.0 " ++ (decimal id ++ codes " 2 IN IP4 0.0.0.0")
+abbrev pub session_printed_origin : ℕ → List ℕ
+session_printed_origin id = codes "o=str0m-0.25.0 " ++ (decimal id ++ codes " 2 IN IP4 0.0.0.0")
 
-origin_is : (id : ℕ) → id < 2 ^ 64 → IsOrigin (origin id) id
+origin_is : (id : ℕ) → id < 2 ^ 64 → IsOrigin (session_printed_origin id) id
 origin_is id small =
     let digits = decimal_is_IsNumeral id small in
     record {
@@ -35,7 +35,7 @@ origin_is id small =
     word : Lacks 32 (codes "str0m-0.25.0")
     word = lacks_from 32 (codes "str0m-0.25.0") refl
 
-origin_no_end : (id : ℕ) → id < 2 ^ 64 → HoldsNoEnd (origin id)
+origin_no_end : (id : ℕ) → id < 2 ^ 64 → HoldsNoEnd (session_printed_origin id)
 origin_no_end id small = grind (arith, no_ends, no_end, decimal_no_end)
 
 -- ---- the header
@@ -53,11 +53,13 @@ session_timing_apart c rest other = apart c 116 (codes "=0 0") timing_lines rest
 -- the lines of a header, in front of others
 abbrev pub header_lines : ℕ → List Line → List Line
 header_lines id bandwidth =
-    printed_line (codes "v=0") ∷ (printed_line (origin id) ∷ (printed_line (codes "s=-") ∷ (bandwidth ++ (timing_lines ∷ []))))
+    printed_line (codes "v=0") ∷ (printed_line (session_printed_origin id)
+    ∷ (printed_line (codes "s=-") ∷ (bandwidth ++ (timing_lines ∷ []))))
 
 pub header_is : (id : ℕ) (bw : Option Bandwidth) → id < 2 ^ 64 → (b : SaidBandwidth bw) (rest : List Line) → LinesApart 114 rest
     → IsHeader (printed_line (codes "v=0") ∷
-    (printed_line (origin id) ∷ (printed_line (codes "s=-") ∷ (b.lines ++ (timing_lines ∷ rest))))) (record { id = id; bw = bw }) rest
+    (printed_line (session_printed_origin id) ∷ (printed_line (codes "s=-") ∷ (b.lines ++ (timing_lines ∷ rest)))))
+    (record { id = id; bw = bw }) rest
 header_is id bw small b rest no_r =
     let quiet = origin_no_end id small in
     let behind = b.lines ++ (timing_lines ∷ rest) in
@@ -69,11 +71,11 @@ header_is id bw small b rest no_r =
       infos = [];
       repeats = [];
       opening_is = record {
-        after_version = printed_line (origin id) ∷ (printed_line (codes "s=-") ∷ behind);
+        after_version = printed_line (session_printed_origin id) ∷ (printed_line (codes "s=-") ∷ behind);
         after_origin = printed_line (codes "s=-") ∷ behind;
         name = codes "-";
         version_is = (printed_line (codes "v=0"), refl, lacks_from 13 (codes "v=0") refl, (refl, refl));
-        origin_is = (printed_line (origin id), refl, quiet.1, origin_is id small);
+        origin_is = (printed_line (session_printed_origin id), refl, quiet.1, origin_is id small);
         name_is = (printed_line (codes "s=-"), refl, lacks_from 13 (codes "s=-") refl, (refl, lit< tt));
       };
       infos_are = (
@@ -108,7 +110,8 @@ said_session session reads small bandwidth attributes = record {
     header_is =
         subst
         (λ (ls : List Line). IsHeader (printed_line (codes "v=0") ∷
-        (printed_line (origin session.id) ∷ (printed_line (codes "s=-") ∷ ls))) (record { id = session.id; bw = session.bw })
+        (printed_line (session_printed_origin session.id) ∷ (printed_line (codes "s=-") ∷ ls)))
+        (record { id = session.id; bw = session.bw })
         (attrs.lines ++ rest))
         (placed rest)
         (header_is session.id session.bw small b (attrs.lines ++ rest)
@@ -153,7 +156,7 @@ said_session session reads small bandwidth attributes = record {
     joined_front =
         lines_joined-append (header_lines session.id b.lines) attrs.lines
         ∙ ap (λ (t : List ℕ). (codes "v=0" ++
-        (line_end ++ (origin session.id ++ (line_end ++ (codes "s=-" ++ (line_end ++ t)))))) ++ lines_joined attrs.lines)
+        (line_end ++ (session_printed_origin session.id ++ (line_end ++ (codes "s=-" ++ (line_end ++ t)))))) ++ lines_joined attrs.lines)
         (lines_joined-append b.lines (timing_lines ∷ []))
         ∙ simp append_assoc
 

@@ -4,7 +4,7 @@ use Rattle.std.specs.Prelude.{◌≡◌, ◌⊎◌, ℕ, List, [], ◌∷◌, �
 use Rattle.str0m_formats.specs.declared.format.format_param.FormatParam.TheVariants.{BareRange, BarePtList, Unknown}
 use Rattle.str0m_formats.specs.format.Pairs.{AreRead}
 use Rattle.str0m_sdp.specs.declared.label.TheConstants as label
-use Rattle.str0m_signal.specs.Prelude.{FirstFit, FormatParam, IsEventRange, IsNum, IsPt, IsRest, Lacks, Parted}
+use Rattle.str0m_signal.specs.Prelude.{FirstFit, FormatParam, IsEventRange, IsNum, IsPt, IsRest, Lacks, PartedAddress}
 use Rattle.str0m_signal.specs.form.Forms.{Behind}
 
 -- a space or a tab
@@ -53,7 +53,7 @@ IsPairsForm more values = (blanks : List ℕ) × (text : List ℕ) × (pairs : L
 
 -- SP and two or more payload types, parted by `/`: the first of them (RFC 2198, section 5)
 abbrev pub IsListForm : List ℕ → List FormatParam → Type 0
-IsListForm more values = (first : ℕ) × (second : ℕ) × (others : List ℕ) × Behind (codes " ") (Parted 47 (IsNum 255)) more (first ∷ second ∷ others) × (values ≡ BarePtList first ∷ [])
+IsListForm more values = (first : ℕ) × (second : ℕ) × (others : List ℕ) × Behind (codes " ") (PartedAddress 47 (IsNum 255)) more (first ∷ second ∷ others) × (values ≡ BarePtList first ∷ [])
 
 -- SP and a range from 0 on, written in digits alone: where it ends (RFC 4733, section 2.4)
 abbrev pub IsRangeForm : List ℕ → List FormatParam → Type 0

@@ -1,6 +1,6 @@
 -- Tables of forms: what a text may begin with, what it stands for, and how it is read. One form states all three.
 use Rattle.std.specs.Prelude.{◌≡◌, ◌⊎◌, ◌++◌, ◌∷◌, [], ℕ, Bool, true, false, List, Option, Some, None, ◌==◌, ◌||◌, if◌then◌else◌}
-use Rattle.str0m_signal.specs.Prelude.{IsNum, IsRest, Parted, is_rest, num, when, ◌<|>◌, ◌>>=◌}
+use Rattle.str0m_signal.specs.Prelude.{IsNum, IsRest, PartedAddress, is_rest, num, when, ◌<|>◌, ◌>>=◌}
 use Rattle.str0m_signal.specs.form.FormReading.{word_alone_read, behind, text_read, two_read, tailed_read, parted_read}
 use Rattle.str0m_signal.specs.form.Forms.{Behind, IsText, TwoParts, IsBeforeDroppedTail}
 
@@ -26,8 +26,8 @@ tailed_piece c piece = record { Is = IsBeforeDroppedTail c piece.Is; read = tail
 abbrev pub two_texts : Piece (List ℕ × List ℕ)
 two_texts = two_pieces 32 a_text a_text
 
-abbrev pub parted : {A : Type 0} → ℕ → Piece A → Piece (List A)
-parted c piece = record { Is = Parted c piece.Is; read = parted_read c piece.read }
+abbrev pub parted_piece : {A : Type 0} → ℕ → Piece A → Piece (List A)
+parted_piece c piece = record { Is = PartedAddress c piece.Is; read = parted_read c piece.read }
 
 -- ---- forms of a whole text
 
@@ -53,8 +53,8 @@ made_as {A} form make = record {
   read = λ text. form.read text >>= λ x. Some (make x);
 }
 
-abbrev pub labelled : {A B : Type 0} → List ℕ → Piece A → (A → B) → Form B
-labelled label piece make = made_as (form_led_by label piece) make
+abbrev pub labelled_form : {A B : Type 0} → List ℕ → Piece A → (A → B) → Form B
+labelled_form label piece make = made_as (form_led_by label piece) make
 
 -- a word alone, after which the line ends
 abbrev pub word : {A : Type 0} → List ℕ → A → Form A
@@ -90,7 +90,7 @@ any_word_form rows = any_form (word_forms_of rows)
 -- each label with this piece after it
 abbrev pub labelled_by : {A B : Type 0} → Piece B → List (List ℕ × (B → A)) → List (Form A)
 labelled_by piece [] = []
-labelled_by piece (row ∷ rows) = labelled row.0 piece row.1 ∷ labelled_by piece rows
+labelled_by piece (row ∷ rows) = labelled_form row.0 piece row.1 ∷ labelled_by piece rows
 
 -- a table of labels with a text after
 abbrev pub texts : {A : Type 0} → List (List ℕ × (List ℕ → A)) → Form A

@@ -5,7 +5,7 @@ use Rattle.str0m_sdp.specs.declared.label.TheConstants as label
 use Rattle.str0m_signal.specs.Prelude.{FirstFit, IsLongestBeginning, IsRest, MediaAttribute, text_beginning_of, is_rest, media_words, when, ◌<|>◌}
 use Rattle.str0m_signal.specs.form.Fmtp.{IsFmtp}
 use Rattle.str0m_signal.specs.form.FmtpReading.{fmtp_fields_read}
-use Rattle.str0m_signal.specs.form.FormTable.{Piece, Form, own, a_text, number, two_pieces, tailed_piece, parted, labelled, made_as, any_form, any_word_form, texts, pair_forms, IsUnused, unused_read, first_byte, by_letter}
+use Rattle.str0m_signal.specs.form.FormTable.{Piece, Form, own, a_text, number, two_pieces, tailed_piece, parted_piece, labelled_form, made_as, any_form, any_word_form, texts, pair_forms, IsUnused, unused_read, first_byte, by_letter}
 use Rattle.str0m_signal.specs.form.FormTransport.{ice_texts, candidate, fingerprint, setup}
 use Rattle.str0m_signal.specs.form.Rid.{IsRid}
 use Rattle.str0m_signal.specs.form.RidReading.{rid_fields_read}
@@ -22,48 +22,48 @@ abbrev pub media_pairs : List (List ℕ × (List ℕ × List ℕ → MediaAttrib
 media_pairs = (label.MSID.now, λ p. Msid (record { stream_id = p.0; track_id = p.1 })) ∷ []
 
 abbrev pub rtcp : Form MediaAttribute
-rtcp = labelled label.RTCP.now a_text Rtcp
+rtcp = labelled_form label.RTCP.now a_text Rtcp
 
 -- a name, as far as it is kept
 abbrev pub name : Piece (List ℕ)
 name = record { Is = λ text mid. IsRest text × IsLongestBeginning 16 text mid; read = λ text. when (is_rest text) (text_beginning_of 16 text) }
 
 abbrev pub mid : Form MediaAttribute
-mid = labelled label.MID.now name Mid
+mid = labelled_form label.MID.now name Mid
 
 abbrev pub sctp_port : Form MediaAttribute
-sctp_port = labelled label.SCTP_PORT.now (number 65535) SctpPort
+sctp_port = labelled_form label.SCTP_PORT.now (number 65535) SctpPort
 
 abbrev pub max_message_size : Form MediaAttribute
-max_message_size = labelled label.MAX_MESSAGE_SIZE.now (number 18446744073709551615) MaxMessageSize
+max_message_size = labelled_form label.MAX_MESSAGE_SIZE.now (number 18446744073709551615) MaxMessageSize
 
 abbrev pub sctp_init : Form MediaAttribute
-sctp_init = labelled label.SCTP_INIT.now a_text SctpInit
+sctp_init = labelled_form label.SCTP_INIT.now a_text SctpInit
 
 abbrev pub ext_map : Form MediaAttribute
 ext_map =
-    labelled label.EXTMAP.now (two_pieces 32 (tailed_piece 47 (number 255)) (tailed_piece 32 a_text)) (λ p. ExtMap p.0 (record { uri = p.1; serialized = true }))
+    labelled_form label.EXTMAP.now (two_pieces 32 (tailed_piece 47 (number 255)) (tailed_piece 32 a_text)) (λ p. ExtMap p.0 (record { uri = p.1; serialized = true }))
 
 abbrev pub rtpmap : Form MediaAttribute
 rtpmap = made_as (own label.RTPMAP.now (λ text p. IsRtpMap text p.0 p.1) rtpmap_fields_read) (λ p. RtpMap p.0 p.1)
 
 abbrev pub rtcp_fb : Form MediaAttribute
-rtcp_fb = labelled label.RTCP_FB.now (two_pieces 32 (number 127) a_text) (λ p. RtcpFb p.0 p.1)
+rtcp_fb = labelled_form label.RTCP_FB.now (two_pieces 32 (number 127) a_text) (λ p. RtcpFb p.0 p.1)
 
 abbrev pub fmtp : Form MediaAttribute
 fmtp = made_as (own label.FMTP.now (λ text p. IsFmtp text p.0 p.1) fmtp_fields_read) (λ p. Fmtp p.0 p.1)
 
 abbrev pub rid : Form MediaAttribute
-rid = labelled label.RID.now (record { Is = IsRid; read = rid_fields_read }) (λ f. Rid f.0 f.1.0 f.1.1.0 f.1.1.1)
+rid = labelled_form label.RID.now (record { Is = IsRid; read = rid_fields_read }) (λ f. Rid f.0 f.1.0 f.1.1.0 f.1.1.1)
 
 abbrev pub simulcast : Form MediaAttribute
-simulcast = labelled label.SIMULCAST.now (record { Is = IsSimulcast; read = simulcast_fields_read }) Simulcast
+simulcast = labelled_form label.SIMULCAST.now (record { Is = IsSimulcast; read = simulcast_fields_read }) Simulcast
 
 abbrev pub ssrc_group : Form MediaAttribute
-ssrc_group = labelled label.SSRC_GROUP.now (two_pieces 32 a_text (parted 32 (number 4294967295))) (λ p. SsrcGroup p.0 p.1)
+ssrc_group = labelled_form label.SSRC_GROUP.now (two_pieces 32 a_text (parted_piece 32 (number 4294967295))) (λ p. SsrcGroup p.0 p.1)
 
 abbrev pub ssrc : Form MediaAttribute
-ssrc = labelled label.SSRC.now (two_pieces 32 (number 4294967295) (two_pieces 58 a_text a_text)) (λ p. Ssrc p.0 p.1.0 p.1.1)
+ssrc = labelled_form label.SSRC.now (two_pieces 32 (number 4294967295) (two_pieces 58 a_text a_text)) (λ p. Ssrc p.0 p.1.0 p.1.1)
 
 -- those that are neither a mapping nor a format
 abbrev pub other_forms : List (Form MediaAttribute)

@@ -1,6 +1,6 @@
 -- The form of the line of a stream that may be restricted (RFC 8851, section 10).
 use Rattle.std.specs.Prelude.{◌≡◌, ◌≢◌, ◌⊎◌, ◌++◌, true, ℕ, List, [], ◌∷◌, codes}
-use Rattle.str0m_signal.specs.Prelude.{IsPt, Parted, RestrictionId}
+use Rattle.str0m_signal.specs.Prelude.{IsPt, PartedAddress, RestrictionId}
 use Rattle.str0m_signal.specs.form.Fmtp.{AreBlanks, IsFmtpKey, IsFmtpValue}
 use Rattle.str0m_signal.specs.form.Forms.{Behind, TwoParts}
 use Rattle.str0m_signal.specs.form.RidStreamName.{IsStreamName}
@@ -16,11 +16,11 @@ IsRestriction text pair = (blanks : List ℕ) × (text ≡ blanks ++ (pair.0 ++ 
 -- nothing, or restrictions with `;` between each two
 abbrev pub AreRestrictions : List ℕ → List (List ℕ × List ℕ) → Type 0
 AreRestrictions text [] = text ≡ []
-AreRestrictions text (pair ∷ pairs) = Parted 59 IsRestriction text (pair ∷ pairs)
+AreRestrictions text (pair ∷ pairs) = PartedAddress 59 IsRestriction text (pair ∷ pairs)
 
 -- payload types with `,` between each two, and after them nothing, or `;` and restrictions
 abbrev pub AreTyped : List ℕ → List ℕ × List (List ℕ × List ℕ) → Type 0
-AreTyped text lists = (Parted 44 IsPt text lists.0 × (lists.1 ≡ [])) ⊎ TwoParts 59 (Parted 44 IsPt) AreRestrictions text lists
+AreTyped text lists = (PartedAddress 44 IsPt text lists.0 × (lists.1 ≡ [])) ⊎ TwoParts 59 (PartedAddress 44 IsPt) AreRestrictions text lists
 
 -- payload types where the text begins with their label, else restrictions alone
 abbrev pub AreRidLists : List ℕ → List ℕ × List (List ℕ × List ℕ) → Type 0

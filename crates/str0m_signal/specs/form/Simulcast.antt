@@ -1,7 +1,7 @@
 -- The form of a simulcast line (RFC 8853, section 5.1).
 use Rattle.std.specs.Prelude.{◌≡◌, ◌⊎◌, false, ℕ, List, [], ◌∷◌, None, codes}
 use Rattle.str0m_sdp.specs.attribute.Simulcast.{id_text}
-use Rattle.str0m_signal.specs.Prelude.{Parted, RestrictionId, Simulcast, SimulcastLayer}
+use Rattle.str0m_signal.specs.Prelude.{PartedAddress, RestrictionId, Simulcast, SimulcastLayer}
 use Rattle.str0m_signal.specs.form.Forms.{Behind, TwoParts}
 use Rattle.str0m_signal.specs.form.RidStreamName.{IsStreamName}
 
@@ -11,11 +11,11 @@ IsAlternative text id = (text ≡ id_text id) × IsStreamName id.0
 
 -- alternatives with `,` between each two; the first is the layer
 abbrev pub IsLayer : List ℕ → SimulcastLayer → Type 0
-IsLayer text layer = (others : List RestrictionId) × Parted 44 IsAlternative text (layer.restriction_id ∷ others) × (layer.attributes ≡ None)
+IsLayer text layer = (others : List RestrictionId) × PartedAddress 44 IsAlternative text (layer.restriction_id ∷ others) × (layer.attributes ≡ None)
 
 -- layers with `;` between each two
 abbrev pub IsSide : List ℕ → List SimulcastLayer → Type 0
-IsSide = Parted 59 IsLayer
+IsSide = PartedAddress 59 IsLayer
 
 -- two sides, each after its word
 abbrev pub AreBothSides : List ℕ → List ℕ → List ℕ → List SimulcastLayer × List SimulcastLayer → Type 0

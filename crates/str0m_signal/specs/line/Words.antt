@@ -1,7 +1,7 @@
 -- What one item of a list stands for, and what may stand at the ends of a list.
 use Rattle.std.specs.Char.{digit_value}
 use Rattle.std.specs.Prelude.{◌≡◌, ◌⊎◌, ◌<◌, ◌+◌, ◌*◌, ℕ, List, [], ◌∷◌, ◌++◌, codes}
-use Rattle.str0m_signal.specs.Prelude.{IsLongestBeginning, IsWord, Parted}
+use Rattle.str0m_signal.specs.Prelude.{IsLongestBeginning, IsWord, PartedAddress}
 use Rattle.str0m_signal.specs.form.Forms.{IsText, TwoParts}
 
 -- a word stands for itself
@@ -23,11 +23,11 @@ IsSpace text = (text ≡ []) ⊎ (text ≡ codes " ")
 -- a word, and names after it, each after a space; a space may end them (RFC 5888, section 5)
 abbrev pub AreGroupNames : List ℕ → List ℕ → List (List ℕ) → Type 0
 AreGroupNames text typ [] = IsWordText text typ
-AreGroupNames text typ (name ∷ names) = TwoParts 32 IsText (Parted 32 IsKeptName) text (typ, name ∷ names)
+AreGroupNames text typ (name ∷ names) = TwoParts 32 IsText (PartedAddress 32 IsKeptName) text (typ, name ∷ names)
 
 abbrev pub IsGroup : List ℕ → List ℕ × List (List ℕ) → Type 0
 IsGroup text group = (names : List ℕ) × (end : List ℕ) × (text ≡ names ++ end) × IsSpace end × AreGroupNames names group.0 group.1
 
 -- a word and one or more words after it, each after a space; a space may stand before them
 abbrev pub IsMsidSemantic : List ℕ → List ℕ × List (List ℕ) → Type 0
-IsMsidSemantic text meant = (lead : List ℕ) × (words : List ℕ) × (text ≡ lead ++ words) × IsSpace lead × TwoParts 32 IsText (Parted 32 IsWordText) words meant
+IsMsidSemantic text meant = (lead : List ℕ) × (words : List ℕ) × (text ≡ lead ++ words) × IsSpace lead × TwoParts 32 IsText (PartedAddress 32 IsWordText) words meant

@@ -11,12 +11,12 @@ use Rattle.str0m_signal.specs.session.Reader.{Described}
 abbrev pub brought_by : MediaLine → Option (List PayloadParams × Direction)
 brought_by m = if is_media m.typ then Some (rows m, section_direction m.attrs) else None
 
-abbrev pub brought : Round → List PayloadParams × Direction
-brought round = (round.remote.items, round.direction)
+abbrev pub brought_by_round : Round → List PayloadParams × Direction
+brought_by_round round = (round.remote.items, round.direction)
 
 -- one round for each audio or video section, in order, disabled ones too
 abbrev pub AreRoundsOf : List MediaLine → List Round → Type 0
-AreRoundsOf sections rounds = map brought rounds ≡ filter_map brought_by sections
+AreRoundsOf sections rounds = map brought_by_round rounds ≡ filter_map brought_by sections
 
 -- the rounds of the sections lead from the rows before them to the rows after them, with these outcomes
 pub record Negotiated (sections : List MediaLine) (before : List PayloadParams) (outcomes : List Outcome) (after : List PayloadParams) : Type 0 where

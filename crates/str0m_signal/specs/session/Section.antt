@@ -3,7 +3,7 @@ use Rattle.std.specs.Prelude.{◌≡◌, ◌⊎◌, ◌↔◌, ℕ, Bool, List, 
 use Rattle.str0m_sdp.specs.declared.attribute.media_type.MediaType.TheVariants.{Audio, Video, Application, Unknown}
 use Rattle.str0m_sdp.specs.declared.attribute.proto.Proto.TheVariants.{Srtp, Sctp}
 use Rattle.str0m_sdp.specs.declared.label.TheConstants.{AUDIO, VIDEO, APPLICATION, SRTP, SCTP, OLD_SCTP}
-use Rattle.str0m_signal.specs.Prelude.{Bandwidth, FirstFit, IsNum, IsRest, IsWithout, IsWord, MediaLine, MediaType, Parted, Proto}
+use Rattle.str0m_signal.specs.Prelude.{Bandwidth, FirstFit, IsNum, IsRest, IsWithout, IsWord, MediaLine, MediaType, PartedAddress, Proto}
 use Rattle.str0m_signal.specs.form.MediaAttribute.{IsMediaLine}
 use Rattle.str0m_signal.specs.line.Lines.{Line, OneLine, TakenLine, Run}
 
@@ -51,7 +51,7 @@ pub record IsHead (content : List ℕ) (head : Head) : Type 0 where
   pub kind_is : IsWord kind × IsMediaKindText kind head.typ
   pub port_is : IsWord port × (IsTrue head.disabled ↔ (port ≡ codes "0"))
   pub protocol_is : IsWord protocol × IsProto protocol head.proto
-  pub types_are : FirstFit (Parted 32 (IsNum 255)) NoTypes types head.pts
+  pub types_are : FirstFit (PartedAddress 32 (IsNum 255)) NoTypes types head.pts
 
 -- a section: its m-line, then a `c=` line and a `b=` line, each taken where it stands next, and the run of attribute lines
 pub record IsSection (lines : List Line) (m : MediaLine) (rest : List Line) : Type 0 where

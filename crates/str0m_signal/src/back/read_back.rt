@@ -33,7 +33,7 @@ fn has_no_end(line: &str) -> bool
 }
 
 /// The line without its end, where the text is one whole line.
-pub(crate) fn content(text: &str) -> Option<&str>
+pub(crate) fn line_content(text: &str) -> Option<&str>
     ensures { IsTheOnly (λ line. (text.now ≡ line ++ line_end) × Lacks 10 line × Lacks 13 line) (option_copied result) }
 {
     let line = text.strip_suffix("\r\n")?;
@@ -54,8 +54,8 @@ fn fitting<A: ReadBack>(attr: &A, read: Option<A>) -> Option<A>
 fn line_back<A: ReadBack>(alloc: Global, attr: &A, text: &str) -> Result<Option<A>, AllocError>
     ensures { IfOk result (IsTheOnly (λ read. IsPrintedAs (IsReadBy A.reading) text.now read × A.GoesWith attr.now read)) }
 {
-    match content(text) {
-        Some(content) => Ok(fitting(attr, line(alloc, content)?)),
+    match line_content(text) {
+        Some(line_content) => Ok(fitting(attr, line(alloc, line_content)?)),
         None => Ok(None),
     }
 }

@@ -8,7 +8,7 @@ ghost use Rattle.str0m_signal.specs.line.Heads.{media_head};
 ghost use Rattle.str0m_signal.specs.session.Section.{IsBandwidth, IsHead};
 
 use crate::back::attributes_back::media_back;
-use crate::back::read_back::content;
+use crate::back::read_back::line_content;
 use crate::line::heads::{MediaHead, head};
 use crate::session::bandwidth::bandwidth;
 use std::alloc::{AllocError, Global};
@@ -19,7 +19,7 @@ use str0m_values::{Items, Pt};
 fn head_back(alloc: Global, text: &str) -> Result<Option<MediaHead>, AllocError>
     ensures { IfOk result (λ found. IsTheOnly (IsPrintedAs IsHead text.now) (option_map media_head found)) }
 {
-    match content(text) {
+    match line_content(text) {
         Some(line) => head(alloc, line),
         None => Ok(None),
     }
@@ -29,7 +29,7 @@ fn head_back(alloc: Global, text: &str) -> Result<Option<MediaHead>, AllocError>
 fn bandwidth_line_back(alloc: Global, text: &str) -> Result<Option<Bandwidth>, AllocError>
     ensures { IfOk result (IsTheOnly (IsPrintedAs IsBandwidth text.now)) }
 {
-    match content(text) {
+    match line_content(text) {
         Some(line) => bandwidth(alloc, line),
         None => Ok(None),
     }

@@ -17,18 +17,18 @@ fn codec(name: &str) -> Codec
     Codec::from(name)
 }
 
-fn frequency(text: &str) -> Option<Frequency>
+fn mapping_frequency(text: &str) -> Option<Frequency>
     ensures { result ≡ frequency_read text.now }
 {
     Frequency::new(num_u32(text)?)
 }
 
-fn clock(text: &str) -> Option<(Frequency, Option<u8>)>
+fn mapping_clock(text: &str) -> Option<(Frequency, Option<u8>)>
     ensures { result ≡ clock_read text.now (cut 47 text.now) }
 {
     match cut(text, Separator::Slash) {
-        None => Some((frequency(text)?, None)),
-        Some((hertz, channels)) => Some((frequency(hertz)?, Some(num_u8(channels, 255)?))),
+        None => Some((mapping_frequency(text)?, None)),
+        Some((hertz, channels)) => Some((mapping_frequency(hertz)?, Some(num_u8(channels, 255)?))),
     }
 }
 
@@ -39,7 +39,7 @@ fn mapping(text: &str) -> Option<RtpMap>
     if name.is_empty() {
         return None;
     }
-    let (clock_rate, channels) = clock(rates)?;
+    let (clock_rate, channels) = mapping_clock(rates)?;
     Some(RtpMap {
         codec: codec(name),
         clock_rate,

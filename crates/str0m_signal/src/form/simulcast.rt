@@ -151,7 +151,7 @@ fn both_sides(alloc: Global, text: &str, other: &str) -> Result<Option<LayerSide
 }
 
 /// The layers of the text after the label.
-fn layers(alloc: Global, text: &str) -> Result<Option<Simulcast>, AllocError>
+fn simulcast_layers(alloc: Global, text: &str) -> Result<Option<Simulcast>, AllocError>
     ensures { IfOk result (λ found. found ≡ simulcast_fields_read text.now) }
 {
     if let Some(body) = strip(text, "send ") {
@@ -189,7 +189,7 @@ pub(crate) fn simulcast_line(
     let Some(body) = strip(text, label::SIMULCAST) else {
         return Ok(None);
     };
-    match layers(alloc, body)? {
+    match simulcast_layers(alloc, body)? {
         Some(simulcast) => Ok(Some(MediaAttribute::Simulcast(simulcast))),
         None => Ok(None),
     }

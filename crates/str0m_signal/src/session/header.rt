@@ -42,7 +42,7 @@ fn id_digits(text: &str) -> Option<u64>
     }
 }
 
-fn origin(line: &str) -> Option<u64>
+fn header_origin(line: &str) -> Option<u64>
     ensures { result ≡ origin_read line.now }
 {
     let body = strip(line, "o=")?;
@@ -59,7 +59,7 @@ fn read_origin(text: &str) -> Option<(u64, &str)>
     ensures { option_map lines_left result ≡ line_read origin_read (lines_of text.now) }
 {
     let (line, rest) = clean_line(text)?;
-    Some((origin(line)?, rest))
+    Some((header_origin(line)?, rest))
 }
 
 fn header_opening(text: &str) -> Option<(u64, &str)>
@@ -73,7 +73,7 @@ fn header_opening(text: &str) -> Option<(u64, &str)>
     Some((id, rest))
 }
 
-fn info(line: &str) -> Option<&str>
+fn header_info(line: &str) -> Option<&str>
     ensures { option_map (λ x. x.now) result ≡ info_read line.now }
 {
     if let Some(text) = field(line, "i=") {
@@ -101,7 +101,7 @@ fn read_info(text: &str) -> Option<(&str, &str)>
     ensures { option_map both_lines_left result ≡ line_read info_read (lines_of text.now) }
 {
     let (line, rest) = clean_line(text)?;
-    Some((info(line)?, rest))
+    Some((header_info(line)?, rest))
 }
 
 fn skip_infos(text: &str) -> &str

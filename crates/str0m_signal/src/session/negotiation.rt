@@ -5,18 +5,18 @@ ghost use Rattle.str0m_signal.specs.Prelude.{AllTypesDistinct, HasBoundedRows, I
 ghost use Rattle.str0m_signal.specs.back.ReadBack.{MayBePrinted, ReadsBack};
 ghost use Rattle.str0m_signal.specs.back.Writable.{Writable};
 ghost use Rattle.str0m_signal.specs.back.WritableAgain.{IsOverSrtp, IsRead, MayBeWrittenAgain};
-ghost use Rattle.str0m_signal.specs.session.Negotiation.{Negotiated, NegotiatedText, brought, brought_by};
+ghost use Rattle.str0m_signal.specs.session.Negotiation.{Negotiated, NegotiatedText, brought_by_round, brought_by};
 ghost use Rattle.str0m_signal.specs.session.Reader.{Described};
 ghost use Rattle.str0m_signal.specs.session.ReaderAnswers.{Refuses};
 
-use crate::session::offer::described;
+use crate::session::offer::described_offer;
 use std::alloc::{AllocError, Global};
 use str0m_formats::{CodecConfig, NegotiationError, Round};
 use str0m_sdp::{MediaLine, SdpError};
 
 /// What an audio or video section brings to a round.
 fn round_of(section: &MediaLine) -> Result<Option<Round>, AllocError>
-    ensures { IfOk result (λ found. option_map brought found ≡ brought_by section.now) }
+    ensures { IfOk result (λ found. option_map brought_by_round found ≡ brought_by section.now) }
 {
     if section.typ.is_media() {
         let remote = section.rtp_params()?;
@@ -29,7 +29,7 @@ fn round_of(section: &MediaLine) -> Result<Option<Round>, AllocError>
 
 /// The rounds of the audio and video sections, in order.
 fn rounds_of(alloc: Global, sections: &[MediaLine]) -> Result<Vec<Round>, AllocError>
-    ensures { IfOk result (λ rounds. map brought rounds.items ≡ filter_map brought_by sections.now) }
+    ensures { IfOk result (λ rounds. map brought_by_round rounds.items ≡ filter_map brought_by sections.now) }
 {
     let mut rounds = Vec::new(alloc);
     for section in sections {
@@ -93,6 +93,6 @@ pub fn negotiate_text(
     ensures back_in_readings { MayBePrinted config.old.params.items → (sdp : Sdp) (i : ℕ) → IsRead sdp → MayBeWrittenAgain sdp
         → IsOverSrtp sdp i → ReadsBack sdp i config.new.params.items }
 {
-    let sdp = described(*config.allocator(), text)?;
+    let sdp = described_offer(*config.allocator(), text)?;
     Ok(negotiate(config, sdp.media_lines.as_slice())?)
 }

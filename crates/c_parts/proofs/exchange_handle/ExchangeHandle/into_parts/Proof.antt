@@ -4,7 +4,8 @@ use Rattle.c_parts.proofs.PartsFullness.{part_full_is}
 use Rattle.c_parts.proofs.PartsSteps.{◌≡◌, refl, [], ◌∷◌, ◌++◌, Val, SProp, id⊢, ftrue, fsep, WpFn, fact, tables, ‵, raw, ◌⊛◌, ◌$◌, ◌∵◌, ! }
 use Rattle.c_parts.proofs.PartsSteps.{qed, by, move, keep, use1, rewrite, prop, agg, no_more, and_then, of_opd, returns, enter, alloc_all}
 use Rattle.c_parts.proofs.PartsSteps.{pass_all, free_all, look_at, get, sets, RattleType, yes, type_at, heard, Stays, stay_dropped, walk_of}
-use Rattle.c_parts.proofs.PartsSteps.{Goes-dropped, proved_at, leaves, X, D, B, word, box_typed, box_in, takes, begins, told, spent}
+use Rattle.c_parts.proofs.PartsSteps.{Goes-dropped, proved_at, leaves, X, D, B, word, box_typed, box_in, takes_parts, begins, told}
+use Rattle.c_parts.proofs.PartsSteps.{spent_parts}
 use Rattle.c_parts.proofs.PartsSteps.{field_of}
 use Rattle.c_parts.proofs.exchange_handle.ExchangeHandle.into_parts.Code as code
 use Rattle.c_parts.proofs.exchange_handle.ExchangeHandle.into_parts.Statement.{statement}
@@ -29,7 +30,8 @@ into_parts_spec 𝓤 𝓛 𝓜 𝓡 wired =
     let holds : h.inner ≡ Some x = (part_full_is h.inner full).1 in
     let held : D E = record { ptr = h.ptr; alloc = h.alloc; value = x } in let made : To.Denot =
     record { ptr = h.ptr; alloc = h.alloc; value = x } in
-    takes ! $ rewrite ! 0 (λ (o : Option (X E)). ‵ ((Handle.the_row).own_val (record { ptr = h.ptr; alloc = h.alloc; inner = o }) z.0.4.0))
+    takes_parts ! $ rewrite ! 0 (λ (o : Option (X E)). ‵
+    ((Handle.the_row).own_val (record { ptr = h.ptr; alloc = h.alloc; inner = o }) z.0.4.0))
     holds refl $
     use1 𝓛 (‵ ((B E).own_val held z.0.4.0)) (id⊢ 𝓤 _) $
     -- the handle is one word, which is the parts', too
@@ -40,5 +42,5 @@ into_parts_spec 𝓤 𝓛 𝓜 𝓡 wired =
     sets ! (of_opd ! (get ! refl)) refl (tt, tt) $ sets ! (agg ! (and_then ! (get ! refl) (and_then ! (get ! refl) (no_more !)))) refl
     (box_typed E hv b o fits) $
     -- [nothing of the handle; the fact; the parts; no tokens]
-    told 𝓛 (h.inner ≡ Some x) holds $ spent ! $ returns ! (look_at ! 0 refl) $ free_all ! refl $ keep ! (3 ∷ 0 ∷ 2 ∷ 1 ∷ []) $
+    told 𝓛 (h.inner ≡ Some x) holds $ spent_parts ! $ returns ! (look_at ! 0 refl) $ free_all ! refl $ keep ! (3 ∷ 0 ∷ 2 ∷ 1 ∷ []) $
     by ! (leaves 𝓛 ended gone c z w made (tt, tt) (tt, tt))))))

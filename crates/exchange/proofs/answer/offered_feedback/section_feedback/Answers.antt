@@ -3,5 +3,6 @@ use Rattle.exchange.proofs.answer.offered_feedback.section_feedback.Goals as goa
 use Rattle.exchange.specs.answer.OfferedFeedback.{IsGathered}
 
 pub returns : goal.returns
-returns c = subst (λ (attrs : List MediaAttribute). IsGathered attrs c.gathered.result.of_types c.gathered.result.of_all) c.as_slice.ensures
-    c.gathered.ensures
+returns c = subst (λ (attrs : List MediaAttribute). IsGathered attrs c.gathered_feedback.result.of_types c.gathered_feedback.result.of_all)
+    c.as_slice.ensures
+    c.gathered_feedback.ensures

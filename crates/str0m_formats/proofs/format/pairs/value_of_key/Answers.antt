@@ -7,10 +7,10 @@ pub returns-in-Some : goal.returns-in-Some
 returns-in-Some c =
     let merged = c.args.merged.now in
     sym (merged_key_value_there c.args.key.now merged c.in-Some.place _
-    (placed_alike c.args.key.now merged merged _ _ refl c.in-Some.is c.scan.ensures.place))
+    (placed_alike c.args.key.now merged merged _ _ refl c.in-Some.is c.key_place.ensures.place))
 
 pub returns-in-None : goal.returns-in-None
 returns-in-None c =
     let merged = c.args.merged.now in
     sym (merged_key_without_value c.args.key.now (pair_texts merged)
-    (placed_alike c.args.key.now merged merged _ _ refl c.in-None.is c.scan.ensures.place))
+    (placed_alike c.args.key.now merged merged _ _ refl c.in-None.is c.key_place.ensures.place))

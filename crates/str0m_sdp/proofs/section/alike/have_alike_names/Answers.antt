@@ -1,7 +1,7 @@
 use Rattle.str0m_sdp.proofs.Common.{sym, ap, refl, subst, ◌∙◌, ◌<◌, ◌≤◌, ℕ, true≢false, drop_all}
 use Rattle.str0m_sdp.proofs.section.AlikeLaws.{ids_from, first_shown_differ, firsts_agree, other_length}
 use Rattle.str0m_sdp.proofs.section.alike.have_alike_names.Goals as goal
-use Rattle.str0m_sdp.specs.section.Alike.{ids}
+use Rattle.str0m_sdp.specs.section.Alike.{layer_ids}
 
 pub returns-then-layers-others : goal.returns-then-layers-others
 returns-then-layers-others c = (
@@ -27,6 +27,6 @@ loop-i-preserved c =
 pub returns : goal.returns
 returns c =
     let over = subst (λ (n : ℕ). n ≤ c.loop-i.i) c.if-layers-others.false c.loop-i-test.false in
-    let ends = ap ids (drop_all c.loop-i.i c.args.layers.now c.loop-i-test.false)
-    ∙ sym (ap ids (drop_all c.loop-i.i c.args.others.now over)) in
+    let ends = ap layer_ids (drop_all c.loop-i.i c.args.layers.now c.loop-i-test.false)
+    ∙ sym (ap layer_ids (drop_all c.loop-i.i c.args.others.now over)) in
     (λ h. c.loop-i.invariant.0 ends, λ same. refl)

@@ -2,7 +2,7 @@ use Rattle.str0m_signal.proofs.Common.{◌≡◌, ◌∙◌, rules, sym}
 use Rattle.str0m_signal.proofs.form.RidLaws.{restriction_shorter}
 use Rattle.str0m_signal.proofs.form.rid.restrictions.Goals as goal
 use Rattle.str0m_signal.proofs.line.PairsOneByOne.{next_pair_of}
-use Rattle.str0m_signal.proofs.line.PartLaws.{regroup, part_with_front}
+use Rattle.str0m_signal.proofs.line.PartLaws.{parts_regroup, part_with_front}
 use Rattle.str0m_signal.specs.form.RidReading.{restriction_read, restrictions_read}
 
 pub returns-in_default : goal.returns-in_default
@@ -28,4 +28,4 @@ loop-key-preserved c =
     let m = next_pair_of restriction_read restriction_shorter (λ o. part_with_front c.loop-key.pairs.items o
     ≡ restrictions_read c.args.text.now)
     c.loop-key.rest.now _ (sym read) c.loop-key.invariant.1 in
-    (search rules, (m.0, m.1, rw c.in_ok-keep_pair.ensures (regroup _ _ _ ∙ m.2)))
+    (search rules, (m.0, m.1, rw c.in_ok-keep_pair.ensures (parts_regroup _ _ _ ∙ m.2)))

@@ -1,7 +1,7 @@
 use Rattle.str0m_signal.proofs.Common.{◌≡◌, ◌∙◌, rules, sym, pair_texts}
 use Rattle.str0m_signal.proofs.form.FmtpLaws.{pair_shorter, texts_push}
 use Rattle.str0m_signal.proofs.line.PairsOneByOne.{next_pair_of}
-use Rattle.str0m_signal.proofs.line.PartLaws.{regroup, part_with_front}
+use Rattle.str0m_signal.proofs.line.PartLaws.{parts_regroup, part_with_front}
 use Rattle.str0m_signal.proofs.line.pairs.pairs.Goals as goal
 use Rattle.str0m_signal.specs.form.FmtpReading.{pair_read, pairs_read}
 
@@ -27,4 +27,4 @@ loop-key-preserved c =
     let read = rw c.in-Some-next.is at c.in-Some.ensures in
     let m = next_pair_of pair_read pair_shorter (λ o. part_with_front (pair_texts c.loop-key.pairs.items) o ≡ pairs_read c.args.text.now)
     c.loop-key.rest.now _ (sym read) c.loop-key.invariant.1 in
-    (search rules, (m.0, m.1, rw (c.in_ok-push.ensures.items, texts_push) (regroup _ _ _ ∙ m.2)))
+    (search rules, (m.0, m.1, rw (c.in_ok-push.ensures.items, texts_push) (parts_regroup _ _ _ ∙ m.2)))

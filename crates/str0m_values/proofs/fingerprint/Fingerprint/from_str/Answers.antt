@@ -8,7 +8,7 @@ pub returns-clause-no_space : goal.returns-clause-no_space
 returns-clause-no_space c = laws.no_space c.args.text.now c.read.result c.read.ensures
 
 pub returns-clause-refuses : goal.returns-clause-refuses
-returns-clause-refuses c = laws.refuses c.args.text.now c.read.result c.read.ensures
+returns-clause-refuses c = laws.fingerprint_refused c.args.text.now c.read.result c.read.ensures
 
 pub returns-clause-itself : goal.returns-clause-itself
 returns-clause-itself c = laws.fingerprint_itself c.args.text.now c.read.result c.read.ensures

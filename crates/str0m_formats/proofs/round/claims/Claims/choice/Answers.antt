@@ -8,7 +8,7 @@ pub loop-theirs-preserved : goal.loop-theirs-preserved
 loop-theirs-preserved g c =
     choice_next (points_for (g.C.Claimed.holds c.args.self.now.claimed) c.args.self.now.receives c.args.row.now) c.args.remote.now
     c.loop-theirs.theirs-index c.theirs-item.result c.points.result (seen_best c.loop-theirs.best) _
-    c.loop-theirs-test.true c.theirs-item.is (sym c.points.ensures) c.better-best.ensures c.loop-theirs.invariant
+    c.loop-theirs-test.true c.theirs-item.is (sym c.points.ensures) c.better_row-best.ensures c.loop-theirs.invariant
 
 pub returns-in-None : goal.returns-in-None
 returns-in-None g c =

@@ -8,7 +8,7 @@ pub loop-row-preserved : goal.loop-row-preserved
 loop-row-preserved c =
     choice_next (points_with c.args.params) c.as_slice-row-items.result.now c.loop-row.row-index c.row-item.result c.match_score.result
     (seen_best c.loop-row.best) _
-    c.loop-row-test.true c.row-item.is (sym c.match_score.ensures.score) c.better-best.ensures c.loop-row.invariant
+    c.loop-row-test.true c.row-item.is (sym c.match_score.ensures.score) c.better_row-best.ensures c.loop-row.invariant
 
 pub returns-in-None : goal.returns-in-None
 returns-in-None c =

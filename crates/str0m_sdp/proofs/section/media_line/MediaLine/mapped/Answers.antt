@@ -6,7 +6,7 @@ use Rattle.str0m_sdp.proofs.section.media_line.MediaLine.mapped.Goals as goal
 use Rattle.str0m_sdp.specs.Common.{distinct}
 use Rattle.str0m_sdp.specs.declared.attribute.MediaAttribute.{MediaAttribute}
 use Rattle.str0m_sdp.specs.section.Consistency.{maps}
-use Rattle.str0m_sdp.specs.section.Mappings.{mapping, unmapped, mapped, static_type}
+use Rattle.str0m_sdp.specs.section.Mappings.{mapping, unmapped_type, mapped, static_type}
 
 pub loop-pt-init : goal.loop-pt-init
 loop-pt-init c =
@@ -29,7 +29,7 @@ loop-pt-preserved c =
     let pt = c.pt-item.result in
     let seen = c.loop-pt.seen in
     let lines = filter_map mapping attrs in
-    let before = filter_map (unmapped attrs) (distinct nat_eq (take i pts)) in
+    let before = filter_map (unmapped_type attrs) (distinct nat_eq (take i pts)) in
     let lt = c.loop-pt-test.true in
     let is = c.pt-item.is in
     let row = rw (c.place-place.ensures.is, ← c.loop-pt.invariant.whole) at c.place-place.ensures.within in
@@ -61,5 +61,5 @@ returns c =
     let attrs = c.args.self.now.attrs in
     let pts = c.as_slice-pt-items.result.now in
     c.loop-pt.invariant.rows
-    ∙ ap (λ (ns : List ℕ). filter_map mapping attrs ++ filter_map (unmapped attrs) (distinct nat_eq ns))
+    ∙ ap (λ (ns : List ℕ). filter_map mapping attrs ++ filter_map (unmapped_type attrs) (distinct nat_eq ns))
     (take_all c.loop-pt.pt-index pts c.loop-pt-test.false ∙ c.as_slice-pt-items.ensures)

@@ -1,5 +1,5 @@
 use Rattle.exchange.proofs.answer.InForceLaws.{of_section, of_session}
-use Rattle.exchange.proofs.answer.in_force.preferred.Goals as goal
+use Rattle.exchange.proofs.answer.in_force.preferred_in_force.Goals as goal
 
 pub returns-in-Some : goal.returns-in-Some
 returns-in-Some c = of_section _ _ _ (rw c.in-Some.is at c.in_ok-fingerprint.ensures)

@@ -1,6 +1,6 @@
 use Rattle.exchange.proofs.Common.{ap, replicate, take_all}
 use Rattle.exchange.proofs.answer.OfferedFeedbackLaws.{none_gathered, feedback_other_more, feedback_typed_more}
-use Rattle.exchange.proofs.answer.offered_feedback.gathered.Goals as goal
+use Rattle.exchange.proofs.answer.offered_feedback.gathered_feedback.Goals as goal
 use Rattle.exchange.specs.declared.answer.offered_feedback.OfferedFeedback.{OfferedFeedback}
 
 pub loop-attr-init : goal.loop-attr-init

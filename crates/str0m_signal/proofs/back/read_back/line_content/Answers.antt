@@ -1,6 +1,6 @@
 use Rattle.str0m_signal.proofs.Common.{◌++◌, List, ℕ, sym, ap, ◌∙◌, line_end}
 use Rattle.str0m_signal.proofs.back.ReadBackLaws.{ended_content, other_content}
-use Rattle.str0m_signal.proofs.back.read_back.content.Goals as goal
+use Rattle.str0m_signal.proofs.back.read_back.line_content.Goals as goal
 
 pub returns-then-has_no_end : goal.returns-then-has_no_end
 returns-then-has_no_end c =

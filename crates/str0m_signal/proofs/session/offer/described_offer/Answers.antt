@@ -1,5 +1,5 @@
 use Rattle.str0m_signal.proofs.session.ReaderAnswerLaws.{reader_passed_on, one_described}
-use Rattle.str0m_signal.proofs.session.offer.described.Goals as goal
+use Rattle.str0m_signal.proofs.session.offer.described_offer.Goals as goal
 use Rattle.str0m_signal.specs.session.Reader.{Reading, Described}
 
 pub returns-in-Ok-clause-one : goal.returns-in-Ok-clause-one

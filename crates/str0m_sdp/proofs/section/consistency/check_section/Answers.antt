@@ -1,5 +1,5 @@
 use Rattle.str0m_sdp.proofs.Common.{◌∙◌, filter_map, sym, ap}
-use Rattle.str0m_sdp.proofs.section.consistency.check.Goals as goal
+use Rattle.str0m_sdp.proofs.section.consistency.check_section.Goals as goal
 use Rattle.str0m_sdp.proofs.session.FaultLaws.{fault_earlier_passed}
 use Rattle.str0m_sdp.specs.Common.{first}
 use Rattle.str0m_sdp.specs.session.Fault.{after_mid, err_if, fault_beside, setup_fault, proto_fault, map_fault}

@@ -1,6 +1,6 @@
 use Rattle.str0m_formats.proofs.Common.{sym, ◌∙◌}
 use Rattle.str0m_formats.proofs.format.MergedPairsLaws.{merged_no_key_more, merged_first_key_here}
-use Rattle.str0m_formats.proofs.format.merged_pairs.scan.Goals as goal
+use Rattle.str0m_formats.proofs.format.merged_pairs.key_place.Goals as goal
 
 pub returns-then-eq-clause-place : goal.returns-then-eq-clause-place
 returns-then-eq-clause-place c =

@@ -1,5 +1,5 @@
 use Rattle.str0m_formats.proofs.Common.{None, take, bytes_eq}
-use Rattle.str0m_formats.proofs.format.merged_pairs.scan.Given as goal
+use Rattle.str0m_formats.proofs.format.merged_pairs.key_place.Given as goal
 use Rattle.str0m_formats.specs.format.FormatParam.{pair_texts}
 use Rattle.str0m_formats.specs.format.MergedPairs.{IsPlace}
 

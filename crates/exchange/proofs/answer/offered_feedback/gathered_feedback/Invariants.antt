@@ -1,5 +1,5 @@
 use Rattle.exchange.proofs.Common.{take}
-use Rattle.exchange.proofs.answer.offered_feedback.gathered.Given as goal
+use Rattle.exchange.proofs.answer.offered_feedback.gathered_feedback.Given as goal
 use Rattle.exchange.specs.answer.OfferedFeedback.{IsGathered}
 
 -- what the lines so far offer
