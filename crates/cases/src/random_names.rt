@@ -56,8 +56,8 @@ pub(crate) fn drawn_name(answer: &mut Answer, text: &str) {
 fn drawn_from(answer: &mut Answer, first: u32) {
     let mut counter = Counter(first);
     match &Msid::random(answer.alloc(), &mut counter) {
-        Ok(drawn_name) => {
-            answer.show(drawn_name);
+        Ok(drawn) => {
+            answer.show(drawn);
             answer.push(" ");
             answer.show(&counter.0);
         }

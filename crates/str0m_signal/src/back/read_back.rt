@@ -55,7 +55,7 @@ fn line_back<A: ReadBack>(alloc: Global, attr: &A, text: &str) -> Result<Option<
     ensures { IfOk result (IsTheOnly (λ read. IsPrintedAs (IsReadBy A.reading) text.now read × A.GoesWith attr.now read)) }
 {
     match line_content(text) {
-        Some(line_content) => Ok(fitting(attr, line(alloc, line_content)?)),
+        Some(content) => Ok(fitting(attr, line(alloc, content)?)),
         None => Ok(None),
     }
 }
