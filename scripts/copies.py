@@ -2,7 +2,7 @@
 
 A copy has the function's contract and a name of its own, and nothing calls it. It stands after the last line of its file, a method in a block
 with the head and the `ghost use` lines of its own; what proofs/ holds of the function is copied for it. So the same is owed of it as of the
-function, where that is edited. No copy have a method of a trait, since its block is the only one of its trait and type; what calls itself;
+function, where that is edited. Without a copy are a method of a trait, since its block is the only one of its trait and type; what calls itself;
 and what has a proof file for one of its closures."""
 import copy
 import re
@@ -69,3 +69,8 @@ def copy_of(edit, texts, number):
     for it in (it for it in texts if it.startswith(is_own)):
         made.added[f"proofs/{'/'.join([*home[:-1], name])}/{it.removeprefix(is_own)}"] = texts[it].replace(was, now)
     return made
+
+
+def has_copy(edit, texts):
+    """Whether the edit is made in a copy of its function."""
+    return copy_of(edit, texts, 0) is not None

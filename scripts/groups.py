@@ -1,7 +1,7 @@
 """Which edits one check tries: those by which no function falls but their own, each in a copy of its function where that has one."""
 import contextlib
 
-from copies import copy_of
+from copies import copy_of, has_copy
 from edit import changed
 
 
@@ -33,10 +33,14 @@ class Group:
 
 
 def groups_of(edits, texts, count):
-    """The edits in so many groups, each in the smallest that takes it, and in a further one where none does; wide ones last."""
+    """The edits in so many groups, and in further ones where those don't take them.
+
+    An edit in place goes to the first group that takes it, since what calls its function, and is tried beside it, is checked again; one in a
+    copy goes to the smallest."""
     groups = [Group(texts) for _ in range(count)]
-    for edit in sorted(edits, key=lambda it: it.is_wide):
-        if not any(it.takes(edit) for it in sorted(groups, key=lambda it: len(it.edits))):
+    for edit in sorted(edits, key=lambda it: has_copy(it, texts)):
+        in_order = sorted(groups, key=lambda it: len(it.edits)) if has_copy(edit, texts) else groups
+        if not any(it.takes(edit) for it in in_order):
             groups.append(Group(texts))
             groups[-1].takes(edit)
     return [it.edits for it in groups]
