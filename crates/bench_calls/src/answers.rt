@@ -17,7 +17,7 @@ fn fingerprint(alloc: Global) -> Result<Fingerprint, AllocError> {
 }
 
 /// A side that sends and receives all that it knows.
-fn own_side(alloc: Global) -> Result<OwnSide, AllocError> {
+fn answering_side(alloc: Global) -> Result<OwnSide, AllocError> {
     Ok(OwnSide {
         session_id: SessionId::from(1_u64),
         creds: IceCreds {
@@ -42,7 +42,7 @@ fn own_side(alloc: Global) -> Result<OwnSide, AllocError> {
 /// An exchange of that side with the default configuration, in which nothing was said yet.
 pub(crate) fn new_exchange(alloc: Global) -> Result<Exchange, AllocError> {
     let config = CodecConfig::new_with_defaults(alloc)?;
-    Ok(Exchange::new(own_side(alloc)?, config))
+    Ok(Exchange::new(answering_side(alloc)?, config))
 }
 
 /// Answers an offer in an exchange of its own; how many sections the answer has.

@@ -6,14 +6,14 @@ ghost use Rattle.bench_calls.specs.Answers.{HasAnswer, HasAnswered, HasRounds, T
 ghost use Rattle.std.specs.Prelude.{◌≡◌, ◌-◌, ◌^◌, MatchOption};
 
 use crate::answers::answered;
-use crate::task::{done, negotiated};
+use crate::task::{done_task, negotiated_task};
 use crate::tasks::{
     Candidates, Consistency, Defaults, Exchanges, Mark, Print, Rounds, Rows, Sources,
 };
 use std::alloc::Global;
 
 /// The number as C gets it.
-fn told(answer: Option<usize>) -> u64
+fn told_by_call(answer: Option<usize>) -> u64
     ensures { MatchOption answer (result ≡ 2 ^ 64 - 1) (λ n. result ≡ n) }
 {
     match answer {
@@ -27,7 +27,7 @@ fn told(answer: Option<usize>) -> u64
 pub extern "C" fn bench_read(alloc: Global, text: &[u8]) -> u64
     ensures { TellsNumber (HasAnswer text.now sections) result }
 {
-    told(done::<Mark>(alloc, text, 0))
+    told_by_call(done_task::<Mark>(alloc, text, 0))
 }
 
 /// Reads the text, makes the rows of all sections, and answers how many sections it has.
@@ -35,7 +35,7 @@ pub extern "C" fn bench_read(alloc: Global, text: &[u8]) -> u64
 pub extern "C" fn bench_rows(alloc: Global, text: &[u8], more: u32) -> u64
     ensures { TellsNumber (HasAnswer text.now sections) result }
 {
-    told(done::<Rows>(alloc, text, more))
+    told_by_call(done_task::<Rows>(alloc, text, more))
 }
 
 /// Reads the text, makes the configuration with the default rows, and answers how many sections the text has.
@@ -43,7 +43,7 @@ pub extern "C" fn bench_rows(alloc: Global, text: &[u8], more: u32) -> u64
 pub extern "C" fn bench_defaults(alloc: Global, text: &[u8], more: u32) -> u64
     ensures { TellsNumber (HasAnswer text.now sections) result }
 {
-    told(done::<Defaults>(alloc, text, more))
+    told_by_call(done_task::<Defaults>(alloc, text, more))
 }
 
 /// Reads the text, makes that configuration and the rows of all sections, runs a round with those of each section of audio or video,
@@ -52,7 +52,7 @@ pub extern "C" fn bench_defaults(alloc: Global, text: &[u8], more: u32) -> u64
 pub extern "C" fn bench_rounds(alloc: Global, text: &[u8], more: u32) -> u64
     ensures { TellsNumber (HasAnswer text.now sections) result }
 {
-    told(done::<Rounds>(alloc, text, more))
+    told_by_call(done_task::<Rounds>(alloc, text, more))
 }
 
 /// Negotiates with the text, which is read each time, and answers how many rounds that were.
@@ -60,7 +60,7 @@ pub extern "C" fn bench_rounds(alloc: Global, text: &[u8], more: u32) -> u64
 pub extern "C" fn bench_negotiate(alloc: Global, text: &[u8], more: u32) -> u64
     ensures { TellsNumber (HasRounds text.now) result }
 {
-    told(negotiated(alloc, text, more))
+    told_by_call(negotiated_task(alloc, text, more))
 }
 
 /// Reads the text, makes an exchange in which nothing is said, and answers how many sections the text has.
@@ -68,7 +68,7 @@ pub extern "C" fn bench_negotiate(alloc: Global, text: &[u8], more: u32) -> u64
 pub extern "C" fn bench_exchange(alloc: Global, text: &[u8], more: u32) -> u64
     ensures { TellsNumber (HasAnswer text.now sections) result }
 {
-    told(done::<Exchanges>(alloc, text, more))
+    told_by_call(done_task::<Exchanges>(alloc, text, more))
 }
 
 /// Answers the text as an offer, in an exchange of its own each time, and answers how many sections the answer has.
@@ -76,7 +76,7 @@ pub extern "C" fn bench_exchange(alloc: Global, text: &[u8], more: u32) -> u64
 pub extern "C" fn bench_answer(alloc: Global, text: &[u8], more: u32) -> u64
     ensures { TellsNumber (HasAnswered text.now) result }
 {
-    told(answered(alloc, text, more))
+    told_by_call(answered(alloc, text, more))
 }
 
 /// Reads the text, prints the description, and answers how many bytes were printed.
@@ -84,7 +84,7 @@ pub extern "C" fn bench_answer(alloc: Global, text: &[u8], more: u32) -> u64
 pub extern "C" fn bench_print(alloc: Global, text: &[u8], more: u32) -> u64
     ensures { TellsNumber (HasAnswer text.now text_length) result }
 {
-    told(done::<Print>(alloc, text, more))
+    told_by_call(done_task::<Print>(alloc, text, more))
 }
 
 /// Reads the text, gathers what is said of the sources of all sections, and answers how many sections it has.
@@ -92,7 +92,7 @@ pub extern "C" fn bench_print(alloc: Global, text: &[u8], more: u32) -> u64
 pub extern "C" fn bench_sources(alloc: Global, text: &[u8], more: u32) -> u64
     ensures { TellsNumber (HasAnswer text.now sections) result }
 {
-    told(done::<Sources>(alloc, text, more))
+    told_by_call(done_task::<Sources>(alloc, text, more))
 }
 
 /// Reads the text, gathers the candidates, each once, and answers how many sections it has.
@@ -100,7 +100,7 @@ pub extern "C" fn bench_sources(alloc: Global, text: &[u8], more: u32) -> u64
 pub extern "C" fn bench_candidates(alloc: Global, text: &[u8], more: u32) -> u64
     ensures { TellsNumber (HasAnswer text.now sections) result }
 {
-    told(done::<Candidates>(alloc, text, more))
+    told_by_call(done_task::<Candidates>(alloc, text, more))
 }
 
 /// Reads the text, asks whether the description is consistent, and answers how many sections it has.
@@ -108,5 +108,5 @@ pub extern "C" fn bench_candidates(alloc: Global, text: &[u8], more: u32) -> u64
 pub extern "C" fn bench_consistency(alloc: Global, text: &[u8], more: u32) -> u64
     ensures { TellsNumber (HasAnswer text.now sections) result }
 {
-    told(done::<Consistency>(alloc, text, more))
+    told_by_call(done_task::<Consistency>(alloc, text, more))
 }

@@ -20,7 +20,7 @@ pub(crate) trait Task {
 }
 
 /// The description that a text begins with; `None` where there is none, or where memory was refused.
-fn offer_in(alloc: Global, text: &[u8]) -> Option<SdpOffer>
+fn offer_of_task(alloc: Global, text: &[u8]) -> Option<SdpOffer>
     ensures { IfSome result (λ offer. Described text.now offer) }
 {
     match str::from_utf8(text) {
@@ -32,7 +32,7 @@ fn offer_in(alloc: Global, text: &[u8]) -> Option<SdpOffer>
     }
 }
 
-fn run_once<T: Task>(offer: &SdpOffer) -> Option<usize>
+fn run_task_once<T: Task>(offer: &SdpOffer) -> Option<usize>
     ensures { IfSome result (λ answer. answer ≡ T.answer offer.now) }
 {
     match T::run(offer) {
@@ -42,21 +42,21 @@ fn run_once<T: Task>(offer: &SdpOffer) -> Option<usize>
 }
 
 /// Does a task once, and then as often again as `more` says.
-fn often<T: Task>(offer: &SdpOffer, more: u32) -> Option<usize>
+fn run_task_often<T: Task>(offer: &SdpOffer, more: u32) -> Option<usize>
     ensures { IfSome result (λ answer. answer ≡ T.answer offer.now) }
 {
     for _ in 0..more {
-        let _ = run_once::<T>(offer);
+        let _ = run_task_once::<T>(offer);
     }
-    run_once::<T>(offer)
+    run_task_once::<T>(offer)
 }
 
 /// The same over a text, which is read once.
-pub(crate) fn done<T: Task>(alloc: Global, text: &[u8], more: u32) -> Option<usize>
+pub(crate) fn done_task<T: Task>(alloc: Global, text: &[u8], more: u32) -> Option<usize>
     ensures { IfSome result (HasAnswer text.now T.answer) }
 {
-    match offer_in(alloc, text) {
-        Some(offer) => match often::<T>(&offer, more) {
+    match offer_of_task(alloc, text) {
+        Some(offer) => match run_task_often::<T>(&offer, more) {
             Some(answer) => Some(answer),
             None => None,
         },
@@ -65,7 +65,7 @@ pub(crate) fn done<T: Task>(alloc: Global, text: &[u8], more: u32) -> Option<usi
 }
 
 /// Runs the rounds of the default configuration with a text, and answers how many they are.
-fn rounds(alloc: Global, text: &str) -> Result<usize, SdpError>
+fn task_rounds(alloc: Global, text: &str) -> Result<usize, SdpError>
     ensures { IfOk result (HasRounds text.now) }
 {
     let mut config = CodecConfig::new_with_defaults(alloc)?;
@@ -73,25 +73,25 @@ fn rounds(alloc: Global, text: &str) -> Result<usize, SdpError>
     Ok(outcomes.len())
 }
 
-fn rounds_once(alloc: Global, text: &str) -> Option<usize>
+fn task_rounds_once(alloc: Global, text: &str) -> Option<usize>
     ensures { IfSome result (HasRounds text.now) }
 {
-    match rounds(alloc, text) {
+    match task_rounds(alloc, text) {
         Ok(count) => Some(count),
         Err(_) => None,
     }
 }
 
 /// These rounds once, and then as often again as `more` says: each time the text is read, too.
-pub(crate) fn negotiated(alloc: Global, text: &[u8], more: u32) -> Option<usize>
+pub(crate) fn negotiated_task(alloc: Global, text: &[u8], more: u32) -> Option<usize>
     ensures { IfSome result (HasRounds text.now) }
 {
     match str::from_utf8(text) {
         Ok(text) => {
             for _ in 0..more {
-                let _ = rounds_once(alloc, text);
+                let _ = task_rounds_once(alloc, text);
             }
-            rounds_once(alloc, text)
+            task_rounds_once(alloc, text)
         }
         Err(_) => None,
     }

@@ -62,7 +62,7 @@ impl Task for Exchanges {
 }
 
 /// A round with the rows of the section, where it is one of audio or video. That one is refused, other than for memory, is no fault.
-fn meet(config: &mut CodecConfig, section: &MediaLine) -> Result<(), AllocError> {
+fn meet_offer(config: &mut CodecConfig, section: &MediaLine) -> Result<(), AllocError> {
     if !section.typ.is_media() {
         return Ok(());
     }
@@ -83,7 +83,7 @@ impl Task for Rounds {
         let sections = &offer.media_lines;
         let mut config = CodecConfig::new_with_defaults(*sections.allocator())?;
         for section in sections.as_slice() {
-            meet(&mut config, section)?;
+            meet_offer(&mut config, section)?;
         }
         Ok(sections.len())
     }

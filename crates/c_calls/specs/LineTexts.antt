@@ -1,5 +1,5 @@
 -- What calls write of the lines of a section.
-use Rattle.c_calls.specs.Prelude.{MediaAttribute, pts_part, restrictions_part}
+use Rattle.c_calls.specs.Prelude.{MediaAttribute, rid_pts_part, restrictions_part}
 use Rattle.c_calls.specs.declared.line_texts.LineText.{LineText}
 use Rattle.c_calls.specs.declared.line_texts.LineText.TheVariants.{Uri, RidName, Restrictions, Semantics}
 use Rattle.std.specs.Prelude.{ℕ, List, ◌++◌, Option, Some, None, drop}
@@ -7,7 +7,7 @@ use Rattle.str0m_sdp.specs.declared.attribute.MediaAttribute.TheVariants.{ExtMap
 
 -- payload types and restrictions as a rid line prints them, without the space before them
 abbrev pub rid_restrictions : List ℕ → List (List ℕ × List ℕ) → List ℕ
-rid_restrictions pts restrictions = drop 1 (pts_part pts ++ restrictions_part pts restrictions)
+rid_restrictions pts restrictions = drop 1 (rid_pts_part pts ++ restrictions_part pts restrictions)
 
 -- where the line says it: the URI of a header extension (RFC 8285, section 5); the name of a stream, and what it is restricted to (RFC 8851,
 -- section 4); what the sources of a group have in common (RFC 5576, section 4.2)

@@ -2,12 +2,12 @@
 pub use Rattle.c_json.specs.Description.{IsJsonText}
 pub use Rattle.c_parts.specs.Extension.{c_extensions}
 pub use Rattle.c_parts.specs.Layer.{c_layers}
-pub use Rattle.c_parts.specs.Parts.{IsFull}
+pub use Rattle.c_parts.specs.Parts.{IsRoomFull}
 pub use Rattle.c_parts.specs.Reading.{RefusesReading}
 pub use Rattle.c_parts.specs.Rid.{c_rids}
-pub use Rattle.c_parts.specs.Row.{c_outcome, c_row, c_rows, codec_at, said_unless}
-pub use Rattle.c_parts.specs.Section.{c_section, setup_number}
-pub use Rattle.c_parts.specs.Side.{RefusesBoth, RefusesOwn, SaysOwn, direction_numbered, kind_numbered, own_texts}
+pub use Rattle.c_parts.specs.Row.{c_outcome, c_row, c_rows, codec_at, row_number_unless}
+pub use Rattle.c_parts.specs.Section.{c_section, section_setup_number}
+pub use Rattle.c_parts.specs.Side.{RefusesSidePair, RefusesOwnSide, SaysOwnSide, side_direction_numbered, side_kind_numbered, own_texts}
 pub use Rattle.c_parts.specs.Source.{c_sources}
 pub use Rattle.c_parts.specs.SourceGroup.{c_source_groups}
 pub use Rattle.c_parts.specs.declared.section.Section.{Section}
@@ -19,18 +19,18 @@ pub use Rattle.exchange.specs.answer.Offered.{IsOffer, NegotiatesOffer}
 pub use Rattle.exchange.specs.declared.state.exchange.Exchange.{Exchange}
 pub use Rattle.exchange.specs.declared.state.own_side.OwnSide.{OwnSide}
 pub use Rattle.exchange.specs.declared.state.signaling_state.SignalingState.{SignalingState}
-pub use Rattle.exchange.specs.offer.AcceptedAnswer.{IsAnswer, RefusesAnswer, placed_of}
-pub use Rattle.exchange.specs.offer.Added.{with_channels, with_media, with_placed}
+pub use Rattle.exchange.specs.offer.AcceptedAnswer.{IsAnswer, RefusesAnswer, offer_placed_of}
+pub use Rattle.exchange.specs.offer.Added.{offer_with_channels, with_media, with_offer_placed}
 pub use Rattle.exchange.specs.offer.Fits.{FitsOffer}
 pub use Rattle.exchange.specs.offer.FreshNames.{AreFresh}
-pub use Rattle.exchange.specs.offer.MadeOffer.{MakesOffer, placed_as, ready_with}
-pub use Rattle.exchange.specs.offer.Names.{grown}
-pub use Rattle.exchange.specs.offer.OfferRules.{IsNewName, IsOffered, KeepsPlaces}
+pub use Rattle.exchange.specs.offer.MadeOffer.{MakesOffer, offer_placed_as, offer_ready_with}
+pub use Rattle.exchange.specs.offer.Names.{grown_names}
+pub use Rattle.exchange.specs.offer.OfferRules.{IsNewOfferName, IsOffered, KeepsOfferPlaces}
 pub use Rattle.exchange.specs.offer.Rules.{HasShapeOf, IsAcceptedExactly, KeepsRules}
 pub use Rattle.exchange.specs.section.Places.{StaysInPlaces}
-pub use Rattle.exchange.specs.state.Exchange.{AnswersOffer, EachSection, RefusesChannels, RefusesMedia, RefusesOffer, RefusesToOffer}
+pub use Rattle.exchange.specs.state.Exchange.{AnswersOffer, EachSection, ExchangeRefusesChannels, RefusesMedia, RefusesOffer, RefusesToOffer}
 pub use Rattle.exchange.specs.state.ExchangeFollows.{Follows, IsSound}
-pub use Rattle.exchange.specs.state.OwnSide.{with_entry}
+pub use Rattle.exchange.specs.state.OwnSide.{with_own_side_entry}
 pub use Rattle.exchange.specs.state.ReadBack.{IsReadBack}
 pub use Rattle.exchange.specs.state.State.{pending_sdp, sections_of, state_of, taken_names}
 pub use Rattle.str0m_formats.specs.codec.Codec.{codec_text}
@@ -40,7 +40,7 @@ pub use Rattle.str0m_formats.specs.declared.row.codec_config.CodecConfig.{CodecC
 pub use Rattle.str0m_formats.specs.declared.row.payload_params.PayloadParams.{PayloadParams}
 pub use Rattle.str0m_formats.specs.format.FormatLine.{IsFormatOfLine}
 pub use Rattle.str0m_formats.specs.format.FormatParams.{params_text}
-pub use Rattle.str0m_formats.specs.round.Claimed.{AllDistinct}
+pub use Rattle.str0m_formats.specs.round.Claimed.{AllTypesDistinct}
 pub use Rattle.str0m_formats.specs.round.RoundsPromises.{LockedStay}
 pub use Rattle.str0m_formats.specs.round.RoundsRuns.{Outcome}
 pub use Rattle.str0m_formats.specs.row.DefaultRows.{default_rows, enabled_rows, usual_rows}
@@ -49,7 +49,7 @@ pub use Rattle.str0m_formats.specs.row.PayloadParams.{new_row, types}
 pub use Rattle.str0m_formats.specs.row.PlainRow.{IsPlain}
 pub use Rattle.str0m_sdp.specs.Common.{distinct, first, last}
 pub use Rattle.str0m_sdp.specs.attribute.Msid.{msid_text}
-pub use Rattle.str0m_sdp.specs.attribute.Rid.{pts_part, restrictions_part}
+pub use Rattle.str0m_sdp.specs.attribute.Rid.{rid_pts_part, restrictions_part}
 pub use Rattle.str0m_sdp.specs.declared.attribute.MediaAttribute.{MediaAttribute}
 pub use Rattle.str0m_sdp.specs.declared.attribute.media_type.MediaType.{MediaType}
 pub use Rattle.str0m_sdp.specs.declared.attribute.msid.Msid.{Msid}
@@ -66,7 +66,7 @@ pub use Rattle.str0m_sdp.specs.section.SsrcInfo.{infos}
 pub use Rattle.str0m_sdp.specs.session.Candidates.{all_candidates, same_candidate}
 pub use Rattle.str0m_sdp.specs.session.PreferredFingerprint.{IsPreferred, sdp_fingerprints}
 pub use Rattle.str0m_sdp.specs.session.Session.{sdp_text, versioned_text}
-pub use Rattle.str0m_sdp.specs.session.SessionConsistency.{AreDistinct, section_mids}
+pub use Rattle.str0m_sdp.specs.session.SessionConsistency.{AreMidsDistinct, section_mids}
 pub use Rattle.str0m_sdp.specs.session.Transport.{sdp_creds, sdp_setup}
 pub use Rattle.str0m_signal.specs.back.Writable.{Writable}
 pub use Rattle.str0m_signal.specs.session.Locked.{locked_of_kind}

@@ -6,30 +6,30 @@ use Rattle.str0m_sdp.specs.declared.attribute.media_type.MediaType.TheVariants.{
 use Rattle.str0m_values.specs.declared.media_kind.MediaKind.TheVariants as kind
 
 -- of a section's type: those of its kind that are locked; none where it carries no media
-abbrev pub locked_of_type : MediaType → List PayloadParams → List PayloadParams
-locked_of_type Audio rows = locked_of_kind kind.Audio rows
-locked_of_type Video rows = locked_of_kind kind.Video rows
-locked_of_type _ rows = []
+abbrev pub round_rows_of_type : MediaType → List PayloadParams → List PayloadParams
+round_rows_of_type Audio rows = locked_of_kind kind.Audio rows
+round_rows_of_type Video rows = locked_of_kind kind.Video rows
+round_rows_of_type _ rows = []
 
 -- the section there, which is writable, has the locked rows of its kind, of which there are some, and nothing else has changed
-abbrev pub Lists : List PayloadParams → Sdp → ℕ → Sdp → Type 0
-Lists rows before at after =
-    (frame : MediaLine) × (slice_get before.media_lines at ≡ Some frame) × Writable before at × (locked_of_type frame.typ rows ≢ [])
-    × (after ≡ record before { media_lines = slice_set before.media_lines at (made frame (locked_of_type frame.typ rows)) })
+abbrev pub ListsRoundRows : List PayloadParams → Sdp → ℕ → Sdp → Type 0
+ListsRoundRows rows before at after =
+    (frame : MediaLine) × (slice_get before.media_lines at ≡ Some frame) × Writable before at × (round_rows_of_type frame.typ rows ≢ [])
+    × (after ≡ record before { media_lines = slice_set before.media_lines at (made frame (round_rows_of_type frame.typ rows)) })
 
 -- nothing can be listed in the section there: no row of its kind is locked, or rows printed there might not be read again
-abbrev pub CantList : List PayloadParams → Sdp → ℕ → Type 0
-CantList rows own at =
-    (frame : MediaLine) × (slice_get own.media_lines at ≡ Some frame) × ((locked_of_type frame.typ rows ≡ []) ⊎ (Writable own at → ⊥))
+abbrev pub CantListRoundRows : List PayloadParams → Sdp → ℕ → Type 0
+CantListRoundRows rows own at =
+    (frame : MediaLine) × (slice_get own.media_lines at ≡ Some frame) × ((round_rows_of_type frame.typ rows ≡ []) ⊎ (Writable own at → ⊥))
 
 -- a section that lists what is agreed, of what two handles own
-abbrev pub Answered : Option CodecConfig → Option Sdp → ℕ → Option Sdp → Type 0
-Answered (Some config) (Some before) at (Some after) = Lists config.params.items before at after
-Answered _ _ at _ = ⊥
+abbrev pub AnsweredRound : Option CodecConfig → Option Sdp → ℕ → Option Sdp → Type 0
+AnsweredRound (Some config) (Some before) at (Some after) = ListsRoundRows config.params.items before at after
+AnsweredRound _ _ at _ = ⊥
 
 -- nothing can be listed there, of what two handles own
 abbrev pub CantAnswer : Option CodecConfig → Option Sdp → ℕ → Type 0
-CantAnswer (Some config) (Some own) at = CantList config.params.items own at
+CantAnswer (Some config) (Some own) at = CantListRoundRows config.params.items own at
 CantAnswer _ _ at = ⊥
 
 -- ---- rounds that were run for a caller
@@ -46,7 +46,7 @@ RanRounds text before after room_before room_after needed =
     × (after ≡ record before { params = after.params }) × (needed ≡ length outcomes) × (room_after ≡ cut_to_room (map c_outcome outcomes) room_before)
 
 -- the same of what a handle owns
-abbrev pub RanHeld : List ℕ → Option CodecConfig → Option CodecConfig → List c.Outcome → List c.Outcome → ℕ → Type 0
-RanHeld text (Some before) (Some after) = RanRounds text before after
-RanHeld text None after = λ room_before room_after needed. ⊥
-RanHeld text (Some before) None = λ room_before room_after needed. ⊥
+abbrev pub RanHeldRound : List ℕ → Option CodecConfig → Option CodecConfig → List c.Outcome → List c.Outcome → ℕ → Type 0
+RanHeldRound text (Some before) (Some after) = RanRounds text before after
+RanHeldRound text None after = λ room_before room_after needed. ⊥
+RanHeldRound text (Some before) None = λ room_before room_after needed. ⊥

@@ -24,12 +24,12 @@ ids_text None = []
 ids_text (Some msid) = msid_text msid
 
 -- layers, those that are sent first; none where there is no line of them
-abbrev pub layers_both_ways : Option Simulcast → List SimulcastLayer
-layers_both_ways None = []
-layers_both_ways (Some simulcast) = simulcast.send.0 ++ simulcast.recv.0
+abbrev pub section_layers_both_ways : Option Simulcast → List SimulcastLayer
+section_layers_both_ways None = []
+section_layers_both_ways (Some simulcast) = simulcast.send.0 ++ simulcast.recv.0
 
-abbrev pub layer_name : SimulcastLayer → List ℕ
-layer_name layer = layer.restriction_id.0
+abbrev pub section_layer_name : SimulcastLayer → List ℕ
+section_layer_name layer = layer.restriction_id.0
 
 -- the text of a section, by the first line that says it, or of what stands at an index among several; nothing where there is none such
 abbrev pub section_text : SectionText → MediaLine → ℕ → Option (List ℕ)
@@ -37,7 +37,7 @@ section_text (text.Row what) m index = text_in what (rows m) index
 section_text text.Msid m index = Some (ids_text (first (filter_map msid_of m.attrs)))
 section_text (text.Line what) m index = slice_get (filter_map (text_of_line what) m.attrs) index
 section_text (text.Source what) m index = option_map (source_text what) (slice_get (infos m.attrs) index)
-section_text text.Layer m index = option_map layer_name (slice_get (layers_both_ways (last (filter_map simulcast_of m.attrs))) index)
+section_text text.Layer m index = option_map section_layer_name (slice_get (section_layers_both_ways (last (filter_map simulcast_of m.attrs))) index)
 
 -- that of the section there
 abbrev pub text_at : SectionText → Sdp → ℕ → ℕ → Option (List ℕ)

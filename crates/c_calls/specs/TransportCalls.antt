@@ -22,8 +22,8 @@ abbrev pub IsPreferredText : Sdp → List ℕ → Type 0
 IsPreferredText sdp text = (found : Option Fingerprint) × IsPreferred (sdp_fingerprints sdp) found × (text ≡ hash_text found)
 
 -- candidates that are lent
-abbrev pub lent : List (Bor Candidate) → List Candidate
-lent candidates = map (λ (candidate : Bor Candidate). candidate.now) candidates
+abbrev pub lent_candidates : List (Bor Candidate) → List Candidate
+lent_candidates candidates = map (λ (candidate : Bor Candidate). candidate.now) candidates
 
 -- the texts of the candidates, each once
 abbrev pub candidate_texts : Sdp → List (List ℕ)

@@ -1,20 +1,20 @@
 //! Calls of candidates.
 
 ghost use Rattle.c_calls.specs.Common.{Of};
-ghost use Rattle.c_calls.specs.Prelude.{IsFull, all_candidates, candidate_text, distinct, same_candidate};
+ghost use Rattle.c_calls.specs.Prelude.{IsRoomFull, all_candidates, candidate_text, distinct, same_candidate};
 ghost use Rattle.c_calls.specs.Said.{Says};
 ghost use Rattle.c_calls.specs.Told.{done, no_memory};
-ghost use Rattle.c_calls.specs.TransportCalls.{candidate_texts, lent};
+ghost use Rattle.c_calls.specs.TransportCalls.{candidate_texts, lent_candidates};
 ghost use Rattle.std.specs.Prelude.{◌≡◌, ◌≢◌, ◌⊎◌, IfOk, length, map, slice_get};
 
-use crate::said::{DONE, NO_MEMORY, NO_SECTION, put_made};
+use crate::said::{DONE, NO_MEMORY, NO_SECTION, put_said_text};
 use c_parts::session_handle::SessionHandle;
 use std::alloc::{AllocError, Global};
 use str0m_signal::{Candidate, Sdp};
 
 /// The candidates of a description, each once.
-fn gathered<'a>(alloc: Global, sdp: &'a Sdp) -> Result<Vec<&'a Candidate>, AllocError>
-    ensures { IfOk result (λ found. lent found.items ≡ distinct same_candidate (all_candidates sdp.now)) }
+fn gathered_candidates<'a>(alloc: Global, sdp: &'a Sdp) -> Result<Vec<&'a Candidate>, AllocError>
+    ensures { IfOk result (λ found. lent_candidates found.items ≡ distinct same_candidate (all_candidates sdp.now)) }
 {
     let mut found = Vec::new(alloc);
     for candidate in sdp.ice_candidates()? {
@@ -28,7 +28,7 @@ fn count_candidates(alloc: Global, sdp: &Sdp, count: &mut usize) -> u32
     ensures counted { result ≡ done → count.new ≡ length (candidate_texts sdp.now) }
     ensures kept { result ≢ done → count.new ≡ count.old }
 {
-    match gathered(alloc, sdp) {
+    match gathered_candidates(alloc, sdp) {
         Ok(found) => {
             *count = found.len();
             DONE
@@ -44,7 +44,7 @@ pub extern "C" fn zaxp_session_candidates(
     handle: &mut SessionHandle,
     count: &mut usize,
 ) -> u32
-    requires { IsFull handle.old.inner }
+    requires { IsRoomFull handle.old.inner }
     ensures same { handle.new.inner ≡ handle.old.inner }
     ensures statuses { (result ≡ done) ⊎ (result ≡ no_memory) }
     ensures counted { result ≡ done → Of handle.old.inner (λ sdp. count.new ≡ length (candidate_texts sdp)) }
@@ -56,26 +56,26 @@ pub extern "C" fn zaxp_session_candidates(
     code
 }
 
-fn put_one(
+fn put_candidate_text(
     alloc: Global,
     candidates: &[&Candidate],
     index: usize,
     room: &mut [u8],
     needed: &mut usize,
 ) -> u32
-    ensures { Says (slice_get (map candidate_text (lent candidates.now)) index) (room.old, needed.old) (result, room.new, needed.new) }
+    ensures { Says (slice_get (map candidate_text (lent_candidates candidates.now)) index) (room.old, needed.old) (result, room.new, needed.new) }
 {
     if index >= candidates.len() {
         return NO_SECTION;
     }
-    put_made(candidates[index].to_sdp_string(alloc), room, needed)
+    put_said_text(candidates[index].to_sdp_string(alloc), room, needed)
 }
 
 fn put_candidate(alloc: Global, sdp: &Sdp, index: usize, room: &mut [u8], needed: &mut usize) -> u32
     ensures { Says (slice_get (candidate_texts sdp.now) index) (room.old, needed.old) (result, room.new, needed.new) }
 {
-    match gathered(alloc, sdp) {
-        Ok(found) => put_one(alloc, found.as_slice(), index, room, needed),
+    match gathered_candidates(alloc, sdp) {
+        Ok(found) => put_candidate_text(alloc, found.as_slice(), index, room, needed),
         Err(_) => NO_MEMORY,
     }
 }
@@ -89,7 +89,7 @@ pub extern "C" fn zaxp_session_candidate(
     room: &mut [u8],
     needed: &mut usize,
 ) -> u32
-    requires { IsFull handle.old.inner }
+    requires { IsRoomFull handle.old.inner }
     ensures same { handle.new.inner ≡ handle.old.inner }
     ensures says { Of handle.old.inner (λ sdp. Says (slice_get (candidate_texts sdp) index) (room.old, needed.old) (result, room.new, needed.new)) }
 {

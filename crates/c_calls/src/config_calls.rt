@@ -1,19 +1,19 @@
 //! Calls that make, change and free configurations.
 
 ghost use Rattle.c_calls.specs.Common.{Of};
-ghost use Rattle.c_calls.specs.ConfigCalls.{HasNoDefaults, IsAdded, IsEnabled, IsNoKind, defaults_of};
-ghost use Rattle.c_calls.specs.Prelude.{IsFormatOfLine, IsFull, codec_at, enabled_rows, usual_rows};
+ghost use Rattle.c_calls.specs.ConfigCalls.{HasNoDefaultRows, IsRowAdded, IsEnabledInConfig, IsNoConfigRow, default_rows_of};
+ghost use Rattle.c_calls.specs.Prelude.{IsFormatOfLine, IsRoomFull, codec_at, enabled_rows, usual_rows};
 ghost use Rattle.c_calls.specs.Told.{done, no_memory, no_utf8, wrong_argument};
 ghost use Rattle.std.specs.Prelude.{◌≡◌, ◌≢◌, ◌↔◌, ◌⊎◌, [], IfErr, IfNone, IfOk, IfSome, None, OnErr, OnOk, Some, IsUtf8};
 
 use crate::said::{DONE, NO_MEMORY, NO_UTF8, WRONG_ARGUMENT};
 use c_parts::config_handle::ConfigHandle;
-use c_parts::row::{codec_at, said_unless};
+use c_parts::row::{codec_at, row_number_unless};
 use std::alloc::{AllocError, Global};
 use std::str;
 use str0m_signal::{Codec, CodecConfig, FormatParams, Frequency, Pt};
 
-fn give(alloc: Global, handle: &mut ConfigHandle, config: CodecConfig) -> u32
+fn give_config(alloc: Global, handle: &mut ConfigHandle, config: CodecConfig) -> u32
     requires { handle.old.inner ≡ None }
     ensures made { result ≡ done → Of handle.new.inner (λ given. given ≡ config) }
     ensures empty { result ≢ done → handle.new.inner ≡ None }
@@ -37,7 +37,7 @@ pub extern "C" fn zaxp_config_defaults(alloc: Global, handle: &mut ConfigHandle)
     ensures refused { result ≢ done → result ≡ no_memory }
 {
     match CodecConfig::new_with_defaults(alloc) {
-        Ok(config) => give(alloc, handle, config),
+        Ok(config) => give_config(alloc, handle, config),
         Err(_) => NO_MEMORY,
     }
 }
@@ -50,11 +50,11 @@ pub extern "C" fn zaxp_config_empty(alloc: Global, handle: &mut ConfigHandle) ->
     ensures empty { result ≢ done → handle.new.inner ≡ None }
     ensures refused { result ≢ done → result ≡ no_memory }
 {
-    give(alloc, handle, CodecConfig::empty(alloc))
+    give_config(alloc, handle, CodecConfig::empty(alloc))
 }
 
 /// Takes out the rows of a codec and, where it is enabled, puts its default rows last; `None` where it has none.
-fn enable(
+fn enable_config(
     config: &mut CodecConfig,
     codec: Codec,
     enabled: bool,
@@ -62,9 +62,9 @@ fn enable(
 ) -> Option<Result<(), AllocError>>
     ensures ok { IfSome result (λ tried. OnOk tried (config.new.params.items ≡ enabled_rows codec enabled use_red config.old.params.items)) }
     ensures err { IfSome result (λ tried. OnErr tried (config.new ≡ config.old)) }
-    ensures some { IfSome result (λ _. defaults_of codec ≢ []) }
+    ensures some { IfSome result (λ _. default_rows_of codec ≢ []) }
     ensures distances { config.new.red_distances ≡ config.old.red_distances }
-    ensures none { IfNone result ((config.new ≡ config.old) × (defaults_of codec ≡ [])) }
+    ensures none { IfNone result ((config.new ≡ config.old) × (default_rows_of codec ≡ [])) }
 {
     Some(match codec {
         Codec::Opus => config.enable_opus(enabled, use_red),
@@ -83,15 +83,15 @@ fn enable(
     })
 }
 
-fn enable_at(config: &mut CodecConfig, number: u8, enabled: bool, use_red: bool) -> u32
-    ensures done { result ≡ done → IsEnabled number enabled use_red config.old config.new }
+fn enable_config_at(config: &mut CodecConfig, number: u8, enabled: bool, use_red: bool) -> u32
+    ensures done { result ≡ done → IsEnabledInConfig number enabled use_red config.old config.new }
     ensures same { result ≢ done → config.new ≡ config.old }
-    ensures wrong { (result ≡ wrong_argument) ↔ HasNoDefaults number }
+    ensures wrong { (result ≡ wrong_argument) ↔ HasNoDefaultRows number }
 {
     let Some(codec) = codec_at(number) else {
         return WRONG_ARGUMENT;
     };
-    match enable(config, codec, enabled, use_red) {
+    match enable_config(config, codec, enabled, use_red) {
         Some(Ok(())) => DONE,
         Some(Err(_)) => NO_MEMORY,
         None => WRONG_ARGUMENT,
@@ -107,21 +107,21 @@ pub extern "C" fn zaxp_config_enable(
     enabled: bool,
     use_red: bool,
 ) -> u32
-    requires { IsFull handle.old.inner }
-    ensures done { result ≡ done → Of handle.old.inner (λ before. Of handle.new.inner (IsEnabled codec enabled use_red before)) }
+    requires { IsRoomFull handle.old.inner }
+    ensures done { result ≡ done → Of handle.old.inner (λ before. Of handle.new.inner (IsEnabledInConfig codec enabled use_red before)) }
     ensures same { result ≢ done → handle.new.inner ≡ handle.old.inner }
-    ensures wrong { (result ≡ wrong_argument) ↔ HasNoDefaults codec }
+    ensures wrong { (result ≡ wrong_argument) ↔ HasNoDefaultRows codec }
 {
     let mut config = handle.take(alloc);
-    let code = enable_at(&mut config, codec, enabled, use_red);
+    let code = enable_config_at(&mut config, codec, enabled, use_red);
     handle.put(config);
     code
 }
 
 /// The codec and the clock rate of a row; `None` where there is none of either.
-fn kind_of(codec: u8, clock_rate: u32) -> Option<(Codec, Frequency)>
-    ensures some { IfSome result (λ kind. (codec_at codec ≡ Some kind.0) × (kind.1 ≡ clock_rate) × (IsNoKind codec clock_rate → ⊥)) }
-    ensures none { IfNone result (IsNoKind codec clock_rate) }
+fn config_row_kind(codec: u8, clock_rate: u32) -> Option<(Codec, Frequency)>
+    ensures some { IfSome result (λ kind. (codec_at codec ≡ Some kind.0) × (kind.1 ≡ clock_rate) × (IsNoConfigRow codec clock_rate → ⊥)) }
+    ensures none { IfNone result (IsNoConfigRow codec clock_rate) }
 {
     let codec = codec_at(codec)?;
     let clock_rate = Frequency::new(clock_rate)?;
@@ -129,7 +129,7 @@ fn kind_of(codec: u8, clock_rate: u32) -> Option<(Codec, Frequency)>
 }
 
 /// The format that an fmtp line says, or the status of a text that isn't UTF-8 or for which memory is refused.
-fn format_of(alloc: Global, line: &[u8]) -> Result<FormatParams, u32>
+fn config_row_format(alloc: Global, line: &[u8]) -> Result<FormatParams, u32>
     ensures ok { IfOk result (IsFormatOfLine line.now) }
     ensures err { IfErr result (λ code. ((code ≡ no_utf8) × (IsUtf8 line.now → ⊥)) ⊎ (code ≡ no_memory)) }
 {
@@ -151,27 +151,27 @@ pub extern "C" fn zaxp_config_add(
     channels: u8,
     format: &[u8],
 ) -> u32
-    requires { IsFull handle.old.inner }
-    ensures done { result ≡ done → Of handle.old.inner (λ before. Of handle.new.inner (IsAdded pt rtx (codec, clock_rate, channels) format.now before)) }
+    requires { IsRoomFull handle.old.inner }
+    ensures done { result ≡ done → Of handle.old.inner (λ before. Of handle.new.inner (IsRowAdded pt rtx (codec, clock_rate, channels) format.now before)) }
     ensures same { result ≢ done → handle.new.inner ≡ handle.old.inner }
-    ensures wrong { (result ≡ wrong_argument) ↔ IsNoKind codec clock_rate }
+    ensures wrong { (result ≡ wrong_argument) ↔ IsNoConfigRow codec clock_rate }
     ensures no_text { result ≡ no_utf8 → IsUtf8 format.now → ⊥ }
 {
-    let Some((codec, clock_rate)) = kind_of(codec, clock_rate) else {
+    let Some((codec, clock_rate)) = config_row_kind(codec, clock_rate) else {
         return WRONG_ARGUMENT;
     };
-    let format = match format_of(alloc, format) {
+    let format = match config_row_format(alloc, format) {
         Ok(format) => format,
         Err(code) => return code,
     };
     let mut config = handle.take(alloc);
-    let (pt, resend) = (Pt::from(pt), said_unless(255, rtx).map(Pt::from));
+    let (pt, resend) = (Pt::from(pt), row_number_unless(255, rtx).map(Pt::from));
     let added = config.add_config(
         pt,
         resend,
         codec,
         clock_rate,
-        said_unless(0, channels),
+        row_number_unless(0, channels),
         format,
     );
     handle.put(config);
@@ -184,7 +184,7 @@ pub extern "C" fn zaxp_config_add(
 /// Frees the configuration; the handle is empty then.
 #[unsafe(no_mangle)]
 pub extern "C" fn zaxp_config_free(alloc: Global, handle: &mut ConfigHandle)
-    requires { IsFull handle.old.inner }
+    requires { IsRoomFull handle.old.inner }
     ensures { handle.new.inner ≡ None }
 {
     drop(handle.take(alloc));

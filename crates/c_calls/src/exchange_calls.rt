@@ -1,12 +1,12 @@
 //! Calls of exchanges: one side is made, and it answers offers.
 
 ghost use Rattle.c_calls.specs.Common.{Of};
-ghost use Rattle.c_calls.specs.ExchangeCalls.{AcceptsOffer, BeginsExchange, Goes, state_number};
-ghost use Rattle.c_calls.specs.Prelude.{IsFull, IsSound, RefusesOffer, RefusesOwn, SaysOwn, c_row, own_texts, state_of};
+ghost use Rattle.c_calls.specs.ExchangeCalls.{AcceptsOffer, BeginsExchange, ExchangeGoes, state_number};
+ghost use Rattle.c_calls.specs.Prelude.{IsRoomFull, IsSound, RefusesOffer, RefusesOwnSide, SaysOwnSide, c_row, own_texts, state_of};
 ghost use Rattle.c_calls.specs.Said.{Says};
 ghost use Rattle.c_calls.specs.SectionCalls.{row_text_numbered, text_in};
 ghost use Rattle.c_calls.specs.Told.{done};
-ghost use Rattle.c_parts.specs.Fault.{RefusesBytes, ToldFault, ToldAt};
+ghost use Rattle.c_parts.specs.Fault.{RefusesBytes, ToldFault, FaultToldAt};
 ghost use Rattle.std.specs.Prelude.{◌≡◌, ◌≢◌, IfErr, IfOk, None, OnErr, Some, map};
 
 use crate::row_calls::{put_row_text, put_rows, row_text_numbered};
@@ -33,7 +33,7 @@ fn place_for_exchange(alloc: Global) -> Result<Box<Exchange>, AllocError> {
 }
 
 /// A place for a description, so that no memory is wanted once an exchange has gone on.
-pub(crate) fn place_for_description(alloc: Global) -> Result<Box<Sdp>, AllocError> {
+pub(crate) fn exchange_description_place(alloc: Global) -> Result<Box<Sdp>, AllocError> {
     let session = Session {
         id: SessionId::from(0_u64),
         bw: None,
@@ -50,13 +50,13 @@ pub(crate) fn place_for_description(alloc: Global) -> Result<Box<Sdp>, AllocErro
 }
 
 /// What this side says, with a place for its exchange.
-fn prepared(
+fn prepared_exchange(
     alloc: Global,
     numbers: &OwnNumbers,
     texts: &OwnTexts<'_>,
 ) -> Result<(OwnSide, Box<Exchange>), Fault>
-    ensures says { IfOk result (λ made. SaysOwn numbers.now texts.now made.0) }
-    ensures refused { IfErr result (RefusesOwn texts.now) }
+    ensures says { IfOk result (λ made. SaysOwnSide numbers.now texts.now made.0) }
+    ensures refused { IfErr result (RefusesOwnSide texts.now) }
 {
     let own = own_side(alloc, numbers, texts)?;
     let place = place_for_exchange(alloc)?;
@@ -80,7 +80,7 @@ pub extern "C" fn zaxp_exchange_new(
     message_length: &mut usize,
 ) -> u32
     requires handle { handle.old.inner ≡ None }
-    requires config { IsFull config.old.inner }
+    requires config { IsRoomFull config.old.inner }
     ensures made { result ≡ done → BeginsExchange numbers.now
         (own_texts ice_ufrag.entry ice_pwd.entry fingerprint.entry stream_id.entry extensions.entry candidates.entry)
         config.old.inner handle.new.inner }
@@ -88,7 +88,7 @@ pub extern "C" fn zaxp_exchange_new(
     ensures taken { result ≡ done → config.new.inner ≡ None }
     ensures empty { result ≢ done → handle.new.inner ≡ None }
     ensures kept { result ≢ done → config.new.inner ≡ config.old.inner }
-    ensures refused { result ≢ done → ToldFault (RefusesOwn
+    ensures refused { result ≢ done → ToldFault (RefusesOwnSide
         (own_texts ice_ufrag.entry ice_pwd.entry fingerprint.entry stream_id.entry extensions.entry candidates.entry)) result }
 {
     let texts = OwnTexts {
@@ -99,7 +99,7 @@ pub extern "C" fn zaxp_exchange_new(
         extensions,
         candidates,
     };
-    match prepared(alloc, numbers, &texts) {
+    match prepared_exchange(alloc, numbers, &texts) {
         Ok((own, mut place)) => {
             *place = Exchange::new(own, Box::into_inner(config.take(alloc)));
             handle.put(place);
@@ -115,14 +115,18 @@ pub extern "C" fn zaxp_exchange_new(
 /// Frees the exchange; the handle is empty then.
 #[unsafe(no_mangle)]
 pub extern "C" fn zaxp_exchange_free(alloc: Global, handle: &mut ExchangeHandle)
-    requires { IsFull handle.old.inner }
+    requires { IsRoomFull handle.old.inner }
     ensures { handle.new.inner ≡ None }
 {
     drop(handle.take(alloc));
 }
 
 /// Answers an offer; the answer stands in its place then.
-fn answered(exchange: &mut Exchange, offer: &str, place: &mut Sdp) -> Result<u64, ExchangeError>
+fn exchange_answered(
+    exchange: &mut Exchange,
+    offer: &str,
+    place: &mut Sdp,
+) -> Result<u64, ExchangeError>
     ensures answered { IfOk result (AcceptsOffer exchange.old exchange.new offer.now place.new) }
     ensures same { OnErr result (exchange.new ≡ exchange.old) }
     ensures refused { IfErr result (RefusesOffer exchange.old offer.now) }
@@ -137,13 +141,17 @@ fn answered(exchange: &mut Exchange, offer: &str, place: &mut Sdp) -> Result<u64
     }
 }
 
-fn answered_bytes(exchange: &mut Exchange, offer: &[u8], place: &mut Sdp) -> Result<u64, Fault>
+fn exchange_answered_bytes(
+    exchange: &mut Exchange,
+    offer: &[u8],
+    place: &mut Sdp,
+) -> Result<u64, Fault>
     ensures answered { IfOk result (AcceptsOffer exchange.old exchange.new offer.now place.new) }
     ensures same { OnErr result (exchange.new ≡ exchange.old) }
     ensures refused { IfErr result (RefusesBytes offer.now (RefusesOffer exchange.old offer.now)) }
 {
     match str::from_utf8(offer) {
-        Ok(text) => match answered(exchange, text, place) {
+        Ok(text) => match exchange_answered(exchange, text, place) {
             Ok(version) => Ok(version),
             Err(error) => Err(Fault::Refused(error)),
         },
@@ -163,21 +171,21 @@ pub extern "C" fn zaxp_exchange_accept_offer(
     message: &mut [u8],
     message_length: &mut usize,
 ) -> u32
-    requires handle { IsFull handle.old.inner }
+    requires handle { IsRoomFull handle.old.inner }
     requires answer { answer.old.inner ≡ None }
-    ensures answered { result ≡ done → Goes (λ before after said. AcceptsOffer before after offer.now said version.new)
+    ensures answered { result ≡ done → ExchangeGoes (λ before after said. AcceptsOffer before after offer.now said version.new)
         handle.old.inner handle.new.inner answer.new.inner }
     ensures same { result ≢ done → handle.new.inner ≡ handle.old.inner }
     ensures empty { result ≢ done → answer.new.inner ≡ None }
     ensures refused { result ≢ done → Of handle.old.inner (λ before.
-        ToldAt (RefusesBytes offer.now (RefusesOffer before offer.now)) result line.new) }
+        FaultToldAt (RefusesBytes offer.now (RefusesOffer before offer.now)) result line.new) }
 {
     *line = 0;
-    let Ok(mut place) = place_for_description(alloc) else {
+    let Ok(mut place) = exchange_description_place(alloc) else {
         return NO_MEMORY;
     };
     let mut exchange = handle.take(alloc);
-    let done = answered_bytes(&mut exchange, offer, &mut place);
+    let done = exchange_answered_bytes(&mut exchange, offer, &mut place);
     handle.put(exchange);
     match done {
         Ok(said) => {
@@ -197,7 +205,7 @@ pub extern "C" fn zaxp_exchange_rows(
     room: &mut [Row],
     needed: &mut usize,
 ) -> u32
-    requires { IsFull handle.old.inner }
+    requires { IsRoomFull handle.old.inner }
     ensures same { handle.new.inner ≡ handle.old.inner }
     ensures says { Of handle.old.inner (λ it.
         Says (Some (map c_row it.config.params.items)) (room.old, needed.old) (result, room.new, needed.new)) }
@@ -218,7 +226,7 @@ pub extern "C" fn zaxp_exchange_text(
     room: &mut [u8],
     needed: &mut usize,
 ) -> u32
-    requires { IsFull handle.old.inner }
+    requires { IsRoomFull handle.old.inner }
     ensures same { handle.new.inner ≡ handle.old.inner }
     ensures says { Of handle.old.inner (λ it.
         Says (text_in (row_text_numbered what) it.config.params.items row) (room.old, needed.old) (result, room.new, needed.new)) }
@@ -242,7 +250,7 @@ fn state_number(state: SignalingState) -> u32
 /// Where the exchange stands.
 #[unsafe(no_mangle)]
 pub extern "C" fn zaxp_exchange_state(alloc: Global, handle: &mut ExchangeHandle) -> u32
-    requires { IsFull handle.old.inner }
+    requires { IsRoomFull handle.old.inner }
     ensures same { handle.new.inner ≡ handle.old.inner }
     ensures state { Of handle.old.inner (λ it. result ≡ state_number (state_of it)) }
 {

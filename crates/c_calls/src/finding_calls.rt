@@ -4,7 +4,7 @@ ghost use Rattle.c_calls.specs.FindingCalls.{SaysFindings};
 ghost use Rattle.c_calls.specs.Prelude.{IsJsonText};
 ghost use Rattle.c_calls.specs.Said.{SaysSome};
 
-use crate::said::{NO_MEMORY, NO_UTF8, put};
+use crate::said::{NO_MEMORY, NO_UTF8, put_said};
 use c_json::findings_text;
 use std::alloc::Global;
 use std::str;
@@ -13,7 +13,7 @@ fn put_findings(alloc: Global, text: &str, room: &mut [u8], needed: &mut usize) 
     ensures { SaysSome IsJsonText (room.old, needed.old) (result, room.new, needed.new) }
 {
     match findings_text(alloc, text) {
-        Ok(found) => put(found.as_bytes(), room, needed),
+        Ok(found) => put_said(found.as_bytes(), room, needed),
         Err(_) => NO_MEMORY,
     }
 }

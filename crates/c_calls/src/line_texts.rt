@@ -5,7 +5,7 @@ ghost use Rattle.c_calls.specs.Said.{Says};
 ghost use Rattle.c_calls.specs.declared.line_texts.LineText.TheVariants.{Restrictions};
 ghost use Rattle.std.specs.Prelude.{◌≡◌, ◌+◌, ◌-◌, ◌≤◌, drop, filter, filter_map, is_some, length, option_copied, slice_get, take};
 
-use crate::said::{NO_MEMORY, NO_SECTION, put};
+use crate::said::{NO_MEMORY, NO_SECTION, put_said};
 use std::alloc::Global;
 use str0m_sdp::label;
 use str0m_signal::MediaAttribute;
@@ -43,7 +43,7 @@ fn line_at(lines: &[MediaAttribute], what: LineText, index: usize) -> Option<&Me
 }
 
 /// What a printed line has behind a front of so many bytes and one more, without its end.
-fn behind(line: &[u8], front: usize) -> &[u8]
+fn line_behind_front(line: &[u8], front: usize) -> &[u8]
     requires { front + 2 ≤ length line.now }
     ensures { result.now ≡ drop (front + 1) (take (length line.now - 2) line.now) }
 {
@@ -68,7 +68,7 @@ fn put_restrictions(
     };
     // (`a=` and a space stand beside these)
     let front = label::RID.len() + id.0.len() + direction.as_str().len() + 3;
-    put(behind(text.as_bytes(), front), room, needed)
+    put_said(line_behind_front(text.as_bytes(), front), room, needed)
 }
 
 fn put_line(
@@ -82,21 +82,21 @@ fn put_line(
 {
     match (what, line) {
         (LineText::Uri, MediaAttribute::ExtMap { ext, .. }) => {
-            put(ext.as_uri().as_bytes(), room, needed)
+            put_said(ext.as_uri().as_bytes(), room, needed)
         }
         (LineText::RidName, MediaAttribute::Rid { id, .. }) => {
-            put(id.0.as_str().as_bytes(), room, needed)
+            put_said(id.0.as_str().as_bytes(), room, needed)
         }
         (LineText::Restrictions, _) => put_restrictions(alloc, line, room, needed),
         (LineText::Semantics, MediaAttribute::SsrcGroup { semantics, .. }) => {
-            put(semantics.as_str().as_bytes(), room, needed)
+            put_said(semantics.as_str().as_bytes(), room, needed)
         }
         _ => NO_SECTION,
     }
 }
 
 /// Writes what the line at an index says, among those that say it.
-#[tactic(auto, using(crate::proofs::LineTextsPassed::said_at))]
+#[tactic(auto, using(crate::proofs::LineTextsPassed::line_text_said_at))]
 pub(crate) fn put_line_text(
     alloc: Global,
     lines: &[MediaAttribute],

@@ -1,19 +1,19 @@
 //! Calls of exchanges in which this side offers.
 
 ghost use Rattle.c_calls.specs.Common.{Of};
-ghost use Rattle.c_calls.specs.ExchangeCalls.{AcceptsAnswer, CreatesOffer, Goes, turned};
-ghost use Rattle.c_calls.specs.Prelude.{IsFull, RefusesAnswer, RefusesBoth, RefusesChannels, RefusesMedia, RefusesToOffer, direction_numbered, kind_numbered, kind_rows, with_channels, with_media};
+ghost use Rattle.c_calls.specs.ExchangeCalls.{AcceptsAnswer, CreatesOffer, ExchangeGoes, turned_exchange};
+ghost use Rattle.c_calls.specs.Prelude.{IsRoomFull, RefusesAnswer, RefusesSidePair, ExchangeRefusesChannels, RefusesMedia, RefusesToOffer, side_direction_numbered, side_kind_numbered, kind_rows, offer_with_channels, with_media};
 ghost use Rattle.c_calls.specs.Told.{done, no_memory, no_utf8, wrong_argument};
-ghost use Rattle.c_parts.specs.Fault.{RefusesCall, RefusesBytes, ToldFault, ToldAt};
+ghost use Rattle.c_parts.specs.Fault.{RefusesCall, RefusesBytes, ToldFault, FaultToldAt};
 ghost use Rattle.std.specs.Prelude.{◌≡◌, ◌≢◌, ◌<◌, ◌≤◌, ◌↔◌, ◌⊎◌, [], IfErr, IfOk, None, OnErr, OnOk, Some, length, true, IsUtf8};
 
-use crate::exchange_calls::place_for_description;
+use crate::exchange_calls::exchange_description_place;
 use crate::said::{DONE, NO_MEMORY, NO_UTF8, WRONG_ARGUMENT};
 use crate::told::{tell, tell_error};
 use c_parts::exchange_handle::ExchangeHandle;
 use c_parts::fault::Fault;
 use c_parts::session_handle::SessionHandle;
-use c_parts::side::{direction_numbered, kind_numbered, text_of};
+use c_parts::side::{side_direction_numbered, side_kind_numbered, text_of};
 use exchange::{Exchange, ExchangeError};
 use std::alloc::Global;
 use std::str;
@@ -45,15 +45,15 @@ pub extern "C" fn zaxp_exchange_create_offer(
     message: &mut [u8],
     message_length: &mut usize,
 ) -> u32
-    requires handle { IsFull handle.old.inner }
+    requires handle { IsRoomFull handle.old.inner }
     requires offer { offer.old.inner ≡ None }
-    ensures offered { result ≡ done → Goes (λ before after said. CreatesOffer before after said version.new)
+    ensures offered { result ≡ done → ExchangeGoes (λ before after said. CreatesOffer before after said version.new)
         handle.old.inner handle.new.inner offer.new.inner }
     ensures same { result ≢ done → handle.new.inner ≡ handle.old.inner }
     ensures empty { result ≢ done → offer.new.inner ≡ None }
     ensures refused { result ≢ done → Of handle.old.inner (λ before. ToldFault (RefusesCall (RefusesToOffer before)) result) }
 {
-    let Ok(mut place) = place_for_description(alloc) else {
+    let Ok(mut place) = exchange_description_place(alloc) else {
         return NO_MEMORY;
     };
     let mut exchange = handle.take(alloc);
@@ -69,7 +69,7 @@ pub extern "C" fn zaxp_exchange_create_offer(
     }
 }
 
-fn taken(exchange: &mut Exchange, answer: &[u8]) -> Result<(), Fault>
+fn offer_answer_taken(exchange: &mut Exchange, answer: &[u8]) -> Result<(), Fault>
     ensures taken { OnOk result (AcceptsAnswer exchange.old exchange.new answer.now) }
     ensures same { OnErr result (exchange.new ≡ exchange.old) }
     ensures refused { IfErr result (RefusesBytes answer.now (RefusesAnswer exchange.old answer.now)) }
@@ -93,15 +93,15 @@ pub extern "C" fn zaxp_exchange_accept_answer(
     message: &mut [u8],
     message_length: &mut usize,
 ) -> u32
-    requires { IsFull handle.old.inner }
+    requires { IsRoomFull handle.old.inner }
     ensures taken { result ≡ done → Of handle.old.inner (λ before. Of handle.new.inner (λ after.
         AcceptsAnswer before after answer.now)) }
     ensures same { result ≢ done → handle.new.inner ≡ handle.old.inner }
     ensures refused { result ≢ done → Of handle.old.inner (λ before.
-        ToldAt (RefusesBytes answer.now (RefusesAnswer before answer.now)) result line.new) }
+        FaultToldAt (RefusesBytes answer.now (RefusesAnswer before answer.now)) result line.new) }
 {
     let mut exchange = handle.take(alloc);
-    let done = taken(&mut exchange, answer);
+    let done = offer_answer_taken(&mut exchange, answer);
     handle.put(exchange);
     match done {
         Ok(()) => DONE,
@@ -112,7 +112,7 @@ pub extern "C" fn zaxp_exchange_accept_answer(
 /// Drops the offer that waits for its answer; where none does, nothing changes.
 #[unsafe(no_mangle)]
 pub extern "C" fn zaxp_exchange_rollback(alloc: Global, handle: &mut ExchangeHandle)
-    requires { IsFull handle.old.inner }
+    requires { IsRoomFull handle.old.inner }
     ensures { Of handle.old.inner (λ before. handle.new.inner ≡ Some (record before { pending = None })) }
 {
     let mut exchange = handle.take(alloc);
@@ -130,17 +130,17 @@ pub extern "C" fn zaxp_exchange_add_media(
     message: &mut [u8],
     message_length: &mut usize,
 ) -> u32
-    requires { IsFull handle.old.inner }
+    requires { IsRoomFull handle.old.inner }
     ensures added { result ≡ done → Of handle.old.inner (λ before.
-        handle.new.inner ≡ Some (with_media (kind_numbered kind) (direction_numbered direction) before)) }
+        handle.new.inner ≡ Some (with_media (side_kind_numbered kind) (side_direction_numbered direction) before)) }
     ensures has_rows { result ≡ done → Of handle.old.inner (λ before.
-        kind_rows (kind_numbered kind) true before.config.params.items ≢ []) }
+        kind_rows (side_kind_numbered kind) true before.config.params.items ≢ []) }
     ensures same { result ≢ done → handle.new.inner ≡ handle.old.inner }
     ensures refused { result ≢ done → Of handle.old.inner (λ before.
-        ToldFault (RefusesCall (RefusesMedia before (kind_numbered kind))) result) }
+        ToldFault (RefusesCall (RefusesMedia before (side_kind_numbered kind))) result) }
 {
     let mut exchange = handle.take(alloc);
-    let done = exchange.add_media(kind_numbered(kind), direction_numbered(direction));
+    let done = exchange.add_media(side_kind_numbered(kind), side_direction_numbered(direction));
     handle.put(exchange);
     match done {
         Ok(()) => DONE,
@@ -156,12 +156,12 @@ pub extern "C" fn zaxp_exchange_add_channels(
     message: &mut [u8],
     message_length: &mut usize,
 ) -> u32
-    requires { IsFull handle.old.inner }
+    requires { IsRoomFull handle.old.inner }
     ensures added { result ≡ done → Of handle.old.inner (λ before.
-        handle.new.inner ≡ Some (with_channels before)) }
+        handle.new.inner ≡ Some (offer_with_channels before)) }
     ensures has_channels { result ≡ done → Of handle.old.inner (λ before. before.own.channels ≢ None) }
     ensures same { result ≢ done → handle.new.inner ≡ handle.old.inner }
-    ensures refused { result ≢ done → Of handle.old.inner (λ before. ToldFault (RefusesCall (RefusesChannels before)) result) }
+    ensures refused { result ≢ done → Of handle.old.inner (λ before. ToldFault (RefusesCall (ExchangeRefusesChannels before)) result) }
 {
     let mut exchange = handle.take(alloc);
     let done = exchange.add_channels();
@@ -172,9 +172,9 @@ pub extern "C" fn zaxp_exchange_add_channels(
     }
 }
 
-fn creds_of(alloc: Global, ufrag: &[u8], pwd: &[u8]) -> Result<IceCreds, Fault>
+fn offer_creds_of(alloc: Global, ufrag: &[u8], pwd: &[u8]) -> Result<IceCreds, Fault>
     ensures read { IfOk result (λ creds. creds ≡ record { ufrag = ufrag.now; pass = pwd.now }) }
-    ensures refused { IfErr result (RefusesBoth ufrag.now pwd.now) }
+    ensures refused { IfErr result (RefusesSidePair ufrag.now pwd.now) }
 {
     let ufrag = text_of(alloc, ufrag)?;
     let pass = text_of(alloc, pwd)?;
@@ -189,14 +189,14 @@ pub extern "C" fn zaxp_exchange_restart_ice(
     ufrag: &[u8],
     pwd: &[u8],
 ) -> u32
-    requires { IsFull handle.old.inner }
+    requires { IsRoomFull handle.old.inner }
     ensures restarted { result ≡ done → Of handle.old.inner (λ before. handle.new.inner ≡ Some (record before {
       own = record before.own { creds = record { ufrag = ufrag.now; pass = pwd.now } };
     })) }
     ensures same { result ≢ done → handle.new.inner ≡ handle.old.inner }
-    ensures refused { result ≢ done → ToldFault (RefusesBoth ufrag.now pwd.now) result }
+    ensures refused { result ≢ done → ToldFault (RefusesSidePair ufrag.now pwd.now) result }
 {
-    match creds_of(alloc, ufrag, pwd) {
+    match offer_creds_of(alloc, ufrag, pwd) {
         Ok(creds) => {
             let mut exchange = handle.take(alloc);
             exchange.restart_ice(creds);
@@ -215,9 +215,9 @@ pub extern "C" fn zaxp_exchange_set_direction(
     mid: &[u8],
     direction: u8,
 ) -> u32
-    requires { IsFull handle.old.inner }
+    requires { IsRoomFull handle.old.inner }
     ensures turned { result ≡ done → Of handle.old.inner (λ before.
-        handle.new.inner ≡ Some (turned mid.now (direction_numbered direction) before)) }
+        handle.new.inner ≡ Some (turned_exchange mid.now (side_direction_numbered direction) before)) }
     ensures same { result ≢ done → handle.new.inner ≡ handle.old.inner }
     ensures statuses { (result ≡ done) ⊎ (result ≡ no_memory) ⊎ (result ≡ no_utf8) ⊎ (result ≡ wrong_argument) }
     ensures wrong { (result ≡ wrong_argument) ↔ (16 < length mid.now) }
@@ -230,7 +230,7 @@ pub extern "C" fn zaxp_exchange_set_direction(
         return NO_UTF8;
     };
     let mut exchange = handle.take(alloc);
-    let done = exchange.set_direction(Mid::from(name), direction_numbered(direction));
+    let done = exchange.set_direction(Mid::from(name), side_direction_numbered(direction));
     handle.put(exchange);
     match done {
         Ok(()) => DONE,

@@ -1,13 +1,13 @@
 //! Calls that negotiate, and that answer with what is agreed.
 
 ghost use Rattle.c_calls.specs.Common.{Of};
-ghost use Rattle.c_calls.specs.Prelude.{Described, IsFull, MediaLine, RefusesReading, Sdp, Writable, c_outcome, made};
-ghost use Rattle.c_calls.specs.RoundCalls.{Answered, CantAnswer, CantList, Lists, locked_of_type, RanRounds, RanHeld, cut_to_room};
+ghost use Rattle.c_calls.specs.Prelude.{Described, IsRoomFull, MediaLine, RefusesReading, Sdp, Writable, c_outcome, made};
+ghost use Rattle.c_calls.specs.RoundCalls.{AnsweredRound, CantAnswer, CantListRoundRows, ListsRoundRows, round_rows_of_type, RanRounds, RanHeldRound, cut_to_room};
 ghost use Rattle.c_calls.specs.Told.{done, no_memory, no_section, no_session, no_utf8, nothing_agreed};
 ghost use Rattle.std.specs.Prelude.{◌≡◌, ◌≢◌, ◌↔◌, ◌⊎◌, [], IfErr, IfNone, IfOk, IfSome, OnErr, OnOk, List, None, Some, ℕ, length, map, slice_get, IsUtf8};
 ghost use Rattle.str0m_signal.specs.session.ReaderAnswers.{Refuses};
 
-use crate::said::{DONE, NO_MEMORY, NO_SECTION, NOTHING, refuse};
+use crate::said::{DONE, NO_MEMORY, NO_SECTION, NOTHING_AGREED, say_refusal};
 use c_parts::config_handle::ConfigHandle;
 use c_parts::reading::Refusal;
 use c_parts::row::{Outcome, outcome_of};
@@ -20,7 +20,7 @@ use str0m_signal::{
 };
 
 /// Fills room for as many outcomes as there are.
-fn fill(room: &mut [Outcome], outcomes: &[Result<(), NegotiationError>])
+fn fill_round_outcomes(room: &mut [Outcome], outcomes: &[Result<(), NegotiationError>])
     requires { length room.old ≡ length outcomes.now }
     ensures { room.new ≡ map c_outcome outcomes.now }
 {
@@ -37,10 +37,10 @@ fn put_outcomes(outcomes: &[Result<(), NegotiationError>], room: &mut [Outcome],
     *needed = outcomes.len();
     if outcomes.len() <= room.len() {
         let (place, _) = room.split_at_mut(outcomes.len());
-        fill(place, outcomes);
+        fill_round_outcomes(place, outcomes);
     } else {
         let (first, _) = outcomes.split_at(room.len());
-        fill(room, first);
+        fill_round_outcomes(room, first);
     }
 }
 
@@ -93,8 +93,8 @@ pub extern "C" fn zaxp_config_negotiate(
     message: &mut [u8],
     message_length: &mut usize,
 ) -> u32
-    requires { IsFull handle.old.inner }
-    ensures ran { result ≡ done → RanHeld text.now handle.old.inner handle.new.inner room.old room.new needed.new }
+    requires { IsRoomFull handle.old.inner }
+    ensures ran { result ≡ done → RanHeldRound text.now handle.old.inner handle.new.inner room.old room.new needed.new }
     ensures same { result ≢ done → handle.new.inner ≡ handle.old.inner }
     ensures kept { result ≢ done → room.new ≡ room.old }
     ensures uncounted { result ≢ done → needed.new ≡ needed.old }
@@ -107,12 +107,15 @@ pub extern "C" fn zaxp_config_negotiate(
     handle.put(config);
     match ran {
         Ok(()) => DONE,
-        Err(refusal) => refuse(alloc, &refusal, message, message_length),
+        Err(refusal) => say_refusal(alloc, &refusal, message, message_length),
     }
 }
 
-fn agreed(config: &CodecConfig, typ: &MediaType) -> Result<Vec<PayloadParams>, AllocError>
-    ensures { IfOk result (λ rows. rows.items ≡ locked_of_type typ.now config.now.params.items) }
+fn agreed_round_rows(
+    config: &CodecConfig,
+    typ: &MediaType,
+) -> Result<Vec<PayloadParams>, AllocError>
+    ensures { IfOk result (λ rows. rows.items ≡ round_rows_of_type typ.now config.now.params.items) }
 {
     match typ {
         MediaType::Audio => locked_rows(config, MediaKind::Audio),
@@ -128,12 +131,12 @@ fn answered_section(
     at: usize,
     frame: &MediaLine,
 ) -> Result<Option<MediaLine>, AllocError>
-    ensures made { IfOk result (λ found. IfSome found (λ section. Writable own.now at × (locked_of_type frame.now.typ config.now.params.items ≢ [])
-        × (section ≡ made frame.now (locked_of_type frame.now.typ config.now.params.items)))) }
+    ensures made { IfOk result (λ found. IfSome found (λ section. Writable own.now at × (round_rows_of_type frame.now.typ config.now.params.items ≢ [])
+        × (section ≡ made frame.now (round_rows_of_type frame.now.typ config.now.params.items)))) }
     ensures none { IfOk result (λ found. IfNone found
-        ((locked_of_type frame.now.typ config.now.params.items ≡ []) ⊎ (Writable own.now at → ⊥))) }
+        ((round_rows_of_type frame.now.typ config.now.params.items ≡ []) ⊎ (Writable own.now at → ⊥))) }
 {
-    let rows = agreed(config, &frame.typ)?;
+    let rows = agreed_round_rows(config, &frame.typ)?;
     if rows.is_empty() {
         return Ok(None);
     }
@@ -145,10 +148,10 @@ fn answered_section(
 
 fn answer(config: &CodecConfig, own: &mut Sdp, at: usize) -> u32
     ensures statuses { (result ≡ done) ⊎ (result ≡ no_memory) ⊎ (result ≡ no_section) ⊎ (result ≡ nothing_agreed) }
-    ensures lists { result ≡ done → Lists config.now.params.items own.old at own.new }
+    ensures lists { result ≡ done → ListsRoundRows config.now.params.items own.old at own.new }
     ensures same { result ≢ done → own.new ≡ own.old }
     ensures missing { (result ≡ no_section) ↔ (slice_get own.old.media_lines at ≡ None) }
-    ensures nothing { result ≡ nothing_agreed → CantList config.now.params.items own.old at }
+    ensures nothing { result ≡ nothing_agreed → CantListRoundRows config.now.params.items own.old at }
 {
     let made = match own.media_lines.get(at) {
         Some(frame) => answered_section(config, own, at, frame),
@@ -159,7 +162,7 @@ fn answer(config: &CodecConfig, own: &mut Sdp, at: usize) -> u32
             own.media_lines.0[at] = section;
             DONE
         }
-        Ok(None) => NOTHING,
+        Ok(None) => NOTHING_AGREED,
         Err(_) => NO_MEMORY,
     }
 }
@@ -172,11 +175,11 @@ pub extern "C" fn zaxp_config_answer(
     own: &mut SessionHandle,
     at: usize,
 ) -> u32
-    requires handle { IsFull handle.old.inner }
-    requires own { IsFull own.old.inner }
+    requires handle { IsRoomFull handle.old.inner }
+    requires own { IsRoomFull own.old.inner }
     ensures same { handle.new.inner ≡ handle.old.inner }
     ensures statuses { (result ≡ done) ⊎ (result ≡ no_memory) ⊎ (result ≡ no_section) ⊎ (result ≡ nothing_agreed) }
-    ensures answered { result ≡ done → Answered handle.old.inner own.old.inner at own.new.inner }
+    ensures answered { result ≡ done → AnsweredRound handle.old.inner own.old.inner at own.new.inner }
     ensures kept { result ≢ done → own.new.inner ≡ own.old.inner }
     ensures missing { Of own.old.inner (λ sdp. (result ≡ no_section) ↔ (slice_get sdp.media_lines at ≡ None)) }
     ensures nothing { result ≡ nothing_agreed → CantAnswer handle.old.inner own.old.inner at }

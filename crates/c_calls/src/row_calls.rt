@@ -1,12 +1,12 @@
 //! Calls of rows, and what is written of a row.
 
 ghost use Rattle.c_calls.specs.Common.{Of};
-ghost use Rattle.c_calls.specs.Prelude.{IsFull, c_row, rows};
+ghost use Rattle.c_calls.specs.Prelude.{IsRoomFull, c_row, rows};
 ghost use Rattle.c_calls.specs.Said.{Says};
 ghost use Rattle.c_calls.specs.SectionCalls.{row_text, row_text_numbered, text_in};
 ghost use Rattle.std.specs.Prelude.{◌≡◌, IfOk, Some, map, string_bytes};
 
-use crate::said::{NO_MEMORY, NO_SECTION, put, put_made};
+use crate::said::{NO_MEMORY, NO_SECTION, put_said, put_said_text};
 use c_parts::config_handle::ConfigHandle;
 use c_parts::row::{Row, rows_of};
 use std::alloc::{AllocError, Global};
@@ -40,12 +40,12 @@ pub(crate) fn put_rows(
     ensures { Says (Some (map c_row rows.now)) (room.old, needed.old) (result, room.new, needed.new) }
 {
     match rows_of(alloc, rows) {
-        Ok(made) => put(made.as_slice(), room, needed),
+        Ok(made) => put_said(made.as_slice(), room, needed),
         Err(_) => NO_MEMORY,
     }
 }
 
-fn printed(alloc: Global, row: &PayloadParams, what: RowText) -> Result<String, AllocError>
+fn printed_row_text(alloc: Global, row: &PayloadParams, what: RowText) -> Result<String, AllocError>
     ensures { IfOk result (λ text. string_bytes text ≡ row_text what row.now) }
 {
     let spec = row.spec();
@@ -66,7 +66,7 @@ pub(crate) fn put_row_text(
     ensures { Says (text_in what rows.now row) (room.old, needed.old) (result, room.new, needed.new) }
 {
     match rows.get(row) {
-        Some(found) => put_made(printed(alloc, found, what), room, needed),
+        Some(found) => put_said_text(printed_row_text(alloc, found, what), room, needed),
         None => NO_SECTION,
     }
 }
@@ -95,7 +95,7 @@ pub extern "C" fn zaxp_config_rows(
     room: &mut [Row],
     needed: &mut usize,
 ) -> u32
-    requires { IsFull handle.old.inner }
+    requires { IsRoomFull handle.old.inner }
     ensures same { handle.new.inner ≡ handle.old.inner }
     ensures says { Of handle.old.inner (λ config. Says (Some (map c_row config.params.items)) (room.old, needed.old) (result, room.new, needed.new)) }
 {
@@ -115,7 +115,7 @@ pub extern "C" fn zaxp_config_text(
     room: &mut [u8],
     needed: &mut usize,
 ) -> u32
-    requires { IsFull handle.old.inner }
+    requires { IsRoomFull handle.old.inner }
     ensures same { handle.new.inner ≡ handle.old.inner }
     ensures says { Of handle.old.inner (λ config.
         Says (text_in (row_text_numbered what) config.params.items row) (room.old, needed.old) (result, room.new, needed.new)) }

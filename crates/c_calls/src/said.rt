@@ -1,7 +1,7 @@
 //! What a call answers.
 
 ghost use Rattle.c_calls.specs.Prelude.{Described, RefusesReading, Sdp};
-ghost use Rattle.c_calls.specs.Said.{Puts, Says};
+ghost use Rattle.c_calls.specs.Said.{PutsText, Says};
 ghost use Rattle.c_calls.specs.Told.{done, no_session, no_utf8};
 ghost use Rattle.std.specs.Prelude.{◌≡◌, ◌≢◌, IfOk, Some, List, ℕ, string_bytes, IsUtf8};
 
@@ -19,14 +19,14 @@ pub(crate) const NO_ROOM: u32 = 4;
 
 pub(crate) const NO_SECTION: u32 = 5;
 
-pub(crate) const NOTHING: u32 = 6;
+pub(crate) const NOTHING_AGREED: u32 = 6;
 
 pub(crate) const WRONG_ARGUMENT: u32 = 7;
 
 /// Writes items into the caller's room where they fit, and always how many there are.
 #[tactic(auto, using(crate::proofs::SaidPutting::put_fits, crate::proofs::SaidPutting::put_full))]
-pub(crate) fn put<T: Copy>(items: &[T], room: &mut [T], needed: &mut usize) -> u32
-    ensures { Puts (Some items.now) (room.old, needed.old) (result, room.new, needed.new) }
+pub(crate) fn put_said<T: Copy>(items: &[T], room: &mut [T], needed: &mut usize) -> u32
+    ensures { PutsText (Some items.now) (room.old, needed.old) (result, room.new, needed.new) }
 {
     if copied(items, room, needed) {
         DONE
@@ -36,18 +36,22 @@ pub(crate) fn put<T: Copy>(items: &[T], room: &mut [T], needed: &mut usize) -> u
 }
 
 /// Writes a text that was made, unless memory was refused for it.
-pub(crate) fn put_made(made: Result<String, AllocError>, room: &mut [u8], needed: &mut usize) -> u32
+pub(crate) fn put_said_text(
+    made: Result<String, AllocError>,
+    room: &mut [u8],
+    needed: &mut usize,
+) -> u32
     ensures { (text : List ℕ) → IfOk made (λ it. string_bytes it ≡ text)
         → Says (Some text) (room.old, needed.old) (result, room.new, needed.new) }
 {
     match made {
-        Ok(text) => put(text.as_bytes(), room, needed),
+        Ok(text) => put_said(text.as_bytes(), room, needed),
         Err(_) => NO_MEMORY,
     }
 }
 
 /// Puts the message of a refusal into the caller's room, where it fits, and answers its number.
-pub(crate) fn refuse(
+pub(crate) fn say_refusal(
     alloc: Global,
     refusal: &Refusal,
     message: &mut [u8],

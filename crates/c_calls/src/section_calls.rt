@@ -1,8 +1,8 @@
 //! Calls of sections.
 
 ghost use Rattle.c_calls.specs.Common.{Of};
-ghost use Rattle.c_calls.specs.Prelude.{IsFull, Writable};
-ghost use Rattle.c_calls.specs.Said.{GivesOne};
+ghost use Rattle.c_calls.specs.Prelude.{IsRoomFull, Writable};
+ghost use Rattle.c_calls.specs.Said.{SaysOne};
 ghost use Rattle.c_calls.specs.SectionCalls.{section_at};
 ghost use Rattle.c_calls.specs.Told.{done, no_memory, no_section};
 ghost use Rattle.std.specs.Prelude.{◌≡◌, ◌≢◌, ◌↔◌, ◌⊎◌, IfOk, IsTrue, None, slice_get};
@@ -14,7 +14,7 @@ use std::alloc::Global;
 use str0m_signal::{Sdp, is_writable};
 
 fn give_section(sdp: &Sdp, at: usize, info: &mut Section) -> u32
-    ensures { GivesOne (section_at sdp.now at) info.old (result, info.new) }
+    ensures { SaysOne (section_at sdp.now at) info.old (result, info.new) }
 {
     match sdp.media_lines.get(at) {
         Some(section) => {
@@ -33,9 +33,9 @@ pub extern "C" fn zaxp_session_section(
     at: usize,
     info: &mut Section,
 ) -> u32
-    requires { IsFull handle.old.inner }
+    requires { IsRoomFull handle.old.inner }
     ensures same { handle.new.inner ≡ handle.old.inner }
-    ensures given { Of handle.old.inner (λ sdp. GivesOne (section_at sdp at) info.old (result, info.new)) }
+    ensures given { Of handle.old.inner (λ sdp. SaysOne (section_at sdp at) info.old (result, info.new)) }
 {
     let sdp = handle.take(alloc);
     let code = give_section(&sdp, at, info);
@@ -69,7 +69,7 @@ pub extern "C" fn zaxp_session_is_writable(
     at: usize,
     writable: &mut bool,
 ) -> u32
-    requires { IsFull handle.old.inner }
+    requires { IsRoomFull handle.old.inner }
     ensures same { handle.new.inner ≡ handle.old.inner }
     ensures statuses { (result ≡ done) ⊎ (result ≡ no_memory) ⊎ (result ≡ no_section) }
     ensures tested { result ≡ done → Of handle.old.inner (λ sdp. IsTrue writable.new ↔ Writable sdp at) }

@@ -1,12 +1,12 @@
 //! Calls that write what a section lists.
 
 ghost use Rattle.c_calls.specs.Common.{Of};
-ghost use Rattle.c_calls.specs.Prelude.{IsFull, c_extensions, c_layers, c_rids, c_rows, c_source_groups, c_sources};
+ghost use Rattle.c_calls.specs.Prelude.{IsRoomFull, c_extensions, c_layers, c_rids, c_rows, c_source_groups, c_sources};
 ghost use Rattle.c_calls.specs.Said.{Says};
-ghost use Rattle.c_calls.specs.SectionCalls.{list_at};
+ghost use Rattle.c_calls.specs.SectionCalls.{section_list_at};
 ghost use Rattle.std.specs.Prelude.{◌≡◌, Some};
 
-use crate::said::{NO_MEMORY, NO_SECTION, put};
+use crate::said::{NO_MEMORY, NO_SECTION, put_said};
 use c_parts::extension::SectionExtension;
 use c_parts::layer::SectionLayer;
 use c_parts::rid::SectionRid;
@@ -27,7 +27,7 @@ fn put_list<T: SectionItem>(
     ensures { Says (Some (T.listed section.now)) (room.old, needed.old) (result, room.new, needed.new) }
 {
     match T::all_of(alloc, section) {
-        Ok(made) => put(made.as_slice(), room, needed),
+        Ok(made) => put_said(made.as_slice(), room, needed),
         Err(_) => NO_MEMORY,
     }
 }
@@ -39,7 +39,7 @@ fn put_list_at<T: SectionItem>(
     room: &mut [T],
     needed: &mut usize,
 ) -> u32
-    ensures { Says (list_at T.listed sdp.now at) (room.old, needed.old) (result, room.new, needed.new) }
+    ensures { Says (section_list_at T.listed sdp.now at) (room.old, needed.old) (result, room.new, needed.new) }
 {
     match sdp.media_lines.get(at) {
         Some(section) => put_list(alloc, section, room, needed),
@@ -55,9 +55,9 @@ fn list<T: SectionItem>(
     room: &mut [T],
     needed: &mut usize,
 ) -> u32
-    requires { IsFull handle.old.inner }
+    requires { IsRoomFull handle.old.inner }
     ensures same { handle.new.inner ≡ handle.old.inner }
-    ensures says { Of handle.old.inner (λ sdp. Says (list_at T.listed sdp at) (room.old, needed.old) (result, room.new, needed.new)) }
+    ensures says { Of handle.old.inner (λ sdp. Says (section_list_at T.listed sdp at) (room.old, needed.old) (result, room.new, needed.new)) }
 {
     let sdp = handle.take(alloc);
     let code = put_list_at(alloc, &sdp, at, room, needed);
@@ -74,9 +74,9 @@ pub extern "C" fn zaxp_session_rows(
     room: &mut [Row],
     needed: &mut usize,
 ) -> u32
-    requires { IsFull handle.old.inner }
+    requires { IsRoomFull handle.old.inner }
     ensures same { handle.new.inner ≡ handle.old.inner }
-    ensures says { Of handle.old.inner (λ sdp. Says (list_at c_rows sdp at) (room.old, needed.old) (result, room.new, needed.new)) }
+    ensures says { Of handle.old.inner (λ sdp. Says (section_list_at c_rows sdp at) (room.old, needed.old) (result, room.new, needed.new)) }
 {
     list::<Row>(alloc, handle, at, room, needed)
 }
@@ -90,9 +90,9 @@ pub extern "C" fn zaxp_session_extensions(
     room: &mut [SectionExtension],
     needed: &mut usize,
 ) -> u32
-    requires { IsFull handle.old.inner }
+    requires { IsRoomFull handle.old.inner }
     ensures same { handle.new.inner ≡ handle.old.inner }
-    ensures says { Of handle.old.inner (λ sdp. Says (list_at c_extensions sdp at) (room.old, needed.old) (result, room.new, needed.new)) }
+    ensures says { Of handle.old.inner (λ sdp. Says (section_list_at c_extensions sdp at) (room.old, needed.old) (result, room.new, needed.new)) }
 {
     list::<SectionExtension>(alloc, handle, at, room, needed)
 }
@@ -106,9 +106,9 @@ pub extern "C" fn zaxp_session_rids(
     room: &mut [SectionRid],
     needed: &mut usize,
 ) -> u32
-    requires { IsFull handle.old.inner }
+    requires { IsRoomFull handle.old.inner }
     ensures same { handle.new.inner ≡ handle.old.inner }
-    ensures says { Of handle.old.inner (λ sdp. Says (list_at c_rids sdp at) (room.old, needed.old) (result, room.new, needed.new)) }
+    ensures says { Of handle.old.inner (λ sdp. Says (section_list_at c_rids sdp at) (room.old, needed.old) (result, room.new, needed.new)) }
 {
     list::<SectionRid>(alloc, handle, at, room, needed)
 }
@@ -122,9 +122,9 @@ pub extern "C" fn zaxp_session_layers(
     room: &mut [SectionLayer],
     needed: &mut usize,
 ) -> u32
-    requires { IsFull handle.old.inner }
+    requires { IsRoomFull handle.old.inner }
     ensures same { handle.new.inner ≡ handle.old.inner }
-    ensures says { Of handle.old.inner (λ sdp. Says (list_at c_layers sdp at) (room.old, needed.old) (result, room.new, needed.new)) }
+    ensures says { Of handle.old.inner (λ sdp. Says (section_list_at c_layers sdp at) (room.old, needed.old) (result, room.new, needed.new)) }
 {
     list::<SectionLayer>(alloc, handle, at, room, needed)
 }
@@ -138,9 +138,9 @@ pub extern "C" fn zaxp_session_sources(
     room: &mut [SectionSource],
     needed: &mut usize,
 ) -> u32
-    requires { IsFull handle.old.inner }
+    requires { IsRoomFull handle.old.inner }
     ensures same { handle.new.inner ≡ handle.old.inner }
-    ensures says { Of handle.old.inner (λ sdp. Says (list_at c_sources sdp at) (room.old, needed.old) (result, room.new, needed.new)) }
+    ensures says { Of handle.old.inner (λ sdp. Says (section_list_at c_sources sdp at) (room.old, needed.old) (result, room.new, needed.new)) }
 {
     list::<SectionSource>(alloc, handle, at, room, needed)
 }
@@ -154,9 +154,9 @@ pub extern "C" fn zaxp_session_source_groups(
     room: &mut [SourceInGroup],
     needed: &mut usize,
 ) -> u32
-    requires { IsFull handle.old.inner }
+    requires { IsRoomFull handle.old.inner }
     ensures same { handle.new.inner ≡ handle.old.inner }
-    ensures says { Of handle.old.inner (λ sdp. Says (list_at c_source_groups sdp at) (room.old, needed.old) (result, room.new, needed.new)) }
+    ensures says { Of handle.old.inner (λ sdp. Says (section_list_at c_source_groups sdp at) (room.old, needed.old) (result, room.new, needed.new)) }
 {
     list::<SourceInGroup>(alloc, handle, at, room, needed)
 }

@@ -1,14 +1,14 @@
 //! Calls that write a text of a section.
 
 ghost use Rattle.c_calls.specs.Common.{Of};
-ghost use Rattle.c_calls.specs.Prelude.{IsFull, first, last, msid_of, simulcast_of};
-ghost use Rattle.c_calls.specs.Said.{Puts, Says};
-ghost use Rattle.c_calls.specs.SectionTexts.{ids_text, layer_name, layers_both_ways, section_text, text_at, text_numbered};
+ghost use Rattle.c_calls.specs.Prelude.{IsRoomFull, first, last, msid_of, simulcast_of};
+ghost use Rattle.c_calls.specs.Said.{PutsText, Says};
+ghost use Rattle.c_calls.specs.SectionTexts.{ids_text, section_layer_name, section_layers_both_ways, section_text, text_at, text_numbered};
 ghost use Rattle.std.specs.Prelude.{◌≡◌, ◌++◌, IfOk, Some, filter_map, option_copied, option_map, slice_get, string_bytes};
 
 use crate::line_texts::{LineText, put_line_text};
 use crate::row_calls::{RowText, put_section_row_text};
-use crate::said::{NO_MEMORY, NO_SECTION, put};
+use crate::said::{NO_MEMORY, NO_SECTION, put_said};
 use crate::source_texts::{SourceText, put_source_text};
 use c_parts::session_handle::SessionHandle;
 use std::alloc::{AllocError, Global};
@@ -58,17 +58,17 @@ fn ids_text(alloc: Global, section: &MediaLine) -> Result<String, AllocError>
     }
 }
 
-fn put_ids(alloc: Global, section: &MediaLine, room: &mut [u8], needed: &mut usize) -> u32
+fn put_section_ids(alloc: Global, section: &MediaLine, room: &mut [u8], needed: &mut usize) -> u32
     ensures { Says (Some (ids_text (first (filter_map msid_of section.now.attrs)))) (room.old, needed.old) (result, room.new, needed.new) }
 {
     match ids_text(alloc, section) {
-        Ok(text) => put(text.as_bytes(), room, needed),
+        Ok(text) => put_said(text.as_bytes(), room, needed),
         Err(_) => NO_MEMORY,
     }
 }
 
 /// The layer at an index: those that are sent are counted first.
-fn layer_at(simulcast: &Simulcast, index: usize) -> Option<&SimulcastLayer>
+fn section_layer_at(simulcast: &Simulcast, index: usize) -> Option<&SimulcastLayer>
     ensures { option_copied result ≡ slice_get (simulcast.now.send.0 ++ simulcast.now.recv.0) index }
 {
     let (sent, received) = (&simulcast.send.0, &simulcast.recv.0);
@@ -76,21 +76,26 @@ fn layer_at(simulcast: &Simulcast, index: usize) -> Option<&SimulcastLayer>
     sent.chain(received.as_slice().iter()).nth(index)
 }
 
-fn put_name(simulcast: &Simulcast, index: usize, room: &mut [u8], needed: &mut usize) -> u32
-    ensures { Puts (option_map layer_name (slice_get (layers_both_ways (Some simulcast.now)) index)) (room.old, needed.old) (result, room.new, needed.new) }
+fn put_section_layer_name(
+    simulcast: &Simulcast,
+    index: usize,
+    room: &mut [u8],
+    needed: &mut usize,
+) -> u32
+    ensures { PutsText (option_map section_layer_name (slice_get (section_layers_both_ways (Some simulcast.now)) index)) (room.old, needed.old) (result, room.new, needed.new) }
 {
-    match layer_at(simulcast, index) {
-        Some(layer) => put(layer.restriction_id.0.as_str().as_bytes(), room, needed),
+    match section_layer_at(simulcast, index) {
+        Some(layer) => put_said(layer.restriction_id.0.as_str().as_bytes(), room, needed),
         None => NO_SECTION,
     }
 }
 
-fn put_layer_name(section: &MediaLine, index: usize, room: &mut [u8], needed: &mut usize) -> u32
-    ensures { Says (option_map layer_name (slice_get (layers_both_ways (last (filter_map simulcast_of section.now.attrs))) index))
+fn put_section_layer(section: &MediaLine, index: usize, room: &mut [u8], needed: &mut usize) -> u32
+    ensures { Says (option_map section_layer_name (slice_get (section_layers_both_ways (last (filter_map simulcast_of section.now.attrs))) index))
         (room.old, needed.old) (result, room.new, needed.new) }
 {
     match section.simulcast() {
-        Ok(Some(simulcast)) => put_name(&simulcast, index, room, needed),
+        Ok(Some(simulcast)) => put_section_layer_name(&simulcast, index, room, needed),
         Ok(None) => NO_SECTION,
         Err(_) => NO_MEMORY,
     }
@@ -108,12 +113,12 @@ fn put_section_text(
 {
     match what {
         SectionText::Row(text) => put_section_row_text(alloc, section, index, text, room, needed),
-        SectionText::Msid => put_ids(alloc, section, room, needed),
+        SectionText::Msid => put_section_ids(alloc, section, room, needed),
         SectionText::Line(text) => {
             let lines = section.attrs.as_slice();
             put_line_text(alloc, lines, index, text, room, needed)
         }
-        SectionText::Layer => put_layer_name(section, index, room, needed),
+        SectionText::Layer => put_section_layer(section, index, room, needed),
         SectionText::Source(text) => put_source_text(section, index, text, room, needed),
     }
 }
@@ -146,7 +151,7 @@ pub extern "C" fn zaxp_session_text(
     room: &mut [u8],
     needed: &mut usize,
 ) -> u32
-    requires { IsFull handle.old.inner }
+    requires { IsRoomFull handle.old.inner }
     ensures same { handle.new.inner ≡ handle.old.inner }
     ensures says { Of handle.old.inner (λ sdp.
         Says (text_at (text_numbered what) sdp at index) (room.old, needed.old) (result, room.new, needed.new)) }

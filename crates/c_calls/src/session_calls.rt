@@ -1,14 +1,14 @@
 //! Calls of descriptions.
 
 ghost use Rattle.c_calls.specs.Common.{Of};
-ghost use Rattle.c_calls.specs.Prelude.{Described, IsFull, IsJsonText, Reading, Sdp, sdp_text, versioned_text};
-ghost use Rattle.c_calls.specs.Said.{Puts, Says, SaysSome};
-ghost use Rattle.c_calls.specs.SectionCalls.{mid_at};
-ghost use Rattle.c_calls.specs.SessionCalls.{mid_named, mid_or_empty};
+ghost use Rattle.c_calls.specs.Prelude.{Described, IsRoomFull, IsJsonText, Reading, Sdp, sdp_text, versioned_text};
+ghost use Rattle.c_calls.specs.Said.{PutsText, Says, SaysSome};
+ghost use Rattle.c_calls.specs.SectionCalls.{section_mid_at};
+ghost use Rattle.c_calls.specs.SessionCalls.{session_mid_named, session_mid_or_empty};
 ghost use Rattle.c_calls.specs.Told.{done, no_session, no_utf8};
 ghost use Rattle.std.specs.Prelude.{◌≡◌, ◌≢◌, None, Some, List, ℕ, length, IsUtf8};
 
-use crate::said::{DONE, NO_MEMORY, NO_SECTION, put, put_made, refuse};
+use crate::said::{DONE, NO_MEMORY, NO_SECTION, put_said, put_said_text, say_refusal};
 use c_json::json_text;
 use c_parts::reading::read;
 use c_parts::session_handle::SessionHandle;
@@ -41,14 +41,14 @@ pub extern "C" fn zaxp_session_read(
             }
             Err(_) => NO_MEMORY,
         },
-        Err(refusal) => refuse(alloc, &refusal, message, message_length),
+        Err(refusal) => say_refusal(alloc, &refusal, message, message_length),
     }
 }
 
 /// How many sections the description has.
 #[unsafe(no_mangle)]
 pub extern "C" fn zaxp_session_sections(alloc: Global, handle: &mut SessionHandle) -> usize
-    requires { IsFull handle.old.inner }
+    requires { IsRoomFull handle.old.inner }
     ensures same { handle.new.inner ≡ handle.old.inner }
     ensures count { Of handle.old.inner (λ sdp. result ≡ length sdp.media_lines) }
 {
@@ -61,7 +61,7 @@ pub extern "C" fn zaxp_session_sections(alloc: Global, handle: &mut SessionHandl
 fn put_text(alloc: Global, sdp: &Sdp, room: &mut [u8], needed: &mut usize) -> u32
     ensures { Says (Some (sdp_text sdp.now)) (room.old, needed.old) (result, room.new, needed.new) }
 {
-    put_made(sdp.to_string(alloc), room, needed)
+    put_said_text(sdp.to_string(alloc), room, needed)
 }
 
 /// Prints the description into the caller's room.
@@ -72,7 +72,7 @@ pub extern "C" fn zaxp_session_print(
     room: &mut [u8],
     needed: &mut usize,
 ) -> u32
-    requires { IsFull handle.old.inner }
+    requires { IsRoomFull handle.old.inner }
     ensures same { handle.new.inner ≡ handle.old.inner }
     ensures says { Of handle.old.inner (λ sdp. Says (Some (sdp_text sdp)) (room.old, needed.old) (result, room.new, needed.new)) }
 {
@@ -82,10 +82,16 @@ pub extern "C" fn zaxp_session_print(
     code
 }
 
-fn put_versioned(alloc: Global, sdp: &Sdp, version: u64, room: &mut [u8], needed: &mut usize) -> u32
+fn put_versioned_session(
+    alloc: Global,
+    sdp: &Sdp,
+    version: u64,
+    room: &mut [u8],
+    needed: &mut usize,
+) -> u32
     ensures { Says (Some (versioned_text version sdp.now)) (room.old, needed.old) (result, room.new, needed.new) }
 {
-    put_made(VersionedSdp { sdp, version }.to_string(alloc), room, needed)
+    put_said_text(VersionedSdp { sdp, version }.to_string(alloc), room, needed)
 }
 
 /// Prints the description with a version in its `o=` line, as answers and offers print.
@@ -97,21 +103,21 @@ pub extern "C" fn zaxp_session_print_version(
     room: &mut [u8],
     needed: &mut usize,
 ) -> u32
-    requires { IsFull handle.old.inner }
+    requires { IsRoomFull handle.old.inner }
     ensures same { handle.new.inner ≡ handle.old.inner }
     ensures says { Of handle.old.inner (λ sdp. Says (Some (versioned_text version sdp)) (room.old, needed.old) (result, room.new, needed.new)) }
 {
     let sdp = handle.take(alloc);
-    let code = put_versioned(alloc, &sdp, version, room, needed);
+    let code = put_versioned_session(alloc, &sdp, version, room, needed);
     handle.put(sdp);
     code
 }
 
-fn put_json(alloc: Global, sdp: &Sdp, room: &mut [u8], needed: &mut usize) -> u32
+fn put_session_json(alloc: Global, sdp: &Sdp, room: &mut [u8], needed: &mut usize) -> u32
     ensures { SaysSome IsJsonText (room.old, needed.old) (result, room.new, needed.new) }
 {
     match json_text(alloc, sdp) {
-        Ok(text) => put(text.as_bytes(), room, needed),
+        Ok(text) => put_said(text.as_bytes(), room, needed),
         Err(_) => NO_MEMORY,
     }
 }
@@ -124,18 +130,18 @@ pub extern "C" fn zaxp_session_json(
     room: &mut [u8],
     needed: &mut usize,
 ) -> u32
-    requires { IsFull handle.old.inner }
+    requires { IsRoomFull handle.old.inner }
     ensures same { handle.new.inner ≡ handle.old.inner }
     ensures says { SaysSome IsJsonText (room.old, needed.old) (result, room.new, needed.new) }
 {
     let sdp = handle.take(alloc);
-    let code = put_json(alloc, &sdp, room, needed);
+    let code = put_session_json(alloc, &sdp, room, needed);
     handle.put(sdp);
     code
 }
 
-fn mid_named(section: &MediaLine) -> Option<Mid>
-    ensures { result ≡ mid_named section.now }
+fn session_mid_named(section: &MediaLine) -> Option<Mid>
+    ensures { result ≡ session_mid_named section.now }
 {
     if section.has_mid() {
         Some(section.mid())
@@ -144,20 +150,20 @@ fn mid_named(section: &MediaLine) -> Option<Mid>
     }
 }
 
-fn put_mid(section: &MediaLine, room: &mut [u8], needed: &mut usize) -> u32
-    ensures { Puts (Some (mid_or_empty section.now)) (room.old, needed.old) (result, room.new, needed.new) }
+fn put_session_mid(section: &MediaLine, room: &mut [u8], needed: &mut usize) -> u32
+    ensures { PutsText (Some (session_mid_or_empty section.now)) (room.old, needed.old) (result, room.new, needed.new) }
 {
-    match mid_named(section) {
-        Some(mid) => put(mid.as_str().as_bytes(), room, needed),
-        None => put(&[], room, needed),
+    match session_mid_named(section) {
+        Some(mid) => put_said(mid.as_str().as_bytes(), room, needed),
+        None => put_said(&[], room, needed),
     }
 }
 
-fn put_mid_at(sdp: &Sdp, at: usize, room: &mut [u8], needed: &mut usize) -> u32
-    ensures { Puts (mid_at sdp.now at) (room.old, needed.old) (result, room.new, needed.new) }
+fn put_session_mid_at(sdp: &Sdp, at: usize, room: &mut [u8], needed: &mut usize) -> u32
+    ensures { PutsText (section_mid_at sdp.now at) (room.old, needed.old) (result, room.new, needed.new) }
 {
     match sdp.media_lines.get(at) {
-        Some(section) => put_mid(section, room, needed),
+        Some(section) => put_session_mid(section, room, needed),
         None => NO_SECTION,
     }
 }
@@ -171,12 +177,12 @@ pub extern "C" fn zaxp_session_mid(
     room: &mut [u8],
     needed: &mut usize,
 ) -> u32
-    requires { IsFull handle.old.inner }
+    requires { IsRoomFull handle.old.inner }
     ensures same { handle.new.inner ≡ handle.old.inner }
-    ensures says { Of handle.old.inner (λ sdp. Puts (mid_at sdp at) (room.old, needed.old) (result, room.new, needed.new)) }
+    ensures says { Of handle.old.inner (λ sdp. PutsText (section_mid_at sdp at) (room.old, needed.old) (result, room.new, needed.new)) }
 {
     let sdp = handle.take(alloc);
-    let code = put_mid_at(&sdp, at, room, needed);
+    let code = put_session_mid_at(&sdp, at, room, needed);
     handle.put(sdp);
     code
 }
@@ -184,7 +190,7 @@ pub extern "C" fn zaxp_session_mid(
 /// Frees the description; the handle is empty then.
 #[unsafe(no_mangle)]
 pub extern "C" fn zaxp_session_free(alloc: Global, handle: &mut SessionHandle)
-    requires { IsFull handle.old.inner }
+    requires { IsRoomFull handle.old.inner }
     ensures { handle.new.inner ≡ None }
 {
     drop(handle.take(alloc));

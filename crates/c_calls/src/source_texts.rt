@@ -1,11 +1,11 @@
 //! What calls write of the sources of a section.
 
 ghost use Rattle.c_calls.specs.Prelude.{infos};
-ghost use Rattle.c_calls.specs.Said.{Puts, Says};
+ghost use Rattle.c_calls.specs.Said.{PutsText, Says};
 ghost use Rattle.c_calls.specs.SourceTexts.{source_text};
 ghost use Rattle.std.specs.Prelude.{◌≡◌, option_map, slice_get};
 
-use crate::said::{NO_MEMORY, NO_SECTION, put};
+use crate::said::{NO_MEMORY, NO_SECTION, put_said};
 use str0m_signal::{MediaLine, SsrcInfo};
 
 /// What a call writes of a source.
@@ -41,10 +41,10 @@ fn put_source(
     room: &mut [u8],
     needed: &mut usize,
 ) -> u32
-    ensures { Puts (option_map (source_text what) (slice_get infos.now index)) (room.old, needed.old) (result, room.new, needed.new) }
+    ensures { PutsText (option_map (source_text what) (slice_get infos.now index)) (room.old, needed.old) (result, room.new, needed.new) }
 {
     match infos.get(index) {
-        Some(info) => put(source_text(info, what).as_bytes(), room, needed),
+        Some(info) => put_said(source_text(info, what).as_bytes(), room, needed),
         None => NO_SECTION,
     }
 }

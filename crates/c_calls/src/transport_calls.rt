@@ -1,13 +1,13 @@
 //! Calls of the transport that a description speaks of.
 
 ghost use Rattle.c_calls.specs.Common.{Of};
-ghost use Rattle.c_calls.specs.Prelude.{IsFull, sdp_creds, sdp_setup, setup_number};
+ghost use Rattle.c_calls.specs.Prelude.{IsRoomFull, sdp_creds, sdp_setup, section_setup_number};
 ghost use Rattle.c_calls.specs.Said.{Says, SaysSome};
 ghost use Rattle.c_calls.specs.TransportCalls.{IsPreferredText, pwd_of, ufrag_of};
 ghost use Rattle.std.specs.Prelude.{◌≡◌, IfOk, Some, string_bytes};
 
-use crate::said::{NO_MEMORY, put};
-use c_parts::section::setup_of;
+use crate::said::{NO_MEMORY, put_said};
+use c_parts::section::section_setup_of;
 use c_parts::session_handle::SessionHandle;
 use std::alloc::{AllocError, Global};
 use str0m_signal::Sdp;
@@ -16,8 +16,8 @@ fn put_ufrag(sdp: &Sdp, room: &mut [u8], needed: &mut usize) -> u32
     ensures { Says (Some (ufrag_of (sdp_creds sdp.now))) (room.old, needed.old) (result, room.new, needed.new) }
 {
     match sdp.ice_creds() {
-        Ok(Some(creds)) => put(creds.ufrag.as_str().as_bytes(), room, needed),
-        Ok(None) => put(&[], room, needed),
+        Ok(Some(creds)) => put_said(creds.ufrag.as_str().as_bytes(), room, needed),
+        Ok(None) => put_said(&[], room, needed),
         Err(_) => NO_MEMORY,
     }
 }
@@ -30,7 +30,7 @@ pub extern "C" fn zaxp_session_ice_ufrag(
     room: &mut [u8],
     needed: &mut usize,
 ) -> u32
-    requires { IsFull handle.old.inner }
+    requires { IsRoomFull handle.old.inner }
     ensures same { handle.new.inner ≡ handle.old.inner }
     ensures says { Of handle.old.inner (λ sdp. Says (Some (ufrag_of (sdp_creds sdp))) (room.old, needed.old) (result, room.new, needed.new)) }
 {
@@ -44,8 +44,8 @@ fn put_pwd(sdp: &Sdp, room: &mut [u8], needed: &mut usize) -> u32
     ensures { Says (Some (pwd_of (sdp_creds sdp.now))) (room.old, needed.old) (result, room.new, needed.new) }
 {
     match sdp.ice_creds() {
-        Ok(Some(creds)) => put(creds.pass.as_str().as_bytes(), room, needed),
-        Ok(None) => put(&[], room, needed),
+        Ok(Some(creds)) => put_said(creds.pass.as_str().as_bytes(), room, needed),
+        Ok(None) => put_said(&[], room, needed),
         Err(_) => NO_MEMORY,
     }
 }
@@ -58,7 +58,7 @@ pub extern "C" fn zaxp_session_ice_pwd(
     room: &mut [u8],
     needed: &mut usize,
 ) -> u32
-    requires { IsFull handle.old.inner }
+    requires { IsRoomFull handle.old.inner }
     ensures same { handle.new.inner ≡ handle.old.inner }
     ensures says { Of handle.old.inner (λ sdp. Says (Some (pwd_of (sdp_creds sdp))) (room.old, needed.old) (result, room.new, needed.new)) }
 {
@@ -82,7 +82,7 @@ fn put_fingerprint(alloc: Global, sdp: &Sdp, room: &mut [u8], needed: &mut usize
     ensures { SaysSome (IsPreferredText sdp.now) (room.old, needed.old) (result, room.new, needed.new) }
 {
     match fingerprint_text(alloc, sdp) {
-        Ok(text) => put(text.as_bytes(), room, needed),
+        Ok(text) => put_said(text.as_bytes(), room, needed),
         Err(_) => NO_MEMORY,
     }
 }
@@ -95,7 +95,7 @@ pub extern "C" fn zaxp_session_fingerprint(
     room: &mut [u8],
     needed: &mut usize,
 ) -> u32
-    requires { IsFull handle.old.inner }
+    requires { IsRoomFull handle.old.inner }
     ensures same { handle.new.inner ≡ handle.old.inner }
     ensures says { Of handle.old.inner (λ sdp. SaysSome (IsPreferredText sdp) (room.old, needed.old) (result, room.new, needed.new)) }
 {
@@ -108,12 +108,12 @@ pub extern "C" fn zaxp_session_fingerprint(
 /// The role in the DTLS handshake that the description says, as a number.
 #[unsafe(no_mangle)]
 pub extern "C" fn zaxp_session_setup(alloc: Global, handle: &mut SessionHandle) -> u8
-    requires { IsFull handle.old.inner }
+    requires { IsRoomFull handle.old.inner }
     ensures same { handle.new.inner ≡ handle.old.inner }
-    ensures setup { Of handle.old.inner (λ sdp. result ≡ setup_number (sdp_setup sdp)) }
+    ensures setup { Of handle.old.inner (λ sdp. result ≡ section_setup_number (sdp_setup sdp)) }
 {
     let sdp = handle.take(alloc);
-    let setup = setup_of(sdp.setup());
+    let setup = section_setup_of(sdp.setup());
     handle.put(sdp);
     setup
 }

@@ -13,32 +13,32 @@ pub data Level : Type 0 where
   list : Level
 
 -- without the innermost one
-abbrev pub closed : List Level → List Level
-closed [] = []
-closed (l ∷ ls) = ls
+abbrev pub json_closed : List Level → List Level
+json_closed [] = []
+json_closed (l ∷ ls) = ls
 
 -- behind a value
-abbrev pub valued : List Level → List Level
-valued [] = []
-valued (object ∷ ls) = object ∷ ls
-valued (named ∷ ls) = object ∷ ls
-valued (list ∷ ls) = list ∷ ls
+abbrev pub json_valued : List Level → List Level
+json_valued [] = []
+json_valued (object ∷ ls) = object ∷ ls
+json_valued (named ∷ ls) = object ∷ ls
+json_valued (list ∷ ls) = list ∷ ls
 
 -- behind a token
-abbrev pub after_token : List Level → Token → List Level
-after_token ls begin_object = object ∷ valued ls
-after_token ls end_object = closed ls
-after_token ls begin_array = list ∷ valued ls
-after_token ls end_array = closed ls
-after_token ls (key k) = named ∷ closed ls
-after_token ls (string s) = valued ls
-after_token ls (number s) = valued ls
-after_token ls (boolean b) = valued ls
-after_token ls null = valued ls
-after_token ls bad = ls
+abbrev pub json_after_token : List Level → Token → List Level
+json_after_token ls begin_object = object ∷ json_valued ls
+json_after_token ls end_object = json_closed ls
+json_after_token ls begin_array = list ∷ json_valued ls
+json_after_token ls end_array = json_closed ls
+json_after_token ls (key k) = named ∷ json_closed ls
+json_after_token ls (string s) = json_valued ls
+json_after_token ls (number s) = json_valued ls
+json_after_token ls (boolean b) = json_valued ls
+json_after_token ls null = json_valued ls
+json_after_token ls bad = ls
 
-abbrev pub open_levels : List Token → List Level
-open_levels = fold after_token []
+abbrev pub json_open_levels : List Token → List Level
+json_open_levels = fold json_after_token []
 
 -- a member may come next
 abbrev pub InObject : List Level → Type 0
@@ -55,24 +55,24 @@ InList (named ∷ ls) = ⊥
 InList (list ∷ ls) = Unit {0}
 
 -- a value may come next
-abbrev pub WantsValue : List Level → Type 0
-WantsValue [] = ⊥
-WantsValue (object ∷ ls) = ⊥
-WantsValue (named ∷ ls) = Unit {0}
-WantsValue (list ∷ ls) = Unit {0}
+abbrev pub WantsJsonValue : List Level → Type 0
+WantsJsonValue [] = ⊥
+WantsJsonValue (object ∷ ls) = ⊥
+WantsJsonValue (named ∷ ls) = Unit {0}
+WantsJsonValue (list ∷ ls) = Unit {0}
 
 -- the token may come next; a number has a call of its own
-abbrev pub MayBe : List Level → Token → Type 0
-MayBe ls begin_object = WantsValue ls
-MayBe ls end_object = InObject ls
-MayBe ls begin_array = WantsValue ls
-MayBe ls end_array = InList ls
-MayBe ls (key k) = InObject ls
-MayBe ls (string s) = WantsValue ls
-MayBe ls (number s) = ⊥
-MayBe ls (boolean b) = WantsValue ls
-MayBe ls null = WantsValue ls
-MayBe ls bad = ⊥
+abbrev pub MayBeJson : List Level → Token → Type 0
+MayBeJson ls begin_object = WantsJsonValue ls
+MayBeJson ls end_object = InObject ls
+MayBeJson ls begin_array = WantsJsonValue ls
+MayBeJson ls end_array = InList ls
+MayBeJson ls (key k) = InObject ls
+MayBeJson ls (string s) = WantsJsonValue ls
+MayBeJson ls (number s) = ⊥
+MayBeJson ls (boolean b) = WantsJsonValue ls
+MayBeJson ls null = WantsJsonValue ls
+MayBeJson ls bad = ⊥
 
 -- ---- which tokens lead to such levels
 
@@ -95,32 +95,32 @@ abbrev pub AreMembers : List Token → Type 0
 AreMembers ts = (rest : json.Members) (more : Members) → blank_members rest ≡ members_outline more → BeginsMembers ts rest
 
 -- items that some others end
-pub record BeginsItems (ts : List Token) (rest : json.Items) : Type 0 where
+pub record BeginsJsonItems (ts : List Token) (rest : json.Items) : Type 0 where
   pub items : Items
   pub written : json.Items
   pub tokens : items_tokens written ≡ ts ++ items_tokens rest
   pub same : blank_items written ≡ items_outline items
 
 -- the same of items
-abbrev pub AreItems : List Token → Type 0
-AreItems ts = (rest : json.Items) (more : Items) → blank_items rest ≡ items_outline more → BeginsItems ts rest
+abbrev pub AreJsonItems : List Token → Type 0
+AreJsonItems ts = (rest : json.Items) (more : Items) → blank_items rest ≡ items_outline more → BeginsJsonItems ts rest
 
 -- the tokens in front of a value that stands within these levels
-abbrev pub IsFront : List Level → List Token → Type 0
-IsFront [] ts = ts ≡ []
-IsFront (object ∷ ls) ts =
-    (outer : List Token) × (members : List Token) × (k : List ℕ) × IsFront ls outer × AreMembers members × (ts ≡ outer ++ begin_object ∷ (members ++ key k ∷ []))
-IsFront (named ∷ ls) ts = ⊥
-IsFront (list ∷ ls) ts = (outer : List Token) × (items : List Token) × IsFront ls outer × AreItems items × (ts ≡ outer ++ begin_array ∷ items)
+abbrev pub IsJsonFront : List Level → List Token → Type 0
+IsJsonFront [] ts = ts ≡ []
+IsJsonFront (object ∷ ls) ts =
+    (outer : List Token) × (members : List Token) × (k : List ℕ) × IsJsonFront ls outer × AreMembers members × (ts ≡ outer ++ begin_object ∷ (members ++ key k ∷ []))
+IsJsonFront (named ∷ ls) ts = ⊥
+IsJsonFront (list ∷ ls) ts = (outer : List Token) × (items : List Token) × IsJsonFront ls outer × AreJsonItems items × (ts ≡ outer ++ begin_array ∷ items)
 
 -- the tokens that lead there; where none is open any more, a value
-abbrev pub Leads : List Level → List Token → Type 0
-Leads [] ts = IsJsonValue ts
-Leads (object ∷ ls) ts = (outer : List Token) × (members : List Token) × IsFront ls outer × AreMembers members × (ts ≡ outer ++ begin_object ∷ members)
-Leads (named ∷ ls) ts = IsFront (object ∷ ls) ts
-Leads (list ∷ ls) ts = IsFront (list ∷ ls) ts
+abbrev pub LeadsJson : List Level → List Token → Type 0
+LeadsJson [] ts = IsJsonValue ts
+LeadsJson (object ∷ ls) ts = (outer : List Token) × (members : List Token) × IsJsonFront ls outer × AreMembers members × (ts ≡ outer ++ begin_object ∷ members)
+LeadsJson (named ∷ ls) ts = IsJsonFront (object ∷ ls) ts
+LeadsJson (list ∷ ls) ts = IsJsonFront (list ∷ ls) ts
 
 -- what is written leads to its levels, in a room that was empty
-pub record IsBegun (before : List ℕ) (tokens : List Token) : Type 0 where
+pub record IsJsonBegun (before : List ℕ) (tokens : List Token) : Type 0 where
   pub empty : before ≡ []
-  pub leads : Leads (open_levels tokens) tokens
+  pub leads : LeadsJson (json_open_levels tokens) tokens

@@ -9,7 +9,10 @@ use str0m_signal::{Candidate, SocketAddr};
 use str0m_values::Worded;
 
 /// Where it was found from.
-fn add_related(json: &mut JsonWriter, related: Option<SocketAddr>) -> Result<(), AllocError>
+fn add_candidate_related(
+    json: &mut JsonWriter,
+    related: Option<SocketAddr>,
+) -> Result<(), AllocError>
     requires { InObject json.old }
     ensures { OnOk result (json.new ≡ json.old) }
 {
@@ -20,7 +23,7 @@ fn add_related(json: &mut JsonWriter, related: Option<SocketAddr>) -> Result<(),
     json.number("rport", u64::from(addr.port))
 }
 
-fn add_parts(json: &mut JsonWriter, found: &Candidate) -> Result<(), AllocError>
+fn add_candidate_parts(json: &mut JsonWriter, found: &Candidate) -> Result<(), AllocError>
     requires { InObject json.old }
     ensures { OnOk result (json.new ≡ json.old) }
 {
@@ -30,7 +33,7 @@ fn add_parts(json: &mut JsonWriter, found: &Candidate) -> Result<(), AllocError>
     json.shown("ip", &addr.ip)?;
     json.number("port", u64::from(addr.port))?;
     json.number("priority", u64::from(found.prio()))?;
-    add_related(json, found.raddr())?;
+    add_candidate_related(json, found.raddr())?;
     json.maybe_text("tcptype", found.tcptype().map(|tcptype| tcptype.word()))?;
     json.text("transport", found.proto().word())?;
     json.text("type", found.kind().word())?;
@@ -43,6 +46,6 @@ pub(crate) fn add_candidate(json: &mut JsonWriter, found: &Candidate) -> Result<
     ensures { OnOk result (json.new ≡ json.old) }
 {
     json.begin_item()?;
-    add_parts(json, found)?;
+    add_candidate_parts(json, found)?;
     json.end_object()
 }

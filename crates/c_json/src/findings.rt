@@ -7,7 +7,7 @@ use serde_json::{Value, json};
 use std::alloc::{AllocError, Global};
 
 /// How a text is called that stands in no file.
-const STANDARD_INPUT: &str = "-";
+const FINDINGS_INPUT: &str = "-";
 
 /// A finding in a file as an object.
 pub fn record(alloc: Global, file: &str, finding: &Finding) -> Result<Value, AllocError> {
@@ -30,7 +30,7 @@ fn records(alloc: Global, text: &str) -> Result<Value, AllocError> {
     found.sort_by_key(|finding| (finding.line, finding.column))?;
     let mut records = Vec::new(alloc);
     for finding in &found {
-        records.push(record(alloc, STANDARD_INPUT, finding)?)?;
+        records.push(record(alloc, FINDINGS_INPUT, finding)?)?;
     }
     Ok(Value::Array(records))
 }

@@ -4,7 +4,7 @@ ghost use Rattle.c_json.specs.JsonWriter.{InList};
 ghost use Rattle.std.specs.Prelude.{◌≡◌, OnOk};
 
 use crate::json_writer::JsonWriter;
-use crate::words::{content, first_word};
+use crate::words::{first_word, words_after_label};
 use std::alloc::{AllocError, Global};
 use str0m_sdp::label;
 use str0m_signal::{Extension, MediaAttribute, Pt, RtpMap};
@@ -50,7 +50,7 @@ pub(crate) fn add_fmtp(
     ensures { OnOk result (json.new ≡ json.old) }
 {
     let line = attr.to_string(alloc)?;
-    let (_, config) = first_word(content(line.as_str(), label::FMTP).unwrap_or(""));
+    let (_, config) = first_word(words_after_label(line.as_str(), label::FMTP).unwrap_or(""));
     json.begin_item()?;
     json.text("config", config)?;
     json.number("payload", u64::from(pt.value()))?;

@@ -33,17 +33,17 @@ pub(crate) fn section_head(alloc: Global, section: &MediaLine) -> Result<String,
 
 /// An address with its type of network and its version of IP (RFC 8866, section 5.7).
 #[derive(Clone, Copy)]
-struct NetAddress<'a> {
+struct HeadAddress<'a> {
     net_type: &'a str,
     version: &'a str,
     address: &'a str,
 }
 
 /// What a text as `IN IP4 0.0.0.0` says.
-fn read_address(text: &str) -> Option<NetAddress<'_>> {
+fn read_head_address(text: &str) -> Option<HeadAddress<'_>> {
     let (net_type, rest) = text.split_once(" IP")?;
     let (version, address) = rest.split_once(' ')?;
-    Some(NetAddress {
+    Some(HeadAddress {
         net_type,
         version,
         address,
@@ -51,7 +51,7 @@ fn read_address(text: &str) -> Option<NetAddress<'_>> {
 }
 
 /// Adds such an address to what has a port or a session.
-fn add_address(json: &mut JsonWriter, found: Option<NetAddress<'_>>) -> Result<(), AllocError>
+fn add_head_address(json: &mut JsonWriter, found: Option<HeadAddress<'_>>) -> Result<(), AllocError>
     requires { InObject json.old }
     ensures { OnOk result (json.new ≡ json.old) }
 {
@@ -64,7 +64,7 @@ fn add_address(json: &mut JsonWriter, found: Option<NetAddress<'_>>) -> Result<(
 }
 
 /// Adds who made the session, and when (RFC 8866, section 5.2).
-pub(crate) fn add_origin(json: &mut JsonWriter, head: &str) -> Result<(), AllocError>
+pub(crate) fn add_head_origin(json: &mut JsonWriter, head: &str) -> Result<(), AllocError>
     requires { InObject json.old }
     ensures { OnOk result (json.new ≡ json.old) }
 {
@@ -75,7 +75,7 @@ pub(crate) fn add_origin(json: &mut JsonWriter, head: &str) -> Result<(), AllocE
     let (id, rest) = first_word(rest);
     let (version, rest) = first_word(rest);
     json.begin_object("origin")?;
-    add_address(json, read_address(rest))?;
+    add_head_address(json, read_head_address(rest))?;
     json.number_or_text("sessionId", id)?;
     json.number_or_text("sessionVersion", version)?;
     json.text("username", username)?;
@@ -83,7 +83,7 @@ pub(crate) fn add_origin(json: &mut JsonWriter, head: &str) -> Result<(), AllocE
 }
 
 /// Adds from when to when the session is (RFC 8866, section 5.9).
-pub(crate) fn add_timing(json: &mut JsonWriter, head: &str) -> Result<(), AllocError>
+pub(crate) fn add_head_timing(json: &mut JsonWriter, head: &str) -> Result<(), AllocError>
     requires { InObject json.old }
     ensures { OnOk result (json.new ≡ json.old) }
 {
@@ -98,7 +98,7 @@ pub(crate) fn add_timing(json: &mut JsonWriter, head: &str) -> Result<(), AllocE
 }
 
 /// Adds the version of the protocol (RFC 8866, section 5.1).
-pub(crate) fn add_version(json: &mut JsonWriter, head: &str) -> Result<(), AllocError>
+pub(crate) fn add_head_version(json: &mut JsonWriter, head: &str) -> Result<(), AllocError>
     requires { InObject json.old }
     ensures { OnOk result (json.new ≡ json.old) }
 {
@@ -106,7 +106,7 @@ pub(crate) fn add_version(json: &mut JsonWriter, head: &str) -> Result<(), Alloc
 }
 
 /// Adds what the section carries (RFC 8866, section 5.14), but for its type.
-pub(crate) fn add_formats(json: &mut JsonWriter, head: &str) -> Result<(), AllocError>
+pub(crate) fn add_head_formats(json: &mut JsonWriter, head: &str) -> Result<(), AllocError>
     requires { InObject json.old }
     ensures { OnOk result (json.new ≡ json.old) }
 {
@@ -119,11 +119,11 @@ pub(crate) fn add_formats(json: &mut JsonWriter, head: &str) -> Result<(), Alloc
 }
 
 /// Adds the address that the section has by its `c=` line (RFC 8866, section 5.7).
-pub(crate) fn add_connection(json: &mut JsonWriter, head: &str) -> Result<(), AllocError>
+pub(crate) fn add_head_connection(json: &mut JsonWriter, head: &str) -> Result<(), AllocError>
     requires { InObject json.old }
     ensures { OnOk result (json.new ≡ json.old) }
 {
-    let Some(at) = read_address(line(head, "c=").unwrap_or("")) else {
+    let Some(at) = read_head_address(line(head, "c=").unwrap_or("")) else {
         return Ok(());
     };
     json.begin_object("connection")?;
@@ -133,7 +133,7 @@ pub(crate) fn add_connection(json: &mut JsonWriter, head: &str) -> Result<(), Al
 }
 
 /// Adds the proposed bandwidth, as the item of a list (RFC 8866, section 5.8).
-pub(crate) fn add_bandwidth(json: &mut JsonWriter, head: &str) -> Result<(), AllocError>
+pub(crate) fn add_head_bandwidth(json: &mut JsonWriter, head: &str) -> Result<(), AllocError>
     requires { InObject json.old }
     ensures { OnOk result (json.new ≡ json.old) }
 {
@@ -150,7 +150,7 @@ pub(crate) fn add_bandwidth(json: &mut JsonWriter, head: &str) -> Result<(), All
 }
 
 /// Adds where RTCP goes (RFC 3605, section 2.1). What has another form is a port as a whole.
-pub(crate) fn add_rtcp(json: &mut JsonWriter, said: Option<&str>) -> Result<(), AllocError>
+pub(crate) fn add_head_rtcp(json: &mut JsonWriter, said: Option<&str>) -> Result<(), AllocError>
     requires { InObject json.old }
     ensures { OnOk result (json.new ≡ json.old) }
 {
@@ -158,9 +158,9 @@ pub(crate) fn add_rtcp(json: &mut JsonWriter, said: Option<&str>) -> Result<(), 
         return Ok(());
     };
     let (port, rest) = first_word(text);
-    let at = read_address(rest);
+    let at = read_head_address(rest);
     json.begin_object("rtcp")?;
-    add_address(json, at)?;
+    add_head_address(json, at)?;
     json.number_or_text("port", if at.is_some() { port } else { text })?;
     json.end_object()
 }

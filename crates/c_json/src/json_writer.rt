@@ -1,7 +1,7 @@
 //! JSON as it is written: objects and lists, one in another, each member and each item straight into the text.
 
 ghost use Rattle.c_json.specs.Description.{IsJsonText};
-ghost use Rattle.c_json.specs.JsonWriter.{object, list, closed, valued, after_token, InObject, InList, WantsValue, MayBe};
+ghost use Rattle.c_json.specs.JsonWriter.{object, list, json_closed, json_valued, json_after_token, InObject, InList, WantsJsonValue, MayBeJson};
 ghost use Rattle.json.specs.Reads.{token_of};
 ghost use Rattle.std.specs.Prelude.{◌≡◌, ◌∷◌, [], IfOk, OnOk};
 ghost use Rattle.std.specs.String.{string_bytes};
@@ -12,12 +12,12 @@ use std::fmt;
 use std::marker::Model;
 
 /// The greatest number up to which all readers of JSON hold each one exactly (RFC 8259, section 6).
-const EXACT: u64 = 9_007_199_254_740_991;
+const EXACT_JSON_NUMBER: u64 = 9_007_199_254_740_991;
 
 /// The room that is asked for at first, in bytes, for a whole text and for what is printed alone: no text depends on it.
-const USUAL_TEXT: usize = 4096;
+const USUAL_JSON_TEXT: usize = 4096;
 
-const USUAL_PART: usize = 128;
+const USUAL_JSON_PART: usize = 128;
 
 /// JSON that isn't whole yet: contracts see what is open, the innermost first. Members of an object are written in the order of
 /// the calls, which is that of their keys.
@@ -28,18 +28,18 @@ pub(crate) struct JsonWriter {
 }
 
 impl Model for JsonWriter {
-    ghost use Rattle.c_json.specs.JsonWriter.{Level, open_levels, IsBegun};
+    ghost use Rattle.c_json.specs.JsonWriter.{Level, json_open_levels, IsJsonBegun};
     ghost use Rattle.std.specs.Prelude.{List};
 
     ghost Value = { List Level };
 
-    ghost view = { λ json. open_levels json.out.tokens };
+    ghost view = { λ json. json_open_levels json.out.tokens };
 
-    ghost invariant = { λ json. IsBegun json.out.before json.out.tokens };
+    ghost invariant = { λ json. IsJsonBegun json.out.before json.out.tokens };
 }
 
 /// The number whose digits a text is, none else.
-fn number_of(text: &str) -> Option<u64> {
+fn json_number_of(text: &str) -> Option<u64> {
     match text.as_bytes() {
         [b'0'] | [b'1'..=b'9', ..] => text.parse::<u64>().ok(),
         _ => None,
@@ -51,23 +51,23 @@ impl JsonWriter {
     pub(crate) fn new(alloc: Global) -> Result<JsonWriter, AllocError>
         ensures { IfOk result (λ json. json ≡ object ∷ []) }
     {
-        let mut out = Writer::new(Vec::with_capacity(alloc, USUAL_TEXT)?);
+        let mut out = Writer::new(Vec::with_capacity(alloc, USUAL_JSON_TEXT)?);
         out.begin_object()?;
         Ok(JsonWriter { alloc, out })
     }
 
     #[inline(always)]
     fn put(&mut self, token: Token<'_>) -> Result<(), AllocError>
-        requires { MayBe self.old (token_of token) }
-        ensures { OnOk result (self.new ≡ after_token self.old (token_of token.entry)) }
+        requires { MayBeJson self.old (token_of token) }
+        ensures { OnOk result (self.new ≡ json_after_token self.old (token_of token.entry)) }
     {
         self.out.token(token)?;
         Ok(())
     }
 
     fn put_number(&mut self, number: u64) -> Result<(), AllocError>
-        requires { WantsValue self.old }
-        ensures { OnOk result (self.new ≡ valued self.old) }
+        requires { WantsJsonValue self.old }
+        ensures { OnOk result (self.new ≡ json_valued self.old) }
     {
         self.out.u64(number)?;
         Ok(())
@@ -99,7 +99,7 @@ impl JsonWriter {
         requires { InObject self.old }
         ensures { OnOk result (self.new ≡ self.old) }
     {
-        let mut text = String::with_capacity(self.alloc, USUAL_PART)?;
+        let mut text = String::with_capacity(self.alloc, USUAL_JSON_PART)?;
         write!(text, "{value}")?;
         self.text(key, text.as_str())
     }
@@ -123,7 +123,7 @@ impl JsonWriter {
         requires { InObject self.old }
         ensures { OnOk result (self.new ≡ self.old) }
     {
-        if number > EXACT {
+        if number > EXACT_JSON_NUMBER {
             return self.shown(key, &number);
         }
         self.put(Token::Key(key))?;
@@ -159,7 +159,7 @@ impl JsonWriter {
         requires { InObject self.old }
         ensures { OnOk result (self.new ≡ self.old) }
     {
-        match number_of(text) {
+        match json_number_of(text) {
             Some(number) => self.number(key, number),
             None => self.text(key, text),
         }
@@ -186,7 +186,7 @@ impl JsonWriter {
     }
 
     /// An item that is an object; it has the members that follow.
-    #[tactic(auto, using(crate::proofs::JsonWriterLaws::behind_item, crate::proofs::JsonWriterLaws::item_wanted))]
+    #[tactic(auto, using(crate::proofs::JsonWriterLaws::json_behind_item, crate::proofs::JsonWriterLaws::json_item_wanted))]
     pub(crate) fn begin_item(&mut self) -> Result<(), AllocError>
         requires { InList self.old }
         ensures { OnOk result (self.new ≡ object ∷ self.old) }
@@ -195,7 +195,7 @@ impl JsonWriter {
     }
 
     /// An item that is a text.
-    #[tactic(auto, using(crate::proofs::JsonWriterLaws::behind_item, crate::proofs::JsonWriterLaws::item_wanted))]
+    #[tactic(auto, using(crate::proofs::JsonWriterLaws::json_behind_item, crate::proofs::JsonWriterLaws::json_item_wanted))]
     pub(crate) fn item(&mut self, text: &str) -> Result<(), AllocError>
         requires { InList self.old }
         ensures { OnOk result (self.new ≡ self.old) }
@@ -206,7 +206,7 @@ impl JsonWriter {
     /// The end of the innermost object.
     pub(crate) fn end_object(&mut self) -> Result<(), AllocError>
         requires { InObject self.old }
-        ensures { OnOk result (self.new ≡ closed self.old) }
+        ensures { OnOk result (self.new ≡ json_closed self.old) }
     {
         self.put(Token::EndObject)
     }
@@ -214,7 +214,7 @@ impl JsonWriter {
     /// The end of the innermost list.
     pub(crate) fn end_list(&mut self) -> Result<(), AllocError>
         requires { InList self.old }
-        ensures { OnOk result (self.new ≡ closed self.old) }
+        ensures { OnOk result (self.new ≡ json_closed self.old) }
     {
         self.put(Token::EndArray)
     }
@@ -232,7 +232,7 @@ impl JsonWriter {
 
 /// Items with a space between each two.
 fn spaced_text<T: fmt::Display>(alloc: Global, items: &[T]) -> Result<String, AllocError> {
-    let mut text = String::with_capacity(alloc, USUAL_PART)?;
+    let mut text = String::with_capacity(alloc, USUAL_JSON_PART)?;
     for (i, item) in items.iter().enumerate() {
         if i > 0 {
             text.push(' ')?;

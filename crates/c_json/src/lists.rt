@@ -27,7 +27,11 @@ pub(crate) trait Listed: Copy {
 }
 
 /// Whether one of the attributes is an item of the list.
-fn has_any<L: Listed>(alloc: Global, list: L, attrs: &[L::Attribute]) -> Result<bool, AllocError> {
+fn has_any_in_list<L: Listed>(
+    alloc: Global,
+    list: L,
+    attrs: &[L::Attribute],
+) -> Result<bool, AllocError> {
     for attr in attrs {
         if list.has(alloc, attr)? {
             return Ok(true);
@@ -46,7 +50,7 @@ pub(crate) fn add_list<L: Listed>(
     requires { InObject json.old }
     ensures { OnOk result (json.new ≡ json.old) }
 {
-    if !has_any(alloc, list, attrs)? {
+    if !has_any_in_list(alloc, list, attrs)? {
         return Ok(());
     }
     json.begin_list(list.key())?;

@@ -9,7 +9,7 @@ use str0m_sdp::label;
 use str0m_signal::{MediaLine, PayloadParams, Pt};
 use str0m_values::Worded;
 
-fn value_of(pt: Option<Pt>) -> Option<u8> {
+fn row_type_number(pt: Option<Pt>) -> Option<u8> {
     match pt {
         Some(pt) => Some(pt.value()),
         None => None,
@@ -49,8 +49,8 @@ fn add_row(json: &mut JsonWriter, row: &PayloadParams) -> Result<(), AllocError>
     json.shown("fmtp", &spec.format)?;
     json.number("pt", u64::from(row.pt().value()))?;
     json.number("rate", u64::from(spec.clock_rate.get()))?;
-    json.number_or_null("red", value_of(row.red()))?;
-    json.number_or_null("rtx", value_of(row.resend()))?;
+    json.number_or_null("red", row_type_number(row.red()))?;
+    json.number_or_null("rtx", row_type_number(row.resend()))?;
     json.end_object()
 }
 

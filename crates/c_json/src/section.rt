@@ -3,7 +3,9 @@
 ghost use Rattle.c_json.specs.JsonWriter.{InList, InObject};
 ghost use Rattle.std.specs.Prelude.{◌≡◌, OnOk};
 
-use crate::head::{add_bandwidth, add_connection, add_formats, add_rtcp, section_head};
+use crate::head::{
+    add_head_bandwidth, add_head_connection, add_head_formats, add_head_rtcp, section_head,
+};
 use crate::json_writer::JsonWriter;
 use crate::lists::add_list;
 use crate::rows::add_rows;
@@ -125,9 +127,9 @@ fn add_first_of_section(
     requires { InObject json.old }
     ensures { OnOk result (json.new ≡ json.old) }
 {
-    add_bandwidth(json, head)?;
+    add_head_bandwidth(json, head)?;
     add_list(alloc, json, SectionList::Candidates, attrs)?;
-    add_connection(json, head)?;
+    add_head_connection(json, head)?;
     json.maybe_text("direction", said.direction)?;
     said.transport.add_end_of_candidates(json)?;
     add_list(alloc, json, SectionList::Ext, attrs)?;
@@ -138,7 +140,7 @@ fn add_first_of_section(
 }
 
 /// The keys from `maxMessageSize` to `rows`.
-fn add_next(
+fn add_next_section_keys(
     alloc: Global,
     json: &mut JsonWriter,
     head: &str,
@@ -151,13 +153,13 @@ fn add_next(
     json.maybe_number("maxMessageSize", said.max_message_size)?;
     json.maybe_text("mid", said.mid)?;
     said.add_msid(json)?;
-    add_formats(json, head)?;
+    add_head_formats(json, head)?;
     add_list(alloc, json, SectionList::Rids, section.attrs.as_slice())?;
     add_rows(json, section)
 }
 
 /// The keys from `rtcp` to `rtp`.
-fn add_rtp(
+fn add_rtp_section_keys(
     alloc: Global,
     json: &mut JsonWriter,
     attrs: &[MediaAttribute],
@@ -166,7 +168,7 @@ fn add_rtp(
     requires { InObject json.old }
     ensures { OnOk result (json.new ≡ json.old) }
 {
-    add_rtcp(json, said.rtcp)?;
+    add_head_rtcp(json, said.rtcp)?;
     add_list(alloc, json, SectionList::RtcpFb, attrs)?;
     json.maybe_text("rtcpMux", said.rtcp_mux)?;
     json.maybe_text("rtcpMuxOnly", said.rtcp_mux_only)?;
@@ -175,7 +177,7 @@ fn add_rtp(
 }
 
 /// The keys from `sctpInit` on.
-fn add_last(
+fn add_last_section_keys(
     alloc: Global,
     json: &mut JsonWriter,
     section: &MediaLine,
@@ -208,8 +210,8 @@ pub(crate) fn add_section(
     let said = SaidBySection::by(attrs);
     json.begin_item()?;
     add_first_of_section(alloc, json, head.as_str(), attrs, &said)?;
-    add_next(alloc, json, head.as_str(), section, &said)?;
-    add_rtp(alloc, json, attrs, &said)?;
-    add_last(alloc, json, section, &said)?;
+    add_next_section_keys(alloc, json, head.as_str(), section, &said)?;
+    add_rtp_section_keys(alloc, json, attrs, &said)?;
+    add_last_section_keys(alloc, json, section, &said)?;
     json.end_object()
 }

@@ -30,7 +30,7 @@ pub(crate) enum SectionList {
 }
 
 /// Whether one of the values has a text.
-fn are_printed(alloc: Global, values: &[FormatParam]) -> Result<bool, AllocError> {
+fn are_listed_values_printed(alloc: Global, values: &[FormatParam]) -> Result<bool, AllocError> {
     for value in values {
         if !value.to_string(alloc)?.is_empty() {
             return Ok(true);
@@ -55,10 +55,10 @@ fn section_list(attr: &MediaAttribute) -> SectionList {
 }
 
 /// Whether an attribute is an item of its list: it prints, and no key says it.
-fn is_item(alloc: Global, attr: &MediaAttribute) -> Result<bool, AllocError> {
+fn is_section_list_item(alloc: Global, attr: &MediaAttribute) -> Result<bool, AllocError> {
     match attr {
         MediaAttribute::ExtMap { ext, .. } => Ok(ext.is_serialized()),
-        MediaAttribute::Fmtp { values, .. } => are_printed(alloc, values.as_slice()),
+        MediaAttribute::Fmtp { values, .. } => are_listed_values_printed(alloc, values.as_slice()),
         MediaAttribute::SsrcGroup { ssrcs, .. } => Ok(!ssrcs.is_empty()),
         _ => Ok(!section_has_key(attr)),
     }
@@ -85,7 +85,7 @@ impl Listed for SectionList {
         if section_list(attr) != self {
             return Ok(false);
         }
-        is_item(alloc, attr)
+        is_section_list_item(alloc, attr)
     }
 
     fn add(

@@ -3,7 +3,9 @@
 ghost use Rattle.c_json.specs.JsonWriter.{InObject};
 ghost use Rattle.std.specs.Prelude.{◌≡◌, OnOk};
 
-use crate::head::{add_bandwidth, add_origin, add_timing, add_version, session_head};
+use crate::head::{
+    add_head_bandwidth, add_head_origin, add_head_timing, add_head_version, session_head,
+};
 use crate::json_writer::JsonWriter;
 use crate::lists::add_list;
 use crate::section::add_section;
@@ -84,7 +86,11 @@ pub(crate) fn session_has_key(attr: &SessionAttribute) -> bool {
     said.note(attr)
 }
 
-fn add_media(alloc: Global, json: &mut JsonWriter, sections: &[MediaLine]) -> Result<(), AllocError>
+fn add_session_media(
+    alloc: Global,
+    json: &mut JsonWriter,
+    sections: &[MediaLine],
+) -> Result<(), AllocError>
     requires { InObject json.old }
     ensures { OnOk result (json.new ≡ json.old) }
 {
@@ -106,7 +112,7 @@ fn add_first_of_session(
     requires { InObject json.old }
     ensures { OnOk result (json.new ≡ json.old) }
 {
-    add_bandwidth(json, head)?;
+    add_head_bandwidth(json, head)?;
     add_list(alloc, json, SessionList::Candidates, attrs)?;
     said.transport.add_end_of_candidates(json)?;
     json.maybe_text("extmapAllowMixed", said.allow_mixed)?;
@@ -127,11 +133,11 @@ pub(crate) fn add_session(alloc: Global, json: &mut JsonWriter, sdp: &Sdp) -> Re
     let attrs = sdp.session.attrs.as_slice();
     let said = SaidBySession::by(attrs);
     add_first_of_session(alloc, json, head, attrs, &said)?;
-    add_media(alloc, json, sdp.media_lines.as_slice())?;
+    add_session_media(alloc, json, sdp.media_lines.as_slice())?;
     said.add_semantic(json)?;
     json.text("name", line(head, "s=").unwrap_or(""))?;
-    add_origin(json, head)?;
+    add_head_origin(json, head)?;
     said.transport.add_setup(json)?;
-    add_timing(json, head)?;
-    add_version(json, head)
+    add_head_timing(json, head)?;
+    add_head_version(json, head)
 }

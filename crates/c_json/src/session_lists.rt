@@ -21,7 +21,7 @@ pub(crate) enum SessionList {
 }
 
 /// Adds sections that belong together (RFC 5888, section 5).
-fn add_group(json: &mut JsonWriter, typ: &Text, mids: &[Mid]) -> Result<(), AllocError>
+fn add_session_group(json: &mut JsonWriter, typ: &Text, mids: &[Mid]) -> Result<(), AllocError>
     requires { InList json.old }
     ensures { OnOk result (json.new ≡ json.old) }
 {
@@ -63,7 +63,7 @@ impl Listed for SessionList {
     ) -> Result<(), AllocError> {
         match attr {
             SessionAttribute::Candidate(found) => add_candidate(json, found),
-            SessionAttribute::Group { typ, mids } => add_group(json, typ, mids.as_slice()),
+            SessionAttribute::Group { typ, mids } => add_session_group(json, typ, mids.as_slice()),
             SessionAttribute::Unused(text) => add_unread(json, text.as_str()),
             _ => {
                 let line = attr.to_string(alloc)?;

@@ -4,13 +4,13 @@ ghost use Rattle.c_json.specs.JsonWriter.{InList, InObject};
 ghost use Rattle.std.specs.Prelude.{◌≡◌, OnOk};
 
 use crate::json_writer::JsonWriter;
-use crate::words::{content, first_word};
+use crate::words::{first_word, words_after_label};
 use std::alloc::{AllocError, Global};
 use str0m_sdp::label;
 use str0m_signal::{MediaAttribute, Simulcast, Ssrc, Text};
 
 /// The text, where it isn't empty.
-fn some_text(text: &str) -> Option<&str> {
+fn some_stream_text(text: &str) -> Option<&str> {
     if text.is_empty() { None } else { Some(text) }
 }
 
@@ -24,12 +24,12 @@ pub(crate) fn add_rid(
     ensures { OnOk result (json.new ≡ json.old) }
 {
     let line = attr.to_string(alloc)?;
-    let (id, rest) = first_word(content(line.as_str(), label::RID).unwrap_or(""));
+    let (id, rest) = first_word(words_after_label(line.as_str(), label::RID).unwrap_or(""));
     let (direction, params) = first_word(rest);
     json.begin_item()?;
     json.text("direction", direction)?;
     json.text("id", id)?;
-    json.maybe_text("params", some_text(params))?;
+    json.maybe_text("params", some_stream_text(params))?;
     json.end_object()
 }
 
@@ -52,14 +52,16 @@ pub(crate) fn add_layers(
         return Ok(());
     };
     let line = attr.to_string(alloc)?;
-    let (first, rest) = first_word(content(line.as_str(), label::SIMULCAST).unwrap_or(""));
+    let (first, rest) = first_word(words_after_label(line.as_str(), label::SIMULCAST).unwrap_or(
+        "",
+    ));
     let (first_list, rest) = first_word(rest);
     let (second, second_list) = first_word(rest);
     json.begin_object("simulcast")?;
     json.text("dir1", first)?;
-    json.maybe_text("dir2", some_text(second))?;
+    json.maybe_text("dir2", some_stream_text(second))?;
     json.text("list1", first_list)?;
-    json.maybe_text("list2", some_text(second_list))?;
+    json.maybe_text("list2", some_stream_text(second_list))?;
     json.end_object()
 }
 

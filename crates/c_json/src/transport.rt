@@ -4,7 +4,7 @@ ghost use Rattle.c_json.specs.JsonWriter.{InList, InObject};
 ghost use Rattle.std.specs.Prelude.{◌≡◌, OnOk};
 
 use crate::json_writer::JsonWriter;
-use crate::words::content;
+use crate::words::words_after_label;
 use std::alloc::AllocError;
 use str0m_signal::{Fingerprint, FingerprintFmt, Setup};
 use str0m_values::Worded;
@@ -85,5 +85,5 @@ pub(crate) fn add_printed(json: &mut JsonWriter, line: &str) -> Result<(), Alloc
     requires { InList json.old }
     ensures { OnOk result (json.new ≡ json.old) }
 {
-    add_unread(json, content(line, "").unwrap_or(""))
+    add_unread(json, words_after_label(line, "").unwrap_or(""))
 }

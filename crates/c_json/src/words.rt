@@ -6,7 +6,7 @@ pub(crate) fn first_word(text: &str) -> (&str, &str) {
 }
 
 /// What stands after the label of a printed attribute; `None` where it prints nothing.
-pub(crate) fn content<'a>(line: &'a str, label: &str) -> Option<&'a str> {
+pub(crate) fn words_after_label<'a>(line: &'a str, label: &str) -> Option<&'a str> {
     line.strip_prefix("a=")?
         .strip_prefix(label)?
         .strip_suffix("\r\n")

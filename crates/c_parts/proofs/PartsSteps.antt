@@ -81,18 +81,18 @@ use types.Run.{stop, fld, Walks, Rv}
 abbrev pub boxed : (X : RattleType) → Laws X → (Z : RattleType) → Laws Z → Ghosts Z.Denot → Dict → Dict → Bx
 boxed X LX Z LZ g d drops = record { row = X; laws = LX; al = record { row = Z; laws = LZ; g = g; d = d; drops = drops } }
 
-abbrev pub asked_triple : {M : Type 1} {𝓤 : Ura M} (𝓛 : Logic 𝓤) (S : Ended) → Clauses 𝓤 S → Contract 𝓤
-asked_triple 𝓛 S c = triple_of 𝓛 S.signature (closing 𝓛 S c)
+abbrev pub asked_parts_triple : {M : Type 1} {𝓤 : Ura M} (𝓛 : Logic 𝓤) (S : Ended) → Clauses 𝓤 S → Contract 𝓤
+asked_parts_triple 𝓛 S c = triple_of 𝓛 S.signature (closing 𝓛 S c)
 
 module _ {M : Type 1} {𝓤 : Ura M} (𝓛 : Logic 𝓤) {K : Type 0} {Γ : List (Item 𝓤)} {G : Goal 𝓤 𝓛.H} where
-  pub told : (φ : Type 0) → φ → Step K 𝓛 (raw (fact 𝓤 φ) ∷ Γ) G Γ G
-  told φ x = use0 𝓛 (raw (fact 𝓤 φ)) (fact_i 𝓤 φ (emp 𝓤) x)
+  pub told_parts : (φ : Type 0) → φ → Step K 𝓛 (raw (fact 𝓤 φ) ∷ Γ) G Γ G
+  told_parts φ x = use0 𝓛 (raw (fact 𝓤 φ)) (fact_i 𝓤 φ (emp 𝓤) x)
 
-  pub answer : (S : Ended) (c : Clauses 𝓤 S) (y : (asked_triple 𝓛 S c).Ghost) (u : Val) → K → Soaks G
+  pub answer : (S : Ended) (c : Clauses 𝓤 S) (y : (asked_parts_triple 𝓛 S c).Ghost) (u : Val) → K → Soaks G
       → ((r : Res S.signature y.0.0) (ls : Lasts S y.0.0 y.0.3)
       → Seq K 𝓛 (raw ((c y.0.0 y.0.3).ensures y.1 r (at_exit S y.0.0 y.0.3 ls)) ∷ ‵ ((type_at S.signature.result y.0.0).own_val r (u ∷ []))
       ∷ raw (alive 𝓛 S.signature y.0.0 y.0.1) ∷ Γ) G)
-      → Seq K 𝓛 (raw ((asked_triple 𝓛 S c).post y u) ∷ Γ) G
+      → Seq K 𝓛 (raw ((asked_parts_triple 𝓛 S c).post y u) ∷ Γ) G
   answer S c y u t soaks k =
       let Result : Res S.signature y.0.0 → Item 𝓤 = λ r. ‵ ((type_at S.signature.result y.0.0).own_val r (u ∷ [])) in
       let Said : Res S.signature y.0.0 → Item 𝓤 =
@@ -102,23 +102,23 @@ module _ {M : Type 1} {𝓤 : Ura M} (𝓛 : Logic 𝓤) {K : Type 0} {Γ : List
       await t soaks $ pick t (λ r. split t $ split t $ move t (2 ∷ 1 ∷ 0 ∷ []) $ pick t (λ ls. split t $ drop t $ k r ls))
 
 module _ {M : Type 1} {𝓤 : Ura M} {𝓛 : Logic 𝓤} {K : Type 0} {Γ : List (Item 𝓤)} {G : Goal 𝓤 𝓛.H} where
-  pub takes : K → {P : Fml} {tokens : Item 𝓤} → Step K 𝓛 (‵ P ∷ tokens ∷ Γ) G ((tokens ⊛ ‵ (fsep P ftrue)) ∷ Γ) G
-  takes t = step (λ s. split t $ move t (1 ∷ []) $ fsplit t $ move t (1 ∷ []) $ drop t $ s)
+  pub takes_parts : K → {P : Fml} {tokens : Item 𝓤} → Step K 𝓛 (‵ P ∷ tokens ∷ Γ) G ((tokens ⊛ ‵ (fsep P ftrue)) ∷ Γ) G
+  takes_parts t = step (λ s. split t $ move t (1 ∷ []) $ fsplit t $ move t (1 ∷ []) $ drop t $ s)
 
-  pub hands : K → {P : Fml} {tokens : Item 𝓤} → Step K 𝓛 ((tokens ⊛ ‵ (fsep P ftrue)) ∷ Γ) G (‵ P ∷ tokens ∷ Γ) G
-  hands t = step (λ s. nothing t $ move t (1 ∷ 0 ∷ []) $ fjoin t $ move t (1 ∷ 0 ∷ []) $ join t $ s)
+  pub hands_parts : K → {P : Fml} {tokens : Item 𝓤} → Step K 𝓛 ((tokens ⊛ ‵ (fsep P ftrue)) ∷ Γ) G (‵ P ∷ tokens ∷ Γ) G
+  hands_parts t = step (λ s. nothing t $ move t (1 ∷ 0 ∷ []) $ fjoin t $ move t (1 ∷ 0 ∷ []) $ join t $ s)
 
-  pub spent : K → Step K 𝓛 (‵ (fsep ftrue ftrue) ∷ Γ) G Γ G
-  spent t = step (λ s. nothing t $ nothing t $ fjoin t $ s)
+  pub spent_parts : K → Step K 𝓛 (‵ (fsep ftrue ftrue) ∷ Γ) G Γ G
+  spent_parts t = step (λ s. nothing t $ nothing t $ fjoin t $ s)
 
 module _ {M : Type 1} {𝓤 : Ura M} {𝓛 : Logic 𝓤} {K : Type 0} {Γ : List (Item 𝓤)} where
   open 𝓛 use {H}
 
-  pub field_of : (k : ℕ) → K → {E : Env 𝓤 H} {i : ℕ} {q : Share} {ν : Sym} {τs : Tys} {vs : Vals} {b : ℕ} {τ : Ty} {d : ℕ}
+  pub field_of_parts : (k : ℕ) → K → {E : Env 𝓤 H} {i : ℕ} {q : Share} {ν : Sym} {τs : Tys} {vs : Vals} {b : ℕ} {τ : Ty} {d : ℕ}
       → spot_of 𝓤 H E i ≡ (ty_struct ν τs, b, zero) → field_at zero τs k ≡ present (τ, d)
       → at 𝓛 i Γ ≡ ‵ (fat q (ty_struct ν τs) b zero (vstruct vs))
       → Rv K 𝓛 Γ E (rv_opd (copy (place i (field k ∷ [])))) (get_v vs k)
-  field_of k t {E} {i} {q} {ν} {τs} {vs} {b} {τ} {d} spot lies holds = of_opd t (get_in t
+  field_of_parts k t {E} {i} {q} {ν} {τs} {vs} {b} {τ} {d} spot lies holds = of_opd t (get_in t
       (subst (λ (s : Spot 𝓤 H). Walks K 𝓛 Γ E s (field k ∷ []) (τ, b, zero + d)) (sym spot) (fld t lies (stop t)))
       (subst (λ (j : Item 𝓤). Part K 𝓛 j q τ b (zero + d) (get_v vs k) (λ u. ‵ (fat q (ty_struct ν τs) b zero (vstruct (set_v vs k u)))))
       (sym holds) (sub t k lies (whole t))))

@@ -6,7 +6,7 @@ use Rattle.str0m_signal.specs.session.Reader.{Described, Reading}
 use Rattle.str0m_signal.specs.session.ReaderAnswers.{Refuses}
 
 -- where no value and no rest are a reading of the text, it describes none
-pub described : (error : SdpError) (text : List ℕ) → Refuses error (Reading text) → Refuses error (Described text)
-described (ParseError message) text refused = λ sdp found. refused (sdp, found.0) found.1
-described (Inconsistent message) text refused = refused
-described Memory text refused = refused
+pub refused_reading_described : (error : SdpError) (text : List ℕ) → Refuses error (Reading text) → Refuses error (Described text)
+refused_reading_described (ParseError message) text refused = λ sdp found. refused (sdp, found.0) found.1
+refused_reading_described (Inconsistent message) text refused = refused
+refused_reading_described Memory text refused = refused

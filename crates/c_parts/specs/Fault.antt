@@ -37,8 +37,8 @@ abbrev pub ToldFault : (Fault → Type 0) → ℕ → Type 0
 ToldFault P status = (fault : Fault) × P fault × (status ≡ fault_code fault)
 
 -- its number, and its line
-abbrev pub ToldAt : (Fault → Type 0) → ℕ → ℕ → Type 0
-ToldAt P status line = (fault : Fault) × P fault × (status ≡ fault_code fault) × (line ≡ line_of_fault fault)
+abbrev pub FaultToldAt : (Fault → Type 0) → ℕ → ℕ → Type 0
+FaultToldAt P status line = (fault : Fault) × P fault × (status ≡ fault_code fault) × (line ≡ line_of_fault fault)
 
 -- what a call refuses that takes no text
 abbrev pub RefusesCall : (ExchangeError → Type 0) → Fault → Type 0

@@ -7,12 +7,12 @@ use base.Fml.{Fml, ftrue}
 use denote.RattleType.{RattleType}
 use denote.RawPtr.{Ptr}
 
-abbrev pub owned : (R : RattleType) → Global → Ptr → Option R.Denot → Fml
-owned R alloc p None = ftrue
-owned R alloc p (Some x) = box_owns (ghosts.dealloc_token alloc) R p x
+abbrev pub parts_owned : (R : RattleType) → Global → Ptr → Option R.Denot → Fml
+parts_owned R alloc p None = ftrue
+parts_owned R alloc p (Some x) = box_owns (ghosts.dealloc_token alloc) R p x
 
 -- ---- handles that own something
 
-abbrev pub IsFull : {X : Type 0} → Option X → Type 0
-IsFull None = ⊥
-IsFull (Some _) = Unit {0}
+abbrev pub IsRoomFull : {X : Type 0} → Option X → Type 0
+IsRoomFull None = ⊥
+IsRoomFull (Some _) = Unit {0}

@@ -1,7 +1,7 @@
 -- Rows and outcomes as C holds them.
 use Rattle.c_parts.specs.declared.row.Outcome.{Outcome}
 use Rattle.c_parts.specs.declared.row.Row.{Row}
-use Rattle.c_parts.specs.declared.row.TheConstants.{NUMBERED}
+use Rattle.c_parts.specs.declared.row.TheConstants.{NUMBERED_CODECS}
 use Rattle.std.specs.Prelude.{ℕ, ◌+◌, ◌==◌, Bool, true, false, List, Option, Some, None, Ok, Err, find, map, if◌then◌else◌}
 use Rattle.str0m_formats.specs.declared.codec.Codec.{Codec}
 use Rattle.str0m_formats.specs.declared.codec.Codec.TheVariants.{Opus, PCMU, PCMA, G722, CN, AmrWb, H264, H265, H266, Vp8, Vp9, Av1, Tele, Rtx, Red, Null}
@@ -37,7 +37,7 @@ codec_among codecs number = find (λ codec. codec_number codec == number) codecs
 
 -- the codec of a number
 abbrev pub codec_at : ℕ → Option Codec
-codec_at number = codec_among NUMBERED number
+codec_at number = codec_among NUMBERED_CODECS number
 
 -- a number that may not be there, and what stands in its place then
 abbrev pub number_or : ℕ → Option ℕ → ℕ
@@ -45,8 +45,8 @@ number_or other (Some n) = n
 number_or other None = other
 
 -- what such a number says
-abbrev pub said_unless : ℕ → ℕ → Option ℕ
-said_unless none number = if number == none then None else Some number
+abbrev pub row_number_unless : ℕ → ℕ → Option ℕ
+row_number_unless none number = if number == none then None else Some number
 
 -- the bit of what is on
 abbrev pub bit : ℕ → Bool → ℕ

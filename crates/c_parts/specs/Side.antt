@@ -19,12 +19,12 @@ use Rattle.str0m_values.specs.declared.media_kind.MediaKind.{MediaKind}
 use Rattle.str0m_values.specs.declared.media_kind.MediaKind.TheVariants.{Audio, Video}
 
 -- the direction of a number (`zax_direction`)
-abbrev pub direction_numbered : ℕ → Direction
-direction_numbered n = if nat_eq n 0 then SendRecv else (if nat_eq n 1 then SendOnly else (if nat_eq n 2 then RecvOnly else Inactive))
+abbrev pub side_direction_numbered : ℕ → Direction
+side_direction_numbered n = if nat_eq n 0 then SendRecv else (if nat_eq n 1 then SendOnly else (if nat_eq n 2 then RecvOnly else Inactive))
 
 -- the kind of media of a number (`zax_kind`)
-abbrev pub kind_numbered : ℕ → MediaKind
-kind_numbered n = if nat_eq n 0 then Audio else Video
+abbrev pub side_kind_numbered : ℕ → MediaKind
+side_kind_numbered n = if nat_eq n 0 then Audio else Video
 
 -- 0 is no, and all else is yes
 abbrev pub is_on : ℕ → Bool
@@ -52,13 +52,13 @@ own_texts ice_ufrag ice_pwd fingerprint stream_id extensions candidates = record
 }
 
 -- it says what the numbers and the texts say
-pub record SaysOwn (numbers : OwnNumbers) (texts : OwnTexts) (own : OwnSide) : Type 0 where
+pub record SaysOwnSide (numbers : OwnNumbers) (texts : OwnTexts) (own : OwnSide) : Type 0 where
   pub session_id : own.session_id ≡ numbers.session_id
   pub ufrag : own.creds.ufrag ≡ texts.ice_ufrag.now
   pub pwd : own.creds.pass ≡ texts.ice_pwd.now
   pub fingerprint : IsFingerprint texts.fingerprint.now own.fingerprint
-  pub audio : own.audio ≡ direction_numbered numbers.audio
-  pub video : own.video ≡ direction_numbered numbers.video
+  pub audio : own.audio ≡ side_direction_numbered numbers.audio
+  pub video : own.video ≡ side_direction_numbered numbers.video
   pub directions : own.directions ≡ []
   pub stream_id : own.stream_id ≡ texts.stream_id.now
   pub extensions : own.extensions ≡ listed_texts texts.extensions.now
@@ -76,16 +76,16 @@ pub record AreUtf8 (texts : OwnTexts) : Type 0 where
   pub candidates : All IsUtf8 (listed_texts texts.candidates.now)
 
 -- why one of two texts isn't taken
-abbrev pub RefusesBoth : List ℕ → List ℕ → Fault → Type 0
-RefusesBoth text other NotUtf8 = IsUtf8 text → IsUtf8 other → ⊥
-RefusesBoth text other (Refused error) = error ≡ Memory
-RefusesBoth text other _ = ⊥
+abbrev pub RefusesSidePair : List ℕ → List ℕ → Fault → Type 0
+RefusesSidePair text other NotUtf8 = IsUtf8 text → IsUtf8 other → ⊥
+RefusesSidePair text other (Refused error) = error ≡ Memory
+RefusesSidePair text other _ = ⊥
 
 -- why a list of texts isn't
-abbrev pub RefusesList : List (List ℕ) → Fault → Type 0
-RefusesList texts NotUtf8 = All IsUtf8 texts → ⊥
-RefusesList texts (Refused error) = error ≡ Memory
-RefusesList texts _ = ⊥
+abbrev pub RefusesSideList : List (List ℕ) → Fault → Type 0
+RefusesSideList texts NotUtf8 = All IsUtf8 texts → ⊥
+RefusesSideList texts (Refused error) = error ≡ Memory
+RefusesSideList texts _ = ⊥
 
 -- no candidates are what the lines say
 abbrev pub AreNotTrickled : List (List ℕ) → Type 0
@@ -113,8 +113,8 @@ RefusesFingerprint text (Refused error) = error ≡ Memory
 RefusesFingerprint text NoCandidate = ⊥
 
 -- why what this side says isn't
-abbrev pub RefusesOwn : OwnTexts → Fault → Type 0
-RefusesOwn texts NotUtf8 = AreUtf8 texts → ⊥
-RefusesOwn texts NoFingerprint = (fingerprint : Fingerprint) → IsFingerprint texts.fingerprint.now fingerprint → ⊥
-RefusesOwn texts NoCandidate = AreNotTrickled (listed_texts texts.candidates.now)
-RefusesOwn texts (Refused error) = error ≡ Memory
+abbrev pub RefusesOwnSide : OwnTexts → Fault → Type 0
+RefusesOwnSide texts NotUtf8 = AreUtf8 texts → ⊥
+RefusesOwnSide texts NoFingerprint = (fingerprint : Fingerprint) → IsFingerprint texts.fingerprint.now fingerprint → ⊥
+RefusesOwnSide texts NoCandidate = AreNotTrickled (listed_texts texts.candidates.now)
+RefusesOwnSide texts (Refused error) = error ≡ Memory

@@ -13,15 +13,15 @@ abbrev pub c_members : ℕ → List ℕ → List SourceInGroup
 c_members group ssrcs = map (c_member group) ssrcs
 
 -- those of all groups, which are counted on from this number
-abbrev pub numbered_from : ℕ → List (List ℕ) → List SourceInGroup
-numbered_from group [] = []
-numbered_from group (ssrcs ∷ more) = c_members group ssrcs ++ numbered_from (group + 1) more
+abbrev pub groups_numbered_from : ℕ → List (List ℕ) → List SourceInGroup
+groups_numbered_from group [] = []
+groups_numbered_from group (ssrcs ∷ more) = c_members group ssrcs ++ groups_numbered_from (group + 1) more
 
 -- the sources of a line that groups some (RFC 5576, section 4.2)
-abbrev pub ssrcs_of : MediaAttribute → Option (List ℕ)
-ssrcs_of (SsrcGroup semantics ssrcs) = Some ssrcs
-ssrcs_of _ = None
+abbrev pub grouped_ssrcs_of : MediaAttribute → Option (List ℕ)
+grouped_ssrcs_of (SsrcGroup semantics ssrcs) = Some ssrcs
+grouped_ssrcs_of _ = None
 
 -- those of a section
 abbrev pub c_source_groups : MediaLine → List SourceInGroup
-c_source_groups section = numbered_from 0 (filter_map ssrcs_of section.attrs)
+c_source_groups section = groups_numbered_from 0 (filter_map grouped_ssrcs_of section.attrs)

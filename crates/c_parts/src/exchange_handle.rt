@@ -1,7 +1,7 @@
 //! One side of an exchange of offers and answers on the heap, as C holds it.
 
 ghost use Rattle.c_parts.specs.ExchangeHandle.{exchange_owns, exchange_coded};
-ghost use Rattle.c_parts.specs.Parts.{IsFull};
+ghost use Rattle.c_parts.specs.Parts.{IsRoomFull};
 ghost use Rattle.exchange.specs.declared.state.exchange.Exchange.{Exchange};
 ghost use Rattle.std.specs.Prelude.{◌≡◌, Option, None, Some};
 
@@ -45,7 +45,7 @@ impl ExchangeHandle {
     }
 
     fn into_parts(self) -> Parts<Exchange, Global>
-        requires { IsFull self.inner }
+        requires { IsRoomFull self.inner }
         ensures { self.inner ≡ Some result.value }
     {
         let ExchangeHandle { ptr, alloc } = self;
@@ -57,7 +57,7 @@ impl ExchangeHandle {
 
     /// What the handle owns.
     pub fn into_box(self) -> Box<Exchange>
-        requires { IsFull self.inner }
+        requires { IsRoomFull self.inner }
         ensures { self.inner ≡ Some result.value }
     {
         self.into_parts().into_box()
@@ -65,7 +65,7 @@ impl ExchangeHandle {
 
     /// What the handle owns; it is empty then.
     pub fn take(&mut self, alloc: Global) -> Box<Exchange>
-        requires { IsFull self.old.inner }
+        requires { IsRoomFull self.old.inner }
         ensures { (self.old.inner ≡ Some result.value) × (self.new.inner ≡ None) }
     {
         let full = std::mem::replace(self, ExchangeHandle::empty(alloc));

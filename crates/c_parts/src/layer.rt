@@ -4,7 +4,7 @@ ghost use Rattle.c_parts.specs.Layer.{c_layer, c_layers};
 ghost use Rattle.std.specs.Prelude.{◌≡◌, ◌++◌, IfOk, OnOk, map};
 
 use crate::row::flag;
-use crate::section::direction_of;
+use crate::section::section_direction_of;
 use crate::section_item::SectionItem;
 use std::alloc::{AllocError, Global};
 use str0m_signal::{Direction, MediaLine, SimulcastLayer};
@@ -48,8 +48,8 @@ fn layers_of(alloc: Global, section: &MediaLine) -> Result<Vec<SectionLayer>, Al
     let mut made = Vec::new(alloc);
     if let Some(simulcast) = section.simulcast()? {
         let (sent, received) = (
-            direction_of(Direction::SendOnly),
-            direction_of(Direction::RecvOnly),
+            section_direction_of(Direction::SendOnly),
+            section_direction_of(Direction::RecvOnly),
         );
         push_layers(&mut made, sent, simulcast.send.0.as_slice())?;
         push_layers(&mut made, received, simulcast.recv.0.as_slice())?;

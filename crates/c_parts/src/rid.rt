@@ -1,9 +1,9 @@
 //! Streams that may be restricted, as C holds them.
 
-ghost use Rattle.c_parts.specs.Rid.{c_rid, c_rids, way_number};
+ghost use Rattle.c_parts.specs.Rid.{c_rid, c_rids, rid_way_number};
 ghost use Rattle.std.specs.Prelude.{◌≡◌, IfOk, filter_map};
 
-use crate::section::direction_of;
+use crate::section::section_direction_of;
 use crate::section_item::SectionItem;
 use std::alloc::{AllocError, Global};
 use str0m_signal::{Direction, MediaAttribute, MediaLine};
@@ -17,13 +17,13 @@ pub struct SectionRid {
 }
 
 /// The direction that the word of a rid line says.
-fn way_of(word: &str) -> u8
-    ensures { result ≡ way_number word.now }
+fn rid_way_of(word: &str) -> u8
+    ensures { result ≡ rid_way_number word.now }
 {
     if word == "send" {
-        direction_of(Direction::SendOnly)
+        section_direction_of(Direction::SendOnly)
     } else {
-        direction_of(Direction::RecvOnly)
+        section_direction_of(Direction::RecvOnly)
     }
 }
 
@@ -32,7 +32,7 @@ fn rid_of(line: &MediaAttribute) -> Option<SectionRid>
 {
     match line {
         MediaAttribute::Rid { direction, .. } => Some(SectionRid {
-            direction: way_of(direction.as_str()),
+            direction: rid_way_of(direction.as_str()),
             reserved: [0; 3],
         }),
         _ => None,

@@ -1,6 +1,6 @@
 //! Rows and outcomes as C holds them.
 
-ghost use Rattle.c_parts.specs.Row.{bit, c_outcome, c_row, c_rows, codec_among, codec_at, codec_number, feedback_bits, number_or, said_unless};
+ghost use Rattle.c_parts.specs.Row.{bit, c_outcome, c_row, c_rows, codec_among, codec_at, codec_number, feedback_bits, number_or, row_number_unless};
 ghost use Rattle.std.specs.Prelude.{◌≡◌, ◌≤◌, IfOk, length, map};
 
 use crate::section_item::SectionItem;
@@ -31,7 +31,7 @@ pub struct Outcome {
 }
 
 /// The codecs that have a number in the header.
-static NUMBERED: [Codec; 16] = [
+static NUMBERED_CODECS: [Codec; 16] = [
     Codec::Opus,
     Codec::PCMU,
     Codec::PCMA,
@@ -50,13 +50,13 @@ static NUMBERED: [Codec; 16] = [
     Codec::Null,
 ];
 
-fn numbered() -> &'static [Codec]
-    ensures { result.now ≡ NUMBERED }
+fn numbered_codecs() -> &'static [Codec]
+    ensures { result.now ≡ NUMBERED_CODECS }
 {
-    NUMBERED.as_slice()
+    NUMBERED_CODECS.as_slice()
 }
 
-fn or_none(pt: Option<Pt>) -> u8
+fn row_type_or_none(pt: Option<Pt>) -> u8
     ensures { result ≡ number_or 255 pt }
 {
     match pt {
@@ -65,7 +65,7 @@ fn or_none(pt: Option<Pt>) -> u8
     }
 }
 
-fn or_zero(channels: Option<u8>) -> u8
+fn row_channels_or_zero(channels: Option<u8>) -> u8
     ensures { result ≡ number_or 0 channels }
 {
     match channels {
@@ -75,7 +75,7 @@ fn or_zero(channels: Option<u8>) -> u8
 }
 
 /// The number that the header has for a codec; 0 where it has none.
-fn code_of(codec: Codec) -> u8
+fn codec_code_of(codec: Codec) -> u8
     ensures { result ≡ codec_number codec }
 {
     match codec {
@@ -106,19 +106,19 @@ fn codec_among(codecs: &[Codec], number: u8) -> Option<Codec>
     codecs
         .iter()
         .copied()
-        .find(|codec| code_of(*codec) == number)
+        .find(|codec| codec_code_of(*codec) == number)
 }
 
 /// The codec of a number; none has 0.
 pub fn codec_at(number: u8) -> Option<Codec>
     ensures { result ≡ codec_at number }
 {
-    codec_among(numbered(), number)
+    codec_among(numbered_codecs(), number)
 }
 
 /// The number, unless it stands for none.
-pub fn said_unless(none: u8, number: u8) -> Option<u8>
-    ensures { result ≡ said_unless none number }
+pub fn row_number_unless(none: u8, number: u8) -> Option<u8>
+    ensures { result ≡ row_number_unless none number }
 {
     if number == none { None } else { Some(number) }
 }
@@ -145,10 +145,10 @@ pub fn row_of(row: &PayloadParams) -> Row
     Row {
         clock_rate: spec.clock_rate.get(),
         pt: row.pt().value(),
-        rtx: or_none(row.resend()),
-        red: or_none(row.red()),
-        channels: or_zero(spec.channels),
-        codec: code_of(spec.codec),
+        rtx: row_type_or_none(row.resend()),
+        red: row_type_or_none(row.red()),
+        channels: row_channels_or_zero(spec.channels),
+        codec: codec_code_of(spec.codec),
         feedback: feedback(row),
         locked: flag(1, row.locked()),
         reserved: 0,

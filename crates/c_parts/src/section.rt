@@ -1,6 +1,6 @@
 //! Sections as C holds them.
 
-ghost use Rattle.c_parts.specs.Section.{c_section, direction_number, kind_number, protocol_number, setup_number};
+ghost use Rattle.c_parts.specs.Section.{c_section, section_direction_number, section_kind_number, section_protocol_number, section_setup_number};
 ghost use Rattle.std.specs.Prelude.{◌≡◌};
 
 use crate::row::flag;
@@ -18,8 +18,8 @@ pub struct Section {
     pub reserved: [u8; 3],
 }
 
-fn kind_of(typ: &MediaType) -> u8
-    ensures { result ≡ kind_number typ.now }
+fn section_kind_of(typ: &MediaType) -> u8
+    ensures { result ≡ section_kind_number typ.now }
 {
     match typ {
         MediaType::Audio => 0,
@@ -29,8 +29,8 @@ fn kind_of(typ: &MediaType) -> u8
     }
 }
 
-fn protocol_of(proto: Proto) -> u8
-    ensures { result ≡ protocol_number proto }
+fn section_protocol_of(proto: Proto) -> u8
+    ensures { result ≡ section_protocol_number proto }
 {
     match proto {
         Proto::Srtp => 0,
@@ -38,8 +38,8 @@ fn protocol_of(proto: Proto) -> u8
     }
 }
 
-pub(crate) fn direction_of(direction: Direction) -> u8
-    ensures { result ≡ direction_number direction }
+pub(crate) fn section_direction_of(direction: Direction) -> u8
+    ensures { result ≡ section_direction_number direction }
 {
     match direction {
         Direction::SendRecv => 0,
@@ -49,8 +49,8 @@ pub(crate) fn direction_of(direction: Direction) -> u8
     }
 }
 
-pub fn setup_of(setup: Option<Setup>) -> u8
-    ensures { result ≡ setup_number setup }
+pub fn section_setup_of(setup: Option<Setup>) -> u8
+    ensures { result ≡ section_setup_number setup }
 {
     match setup {
         None => 0,
@@ -64,10 +64,10 @@ pub fn section_info(section: &MediaLine) -> Section
     ensures { result ≡ c_section section.now }
 {
     Section {
-        kind: kind_of(&section.typ),
-        protocol: protocol_of(section.proto),
-        direction: direction_of(section.direction()),
-        setup: setup_of(section.setup()),
+        kind: section_kind_of(&section.typ),
+        protocol: section_protocol_of(section.proto),
+        direction: section_direction_of(section.direction()),
+        setup: section_setup_of(section.setup()),
         disabled: flag(1, section.disabled),
         reserved: [0; 3],
     }

@@ -1,7 +1,7 @@
 //! What this side says of itself, as C says it.
 
 ghost use Rattle.c_parts.specs.Fault.{RefusesBytes};
-ghost use Rattle.c_parts.specs.Side.{RefusesCandidate, RefusesCandidates, RefusesFingerprint, RefusesList, RefusesOwn, SaysOwn, own_channels_of, direction_numbered, kind_numbered, listed_texts};
+ghost use Rattle.c_parts.specs.Side.{RefusesCandidate, RefusesCandidates, RefusesFingerprint, RefusesSideList, RefusesOwnSide, SaysOwnSide, own_channels_of, side_direction_numbered, side_kind_numbered, listed_texts};
 ghost use Rattle.exchange.specs.declared.state.exchange_error.ExchangeError.TheVariants.{Memory};
 ghost use Rattle.exchange.specs.section.Trickled.{IsTrickled};
 ghost use Rattle.std.specs.List.{AllZip};
@@ -42,8 +42,8 @@ pub struct OwnTexts<'a> {
 }
 
 /// The direction of a number (`zax_direction`).
-pub fn direction_numbered(number: u8) -> Direction
-    ensures { result ≡ direction_numbered number }
+pub fn side_direction_numbered(number: u8) -> Direction
+    ensures { result ≡ side_direction_numbered number }
 {
     match number {
         0 => Direction::SendRecv,
@@ -54,8 +54,8 @@ pub fn direction_numbered(number: u8) -> Direction
 }
 
 /// The kind of media of a number (`zax_kind`).
-pub fn kind_numbered(number: u8) -> MediaKind
-    ensures { result ≡ kind_numbered number }
+pub fn side_kind_numbered(number: u8) -> MediaKind
+    ensures { result ≡ side_kind_numbered number }
 {
     match number {
         0 => MediaKind::Audio,
@@ -88,7 +88,7 @@ pub fn text_of(alloc: Global, bytes: &[u8]) -> Result<Text, Fault>
 
 fn texts_of(alloc: Global, list: &[&[u8]]) -> Result<Items<Text>, Fault>
     ensures read { IfOk result (λ texts. texts ≡ listed_texts list.now) }
-    ensures refused { IfErr result (RefusesList (listed_texts list.now)) }
+    ensures refused { IfErr result (RefusesSideList (listed_texts list.now)) }
 {
     let mut texts = Items::empty(alloc);
     for bytes in list {
@@ -156,8 +156,8 @@ fn candidates_of(alloc: Global, lines: &[&[u8]]) -> Result<Items<Candidate>, Fau
 
 /// What the numbers and the texts say.
 pub fn own_side(alloc: Global, numbers: &OwnNumbers, texts: &OwnTexts<'_>) -> Result<OwnSide, Fault>
-    ensures says { IfOk result (SaysOwn numbers.now texts.now) }
-    ensures refused { IfErr result (RefusesOwn texts.now) }
+    ensures says { IfOk result (SaysOwnSide numbers.now texts.now) }
+    ensures refused { IfErr result (RefusesOwnSide texts.now) }
 {
     let creds = IceCreds {
         ufrag: text_of(alloc, texts.ice_ufrag)?,
@@ -167,8 +167,8 @@ pub fn own_side(alloc: Global, numbers: &OwnNumbers, texts: &OwnTexts<'_>) -> Re
         session_id: SessionId::from(numbers.session_id),
         creds,
         fingerprint: fingerprint_of(alloc, texts.fingerprint)?,
-        audio: direction_numbered(numbers.audio),
-        video: direction_numbered(numbers.video),
+        audio: side_direction_numbered(numbers.audio),
+        video: side_direction_numbered(numbers.video),
         directions: Items::empty(alloc),
         stream_id: text_of(alloc, texts.stream_id)?,
         extensions: texts_of(alloc, texts.extensions)?,

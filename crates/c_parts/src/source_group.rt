@@ -1,6 +1,6 @@
 //! Groups of sources as C holds them.
 
-ghost use Rattle.c_parts.specs.SourceGroup.{c_members, c_source_groups, numbered_from, ssrcs_of};
+ghost use Rattle.c_parts.specs.SourceGroup.{c_members, c_source_groups, groups_numbered_from, grouped_ssrcs_of};
 ghost use Rattle.std.specs.Prelude.{◌≡◌, ◌+◌, ◌++◌, ◌<◌, ◌^◌, IfOk, OnOk, filter_map, length, option_to_list};
 
 use crate::section_item::SectionItem;
@@ -17,7 +17,7 @@ pub struct SourceInGroup {
 }
 
 /// Adds the sources of a group.
-fn push_members(
+fn push_group_members(
     made: &mut Vec<SourceInGroup>,
     group: usize,
     ssrcs: &[Ssrc],
@@ -41,12 +41,12 @@ fn push_group(
     line: &MediaAttribute,
 ) -> Result<usize, AllocError>
     requires { group + 1 < 2 ^ 64 }
-    ensures members { OnOk result (made.new.items ≡ made.old.items ++ numbered_from group (option_to_list (ssrcs_of line.now))) }
-    ensures next { IfOk result (λ next. next ≡ group + length (option_to_list (ssrcs_of line.now))) }
+    ensures members { OnOk result (made.new.items ≡ made.old.items ++ groups_numbered_from group (option_to_list (grouped_ssrcs_of line.now))) }
+    ensures next { IfOk result (λ next. next ≡ group + length (option_to_list (grouped_ssrcs_of line.now))) }
 {
     match line {
         MediaAttribute::SsrcGroup { ssrcs, .. } => {
-            push_members(made, group, ssrcs.as_slice())?;
+            push_group_members(made, group, ssrcs.as_slice())?;
             Ok(group + 1)
         }
         _ => Ok(group),
@@ -54,7 +54,7 @@ fn push_group(
 }
 
 fn groups_among(alloc: Global, lines: &[MediaAttribute]) -> Result<Vec<SourceInGroup>, AllocError>
-    ensures { IfOk result (λ made. made.items ≡ numbered_from 0 (filter_map ssrcs_of lines.now)) }
+    ensures { IfOk result (λ made. made.items ≡ groups_numbered_from 0 (filter_map grouped_ssrcs_of lines.now)) }
 {
     let mut made = Vec::new(alloc);
     let mut group = 0;

@@ -4,27 +4,27 @@ use format_cases::Answer;
 use str0m_signal::{FormatParam, MediaAttribute, Pt, RtpMap};
 
 /// What the word asks of the attribute.
-pub(crate) fn push_part(answer: &mut Answer, word: &str, attribute: &MediaAttribute) {
+pub(crate) fn push_attribute_part(answer: &mut Answer, word: &str, attribute: &MediaAttribute) {
     match word {
         "is-direction" => answer.push(if attribute.is_direction() {
             "yes"
         } else {
             "no"
         }),
-        "rtpmap" => rtpmap(answer, attribute),
-        "fmtp-line" => fmtp(answer, attribute),
-        _ => rid(answer, attribute),
+        "rtpmap" => rtpmap_parts(answer, attribute),
+        "fmtp-line" => fmtp_parts(answer, attribute),
+        _ => rid_parts(answer, attribute),
     }
 }
 
-fn rtpmap(answer: &mut Answer, attribute: &MediaAttribute) {
+fn rtpmap_parts(answer: &mut Answer, attribute: &MediaAttribute) {
     match attribute {
-        MediaAttribute::RtpMap { pt, value } => mapping(answer, *pt, value),
+        MediaAttribute::RtpMap { pt, value } => mapping_parts(answer, *pt, value),
         _ => answer.push("no mapping"),
     }
 }
 
-fn mapping(answer: &mut Answer, pt: Pt, map: &RtpMap) {
+fn mapping_parts(answer: &mut Answer, pt: Pt, map: &RtpMap) {
     answer.show(&pt);
     answer.push(": ");
     answer.show(&map.codec);
@@ -39,25 +39,29 @@ fn mapping(answer: &mut Answer, pt: Pt, map: &RtpMap) {
     }
 }
 
-fn fmtp(answer: &mut Answer, attribute: &MediaAttribute) {
+fn fmtp_parts(answer: &mut Answer, attribute: &MediaAttribute) {
     match attribute {
-        MediaAttribute::Fmtp { pt, values } => show_values(answer, *pt, values.as_slice()),
+        MediaAttribute::Fmtp { pt, values } => show_attribute_values(
+            answer,
+            *pt,
+            values.as_slice(),
+        ),
         _ => answer.push("no format"),
     }
 }
 
 /// The payload type, and each value in order.
-fn show_values(answer: &mut Answer, pt: Pt, values: &[FormatParam]) {
+fn show_attribute_values(answer: &mut Answer, pt: Pt, values: &[FormatParam]) {
     answer.show(&pt);
     answer.push(":");
     for value in values {
         answer.push(" ");
-        show_value(answer, value);
+        show_attribute_value(answer, value);
     }
 }
 
 /// What a value prints, with its kind where it is no pair.
-fn show_value(answer: &mut Answer, value: &FormatParam) {
+fn show_attribute_value(answer: &mut Answer, value: &FormatParam) {
     let kind = match value {
         FormatParam::Unknown => return answer.push("unknown"),
         FormatParam::BarePtList(_) => "list(",
@@ -69,7 +73,7 @@ fn show_value(answer: &mut Answer, value: &FormatParam) {
     answer.push_if(!kind.is_empty(), ")");
 }
 
-fn rid(answer: &mut Answer, attribute: &MediaAttribute) {
+fn rid_parts(answer: &mut Answer, attribute: &MediaAttribute) {
     match attribute {
         MediaAttribute::Rid {
             id,

@@ -1,7 +1,7 @@
 //! Copies of parts of a description, each by the call of its own type.
 
 use crate::lines::push_printed;
-use crate::spoken::fail;
+use crate::spoken::fail_to_speak;
 use format_cases::Answer;
 use std::alloc::AllocError;
 use std::fmt::Display;
@@ -12,19 +12,19 @@ use str0m_signal::{
 
 /// A line for each copy: of the session's bandwidth and its attributes, of the first section's media type, stream, attributes and
 /// layers.
-pub(crate) fn copied(answer: &mut Answer, text: &str) {
+pub(crate) fn copied_layer(answer: &mut Answer, text: &str) {
     match &sdp_parser(answer.alloc(), text) {
         Ok((sdp, _)) => {
             copies_of_session(answer, &sdp.session);
             of_sections(answer, sdp.media_lines.as_slice());
         }
-        Err(error) => fail(answer, error),
+        Err(error) => fail_to_speak(answer, error),
     }
 }
 
 fn copies_of_session(answer: &mut Answer, session: &Session) {
     if let Some(bandwidth) = &session.bw {
-        of_bandwidth(answer, bandwidth);
+        show_copied_bandwidth(answer, bandwidth);
     }
     for attribute in session.attrs.as_slice() {
         of_session_attribute(answer, attribute);
@@ -33,22 +33,22 @@ fn copies_of_session(answer: &mut Answer, session: &Session) {
 
 fn of_sections(answer: &mut Answer, sections: &[MediaLine]) {
     if let Some(section) = sections.first() {
-        of_type(answer, &section.typ);
+        show_copied_type(answer, &section.typ);
         let msid = section.msid();
         if let Some(msid) = answer.found(&msid) {
-            of_msid(answer, msid);
+            show_copied_msid(answer, msid);
         }
         for attribute in section.attrs.as_slice() {
             of_media_attribute(answer, attribute);
         }
         let simulcast = section.simulcast();
         if let Some(simulcast) = answer.found(&simulcast) {
-            of_simulcast(answer, simulcast);
+            show_copied_simulcast(answer, simulcast);
         }
     }
 }
 
-fn of_bandwidth(answer: &mut Answer, bandwidth: &Bandwidth) {
+fn show_copied_bandwidth(answer: &mut Answer, bandwidth: &Bandwidth) {
     show_copy(answer, "bandwidth", &bandwidth.clone());
 }
 
@@ -56,16 +56,16 @@ fn of_session_attribute(answer: &mut Answer, attribute: &SessionAttribute) {
     show_copy(answer, "attribute", &attribute.clone());
 }
 
-fn of_type(answer: &mut Answer, typ: &MediaType) {
+fn show_copied_type(answer: &mut Answer, typ: &MediaType) {
     show_copy(answer, "type", &typ.clone());
 }
 
-fn of_msid(answer: &mut Answer, msid: &Msid) {
+fn show_copied_msid(answer: &mut Answer, msid: &Msid) {
     show_copy(answer, "msid", &msid.clone());
-    of_text(answer, &msid.stream_id);
+    show_copied_text(answer, &msid.stream_id);
 }
 
-fn of_text(answer: &mut Answer, text: &Text) {
+fn show_copied_text(answer: &mut Answer, text: &Text) {
     show_copy(answer, "stream", &text.clone());
 }
 
@@ -73,26 +73,26 @@ fn of_media_attribute(answer: &mut Answer, attribute: &MediaAttribute) {
     show_copy(answer, "attribute", &attribute.clone());
 }
 
-fn of_simulcast(answer: &mut Answer, simulcast: &Simulcast) {
+fn show_copied_simulcast(answer: &mut Answer, simulcast: &Simulcast) {
     let copy = simulcast.clone();
     if let Some(copy) = answer.made(&copy) {
-        of_layers(answer, &copy.send);
+        show_copied_layers(answer, &copy.send);
     }
 }
 
-fn of_layers(answer: &mut Answer, layers: &SimulcastGroups) {
+fn show_copied_layers(answer: &mut Answer, layers: &SimulcastGroups) {
     show_copy(answer, "layers", &layers.clone());
     for layer in layers.0.as_slice() {
-        of_layer(answer, layer);
+        show_copied_layer(answer, layer);
     }
 }
 
-fn of_layer(answer: &mut Answer, layer: &SimulcastLayer) {
+fn show_copied_layer(answer: &mut Answer, layer: &SimulcastLayer) {
     show_copy(answer, "layer", &layer.clone());
-    of_name(answer, &layer.restriction_id);
+    show_copied_name(answer, &layer.restriction_id);
 }
 
-fn of_name(answer: &mut Answer, name: &RestrictionId) {
+fn show_copied_name(answer: &mut Answer, name: &RestrictionId) {
     show_copy(answer, "name", &name.clone());
 }
 

@@ -1,9 +1,9 @@
 //! Descriptions: their sessions and sections, what is left after them, and why they are refused.
 
 use crate::escapes::push_escaped;
-use crate::lines::{push_printed, push_rest};
+use crate::lines::{push_printed, push_rest_of_line};
 use crate::section_shown::{append_section, append_session};
-use crate::spoken::{behind_header, push_refused};
+use crate::spoken::{push_refused, spoken_behind_header};
 use crate::{copied_parts, cuts, without_memory};
 use format_cases::Answer;
 use std::alloc::AllocError;
@@ -13,17 +13,17 @@ use str0m_signal::{
 };
 
 /// The version with which `versioned` prints.
-const VERSION: u64 = 1234567890123;
+const DESCRIPTION_VERSION: u64 = 1234567890123;
 
 /// Answers what the word asks of the text; whether it is one of these words.
 pub(crate) fn answers(answer: &mut Answer, word: &str, text: &str) -> bool {
     match word {
-        "header" => header(answer, text),
+        "header" => description_header(answer, text),
         "description" | "copied" | "versioned" => asked_description(answer, word, text),
         "offer-text" => offer(answer, text),
         "answer-text" => answer_printed(answer, text),
         "cut" => cuts::cut(answer, text),
-        "copied-parts" => copied_parts::copied(answer, text),
+        "copied-parts" => copied_parts::copied_layer(answer, text),
         "without-memory" => without_memory::read(answer, text),
         _ => return of_lines(answer, word, text),
     }
@@ -32,9 +32,9 @@ pub(crate) fn answers(answer: &mut Answer, word: &str, text: &str) -> bool {
 
 /// What the word asks of lines after a header.
 fn of_lines(answer: &mut Answer, word: &str, lines: &str) -> bool {
-    let text = behind_header(answer, lines);
+    let text = spoken_behind_header(answer, lines);
     match word {
-        "header-with" => header(answer, text.as_str()),
+        "header-with" => description_header(answer, text.as_str()),
         "description-with" | "consistent" | "section-printed" | "m-line" => {
             asked_description(answer, word, text.as_str());
         }
@@ -44,16 +44,16 @@ fn of_lines(answer: &mut Answer, word: &str, lines: &str) -> bool {
 }
 
 /// The session that the text begins with, and what is left.
-fn header(answer: &mut Answer, text: &str) {
+fn description_header(answer: &mut Answer, text: &str) {
     let read = session_parser(answer.alloc(), text);
-    header_of(answer, &read);
+    description_header_of(answer, &read);
 }
 
-fn header_of(answer: &mut Answer, read: &Result<(Session, &str), SdpError>) {
+fn description_header_of(answer: &mut Answer, read: &Result<(Session, &str), SdpError>) {
     match read {
         Ok((session, rest)) => {
             append_session(answer, session);
-            push_rest(answer, rest);
+            push_rest_of_line(answer, rest);
         }
         Err(error) => push_refused(answer, error),
     }
@@ -74,36 +74,36 @@ fn description_of(answer: &mut Answer, word: &str, read: &Result<(Sdp, &str), Sd
 
 fn show_description(answer: &mut Answer, word: &str, sdp: &Sdp, rest: &str) {
     match word {
-        "copied" => show_whole_copy(answer, &sdp.clone()),
+        "copied" => show_description_copy(answer, &sdp.clone()),
         "versioned" => push_printed(
             answer,
             &VersionedSdp {
                 sdp,
-                version: VERSION,
+                version: DESCRIPTION_VERSION,
             },
         ),
         "consistent" => answer.push("consistent"),
-        "section-printed" => show_first(answer, sdp.media_lines.as_slice()),
+        "section-printed" => show_first_of_description(answer, sdp.media_lines.as_slice()),
         "m-line" => show_m_line(answer, sdp.media_lines.as_slice()),
         _ => {
             append_session(answer, &sdp.session);
             for section in sdp.media_lines.as_slice() {
                 append_section(answer, section);
             }
-            push_rest(answer, rest);
+            push_rest_of_line(answer, rest);
         }
     }
 }
 
 /// What a copy of the description prints: all of its parts are copied with it.
-fn show_whole_copy(answer: &mut Answer, copy: &Result<Sdp, AllocError>) {
+fn show_description_copy(answer: &mut Answer, copy: &Result<Sdp, AllocError>) {
     if let Some(copy) = answer.made(copy) {
         push_printed(answer, copy);
     }
 }
 
 /// What the first section prints.
-fn show_first(answer: &mut Answer, sections: &[MediaLine]) {
+fn show_first_of_description(answer: &mut Answer, sections: &[MediaLine]) {
     match sections.first() {
         Some(section) => push_printed(answer, section),
         None => answer.push("no section"),

@@ -7,7 +7,7 @@ pub(crate) fn push_unescaped(unescaped: &mut Answer, text: &str) {
     let mut is_escaped = false;
     for character in text.chars() {
         if is_escaped {
-            unescaped.show(&meaning(character));
+            unescaped.show(&escape_meaning(character));
             is_escaped = false;
         } else if character == '\\' {
             is_escaped = true;
@@ -17,7 +17,7 @@ pub(crate) fn push_unescaped(unescaped: &mut Answer, text: &str) {
     }
 }
 
-fn meaning(escape: char) -> char {
+fn escape_meaning(escape: char) -> char {
     match escape {
         'r' => '\r',
         'n' => '\n',

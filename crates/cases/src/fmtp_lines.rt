@@ -1,6 +1,6 @@
 //! What fmtp lines say of a codec.
 
-use crate::said_rows::{printed, show_format};
+use crate::said_rows::{printed, show_row_format};
 use crate::spoken::section;
 use format_cases::Answer;
 use std::alloc::{AllocError, Global};
@@ -11,12 +11,12 @@ pub(crate) fn answers(answer: &mut Answer, word: &str, text: &str) -> bool {
     if word != "fmtp" {
         return false;
     }
-    format(answer, text);
+    fmtp_format(answer, text);
     true
 }
 
 /// `fmtp CODEC VALUES | VALUES`: the format that the values of fmtp lines say of the codec.
-fn format(answer: &mut Answer, text: &str) {
+fn fmtp_format(answer: &mut Answer, text: &str) {
     let (name, values) = text.split_once(' ').unwrap_or((text, ""));
     let codec = Codec::from(name);
     if printed(answer, &codec).as_str() != name {
@@ -27,7 +27,7 @@ fn format(answer: &mut Answer, text: &str) {
 }
 
 /// The values of each line, in room that is asked for once.
-fn values_of(
+fn fmtp_values_of(
     alloc: Global,
     lines: &[Items<FormatParam>],
 ) -> Result<Vec<&[FormatParam]>, AllocError> {
@@ -40,10 +40,10 @@ fn values_of(
 
 /// What these lines say of the codec.
 fn show_said(answer: &mut Answer, codec: Codec, lines: &[Items<FormatParam>]) {
-    let lines = values_of(answer.alloc(), lines);
+    let lines = fmtp_values_of(answer.alloc(), lines);
     if let Some(lines) = answer.made(&lines) {
         match FormatParams::from_sdp_fmtp(codec, lines.as_slice()) {
-            Some(format) => show_format(answer, &format),
+            Some(fmtp_format) => show_row_format(answer, &fmtp_format),
             None => answer.push("refused"),
         }
     }
@@ -64,11 +64,11 @@ fn add_line(answer: &mut Answer, lines: &mut Vec<Items<FormatParam>>, values: &s
     let line = answer.kept(format!(in alloc; "a=fmtp:96 {values}"), String::new(alloc));
     let section = section(answer, line.as_str());
     if let Some(MediaAttribute::Fmtp { values, .. }) = section.attrs.as_slice().first() {
-        add_values(answer, lines, values);
+        add_fmtp_values(answer, lines, values);
     }
 }
 
-fn add_values(
+fn add_fmtp_values(
     answer: &mut Answer,
     lines: &mut Vec<Items<FormatParam>>,
     values: &Items<FormatParam>,

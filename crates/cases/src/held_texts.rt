@@ -10,30 +10,30 @@ use str0m_signal::{
 /// An attribute of a session with the text in this field; where there is no such field, one that is kept unread.
 pub(crate) fn in_session(answer: &mut Answer, field: &str, text: &str) -> SessionAttribute {
     match field {
-        "group" | "group-mid" => in_group(answer, field, text),
-        "semantic" | "semantic-stream" => in_semantic(answer, field, text),
-        "fingerprint" => SessionAttribute::Fingerprint(fingerprint(answer, text)),
-        "candidate" => SessionAttribute::Candidate(candidate(answer, text, None)),
-        "candidate-ufrag" => SessionAttribute::Candidate(candidate(answer, "1", Some(text))),
+        "group" | "group-mid" => held_in_group(answer, field, text),
+        "semantic" | "semantic-stream" => held_in_semantic(answer, field, text),
+        "fingerprint" => SessionAttribute::Fingerprint(held_fingerprint(answer, text)),
+        "candidate" => SessionAttribute::Candidate(held_candidate(answer, text, None)),
+        "candidate-ufrag" => SessionAttribute::Candidate(held_candidate(answer, "1", Some(text))),
         _ => in_session_line(field, text_of(answer, text)),
     }
 }
 
-fn in_group(answer: &mut Answer, field: &str, text: &str) -> SessionAttribute {
+fn held_in_group(answer: &mut Answer, field: &str, text: &str) -> SessionAttribute {
     let (typ, mids) = match field {
         "group" => (text, Items::empty(answer.alloc())),
-        _ => ("1", one(answer, Mid::from(text))),
+        _ => ("1", one_held_item(answer, Mid::from(text))),
     };
     let typ = text_of(answer, typ);
     SessionAttribute::Group { typ, mids }
 }
 
-fn in_semantic(answer: &mut Answer, field: &str, text: &str) -> SessionAttribute {
+fn held_in_semantic(answer: &mut Answer, field: &str, text: &str) -> SessionAttribute {
     let (semantic, stream_ids) = match field {
         "semantic" => (text, Items::empty(answer.alloc())),
         _ => {
             let stream_id = text_of(answer, text);
-            ("1", one(answer, stream_id))
+            ("1", one_held_item(answer, stream_id))
         }
     };
     let semantic = text_of(answer, semantic);
@@ -57,15 +57,15 @@ fn in_session_line(field: &str, held: Text) -> SessionAttribute {
 pub(crate) fn in_section(answer: &mut Answer, field: &str, text: &str) -> MediaAttribute {
     match field {
         "mid" => MediaAttribute::Mid(Mid::from(text)),
-        "extension" => extension(answer, text),
-        "fingerprint" => MediaAttribute::Fingerprint(fingerprint(answer, text)),
-        "candidate" => MediaAttribute::Candidate(candidate(answer, text, None)),
-        "candidate-ufrag" => MediaAttribute::Candidate(candidate(answer, "1", Some(text))),
-        _ => in_stream(answer, field, text),
+        "extension" => held_extension(answer, text),
+        "fingerprint" => MediaAttribute::Fingerprint(held_fingerprint(answer, text)),
+        "candidate" => MediaAttribute::Candidate(held_candidate(answer, text, None)),
+        "candidate-ufrag" => MediaAttribute::Candidate(held_candidate(answer, "1", Some(text))),
+        _ => held_in_stream(answer, field, text),
     }
 }
 
-fn extension(answer: &mut Answer, uri: &str) -> MediaAttribute {
+fn held_extension(answer: &mut Answer, uri: &str) -> MediaAttribute {
     match Extension::new(answer.alloc(), uri, true) {
         Ok(ext) => MediaAttribute::ExtMap { id: 1, ext },
         Err(_) => {
@@ -76,33 +76,33 @@ fn extension(answer: &mut Answer, uri: &str) -> MediaAttribute {
 }
 
 /// An attribute that speaks of streams or sources with the text in this field, and another text in the field beside it.
-fn in_stream(answer: &mut Answer, field: &str, text: &str) -> MediaAttribute {
+fn held_in_stream(answer: &mut Answer, field: &str, text: &str) -> MediaAttribute {
     match field {
-        "msid-stream" => msid(answer, text, "1"),
-        "msid-track" => msid(answer, "1", text),
-        "source-group" => source_group(answer, text),
-        "source-name" => source(answer, text, "1"),
-        "source-value" => source(answer, "1", text),
-        "send" | "recv" | "layer-note" => in_layer(answer, field, text),
-        _ => in_rid(answer, field, text),
+        "msid-stream" => held_msid(answer, text, "1"),
+        "msid-track" => held_msid(answer, "1", text),
+        "source-group" => held_source_group(answer, text),
+        "source-name" => held_source(answer, text, "1"),
+        "source-value" => held_source(answer, "1", text),
+        "send" | "recv" | "layer-note" => held_in_layer(answer, field, text),
+        _ => held_in_rid(answer, field, text),
     }
 }
 
-fn msid(answer: &mut Answer, stream_id: &str, track_id: &str) -> MediaAttribute {
+fn held_msid(answer: &mut Answer, stream_id: &str, track_id: &str) -> MediaAttribute {
     MediaAttribute::Msid(Msid {
         stream_id: text_of(answer, stream_id),
         track_id: text_of(answer, track_id),
     })
 }
 
-fn source_group(answer: &mut Answer, semantics: &str) -> MediaAttribute {
+fn held_source_group(answer: &mut Answer, semantics: &str) -> MediaAttribute {
     MediaAttribute::SsrcGroup {
         semantics: text_of(answer, semantics),
-        ssrcs: one(answer, Ssrc::from(1)),
+        ssrcs: one_held_item(answer, Ssrc::from(1)),
     }
 }
 
-fn source(answer: &mut Answer, attr: &str, value: &str) -> MediaAttribute {
+fn held_source(answer: &mut Answer, attr: &str, value: &str) -> MediaAttribute {
     MediaAttribute::Ssrc {
         ssrc: Ssrc::from(1),
         attr: text_of(answer, attr),
@@ -111,18 +111,18 @@ fn source(answer: &mut Answer, attr: &str, value: &str) -> MediaAttribute {
 }
 
 /// A rid whose restriction, if it has one, is named or given by the text; else an attribute of one text.
-fn in_rid(answer: &mut Answer, field: &str, text: &str) -> MediaAttribute {
+fn held_in_rid(answer: &mut Answer, field: &str, text: &str) -> MediaAttribute {
     let none = Items::empty(answer.alloc());
     match field {
-        "rid" => rid_of(answer, text, "send", none),
-        "rid-way" => rid_of(answer, "1", "x\r\na=mid:9", none),
+        "rid" => held_rid(answer, text, "send", none),
+        "rid-way" => held_rid(answer, "1", "x\r\na=mid:9", none),
         "rid-key" => {
-            let restriction = noted(answer, text, "2");
-            rid_of(answer, "1", "send", restriction)
+            let restriction = noted_text(answer, text, "2");
+            held_rid(answer, "1", "send", restriction)
         }
         "rid-value" => {
-            let restriction = noted(answer, "2", text);
-            rid_of(answer, "1", "send", restriction)
+            let restriction = noted_text(answer, "2", text);
+            held_rid(answer, "1", "send", restriction)
         }
         _ => in_line(field, text_of(answer, text)),
     }
@@ -142,7 +142,7 @@ fn in_line(field: &str, held: Text) -> MediaAttribute {
     }
 }
 
-fn rid_of(
+fn held_rid(
     answer: &mut Answer,
     name: &str,
     direction: &'static str,
@@ -157,13 +157,13 @@ fn rid_of(
 }
 
 /// A layer that is sent or received under this name; else one that is sent under another, of which the text is noted.
-fn in_layer(answer: &mut Answer, field: &str, text: &str) -> MediaAttribute {
+fn held_in_layer(answer: &mut Answer, field: &str, text: &str) -> MediaAttribute {
     let none = SimulcastGroups(Items::empty(answer.alloc()));
     let (send, recv) = match field {
         "send" => (layer(answer, text, None), none),
         "recv" => (none, layer(answer, text, None)),
         _ => {
-            let notes = noted(answer, "x", text);
+            let notes = noted_text(answer, "x", text);
             (layer(answer, "1", Some(notes)), none)
         }
     };
@@ -185,25 +185,25 @@ fn layer(
         restriction_id,
         attributes,
     };
-    SimulcastGroups(one(answer, layer))
+    SimulcastGroups(one_held_item(answer, layer))
 }
 
 /// A list of one key and its value.
-fn noted(answer: &mut Answer, key: &str, value: &str) -> Items<(Text, Text)> {
+fn noted_text(answer: &mut Answer, key: &str, value: &str) -> Items<(Text, Text)> {
     let (key, value) = (text_of(answer, key), text_of(answer, value));
-    one(answer, (key, value))
+    one_held_item(answer, (key, value))
 }
 
 /// A fingerprint of one byte.
-fn fingerprint(answer: &mut Answer, hash_func: &str) -> Fingerprint {
+fn held_fingerprint(answer: &mut Answer, hash_func: &str) -> Fingerprint {
     Fingerprint {
         hash_func: text_of(answer, hash_func),
-        bytes: one(answer, 5),
+        bytes: one_held_item(answer, 5),
     }
 }
 
 /// A candidate with this foundation and, where there is one, this user's fragment.
-fn candidate(answer: &mut Answer, foundation: &str, ufrag: Option<&str>) -> Candidate {
+fn held_candidate(answer: &mut Answer, foundation: &str, ufrag: Option<&str>) -> Candidate {
     let foundation = text_of(answer, foundation);
     let ufrag = match ufrag {
         Some(ufrag) => Some(text_of(answer, ufrag)),
@@ -223,7 +223,7 @@ pub(crate) fn text_of(answer: &mut Answer, text: &str) -> Text {
 }
 
 /// A list of one item.
-pub(crate) fn one<T: Drop>(answer: &mut Answer, item: T) -> Items<T> {
+pub(crate) fn one_held_item<T: Drop>(answer: &mut Answer, item: T) -> Items<T> {
     let mut list = Items::empty(answer.alloc());
     answer.note(list.push(item));
     list

@@ -9,16 +9,16 @@ use str0m_signal::{Items, RestrictionId, SimulcastLayer, Text};
 pub(crate) fn answers(answer: &mut Answer, asked: &str, text: &str) -> bool {
     let alloc = answer.alloc();
     match asked {
-        "layer" => copied(answer, &layer_of(alloc, text)),
-        "empty" => empty(answer),
-        "random-msid" => random_names::drawn(answer, text),
+        "layer" => copied_layer(answer, &layer_of(alloc, text)),
+        "empty" => empty_values(answer),
+        "random-msid" => random_names::drawn_name(answer, text),
         _ => return false,
     }
     true
 }
 
 /// What is noted of a layer, as `KEY=VALUE`.
-fn noted_by(alloc: Global, text: &str) -> Result<Items<(Text, Text)>, AllocError> {
+fn layer_notes_of(alloc: Global, text: &str) -> Result<Items<(Text, Text)>, AllocError> {
     let (key, value) = text.split_once('=').unwrap_or((text, ""));
     let key = Text::from_str(alloc, key)?;
     let value = Text::from_str(alloc, value)?;
@@ -31,7 +31,7 @@ fn noted_by(alloc: Global, text: &str) -> Result<Items<(Text, Text)>, AllocError
 fn layer_of(alloc: Global, text: &str) -> Result<SimulcastLayer, AllocError> {
     let (name, note) = text.split_once(' ').unwrap_or((text, ""));
     let restriction_id = RestrictionId::new(Text::from_str(alloc, name)?, false);
-    let attributes = Some(noted_by(alloc, note)?);
+    let attributes = Some(layer_notes_of(alloc, note)?);
     Ok(SimulcastLayer {
         restriction_id,
         attributes,
@@ -39,19 +39,19 @@ fn layer_of(alloc: Global, text: &str) -> Result<SimulcastLayer, AllocError> {
 }
 
 /// The copy of a layer, and what is noted of it.
-fn copied(answer: &mut Answer, made: &Result<SimulcastLayer, AllocError>) {
+fn copied_layer(answer: &mut Answer, made: &Result<SimulcastLayer, AllocError>) {
     match made {
-        Ok(layer) => shown(answer, &layer.clone()),
+        Ok(layer) => shown_layer(answer, &layer.clone()),
         Err(_) => answer.refuse(),
     }
 }
 
-fn shown(answer: &mut Answer, copy: &Result<SimulcastLayer, AllocError>) {
+fn shown_layer(answer: &mut Answer, copy: &Result<SimulcastLayer, AllocError>) {
     match copy {
         Ok(copy) => {
             id(answer, &copy.restriction_id);
             if let Some(notes) = &copy.attributes {
-                with_notes(answer, notes.as_slice());
+                with_layer_notes(answer, notes.as_slice());
             }
         }
         Err(_) => answer.refuse(),
@@ -64,7 +64,7 @@ fn id(answer: &mut Answer, id: &RestrictionId) {
     answer.push(printed.as_str());
 }
 
-fn with_notes(answer: &mut Answer, notes: &[(Text, Text)]) {
+fn with_layer_notes(answer: &mut Answer, notes: &[(Text, Text)]) {
     for (key, value) in notes {
         answer.push(" ");
         answer.show(key);
@@ -74,7 +74,7 @@ fn with_notes(answer: &mut Answer, notes: &[(Text, Text)]) {
 }
 
 /// An empty text, the id of no restriction and a list of nothing, which take no memory.
-fn empty(answer: &mut Answer) {
+fn empty_values(answer: &mut Answer) {
     let alloc = answer.alloc();
     let items: Items<u8> = Items::empty(alloc);
     answer.push("text `");

@@ -1,6 +1,6 @@
 //! Lines of attributes: what each is read as, what it prints, and what is left after it.
 
-use crate::attribute_parts::push_part;
+use crate::attribute_parts::push_attribute_part;
 use crate::escapes::push_escaped;
 use crate::spoken::push_refused;
 use format_cases::Answer;
@@ -14,7 +14,7 @@ use str0m_signal::{
 pub(crate) fn answers(answer: &mut Answer, word: &str, text: &str) -> bool {
     match word {
         "media" | "is-direction" | "rtpmap" | "fmtp-line" | "rid-line" => {
-            media(answer, word, text);
+            media_line_read(answer, word, text);
         }
         "session" => session_line(answer, text),
         "candidate-line" => candidate_line(answer, text),
@@ -23,12 +23,12 @@ pub(crate) fn answers(answer: &mut Answer, word: &str, text: &str) -> bool {
     true
 }
 
-fn media(answer: &mut Answer, word: &str, text: &str) {
+fn media_line_read(answer: &mut Answer, word: &str, text: &str) {
     let read = media_attribute_line(answer.alloc(), text);
-    media_of(answer, word, &read);
+    media_of_line(answer, word, &read);
 }
 
-fn media_of(answer: &mut Answer, word: &str, read: &Result<(MediaAttribute, &str), SdpError>) {
+fn media_of_line(answer: &mut Answer, word: &str, read: &Result<(MediaAttribute, &str), SdpError>) {
     match read {
         Ok((attribute, rest)) => media_read(answer, word, attribute, rest),
         Err(error) => push_refused(answer, error),
@@ -38,10 +38,10 @@ fn media_of(answer: &mut Answer, word: &str, read: &Result<(MediaAttribute, &str
 /// What the word asks of the line that was read: one part of it, or the whole.
 fn media_read(answer: &mut Answer, word: &str, attribute: &MediaAttribute, rest: &str) {
     if word == "media" {
-        show(answer, attribute);
-        push_rest(answer, rest);
+        show_line(answer, attribute);
+        push_rest_of_line(answer, rest);
     } else {
-        push_part(answer, word, attribute);
+        push_attribute_part(answer, word, attribute);
     }
 }
 
@@ -53,8 +53,8 @@ fn session_line(answer: &mut Answer, text: &str) {
 fn session_of(answer: &mut Answer, read: &Result<(SessionAttribute, &str), SdpError>) {
     match read {
         Ok((attribute, rest)) => {
-            show(answer, attribute);
-            push_rest(answer, rest);
+            show_line(answer, attribute);
+            push_rest_of_line(answer, rest);
         }
         Err(error) => push_refused(answer, error),
     }
@@ -62,20 +62,20 @@ fn session_of(answer: &mut Answer, read: &Result<(SessionAttribute, &str), SdpEr
 
 fn candidate_line(answer: &mut Answer, text: &str) {
     let read = candidate_attribute(answer.alloc(), text);
-    candidate_of(answer, &read);
+    candidate_of_line(answer, &read);
 }
 
-fn candidate_of(answer: &mut Answer, read: &Result<(Candidate, &str), SdpError>) {
+fn candidate_of_line(answer: &mut Answer, read: &Result<(Candidate, &str), SdpError>) {
     match read {
         Ok((candidate, rest)) => {
-            show_candidate(answer, candidate);
-            push_rest(answer, rest);
+            show_candidate_line(answer, candidate);
+            push_rest_of_line(answer, rest);
         }
         Err(error) => push_refused(answer, error),
     }
 }
 
-fn show_candidate(answer: &mut Answer, candidate: &Candidate) {
+fn show_candidate_line(answer: &mut Answer, candidate: &Candidate) {
     let printed = candidate.to_sdp_string(answer.alloc());
     if let Some(printed) = answer.made(&printed) {
         answer.push(printed.as_str());
@@ -83,8 +83,8 @@ fn show_candidate(answer: &mut Answer, candidate: &Candidate) {
 }
 
 /// The name of the attribute, and the line that it prints.
-pub(crate) fn show<T: Debug + Display>(answer: &mut Answer, attribute: &T) {
-    push_name(answer, attribute);
+pub(crate) fn show_line<T: Debug + Display>(answer: &mut Answer, attribute: &T) {
+    push_name_of_line(answer, attribute);
     let printed = attribute.to_string(answer.alloc());
     if let Some(line) = answer.made(&printed) {
         answer.push(if line.is_empty() {
@@ -97,7 +97,7 @@ pub(crate) fn show<T: Debug + Display>(answer: &mut Answer, attribute: &T) {
 }
 
 /// The name of the attribute: what its `Debug` shows before the values that it holds.
-fn push_name<T: Debug>(answer: &mut Answer, attribute: &T) {
+fn push_name_of_line<T: Debug>(answer: &mut Answer, attribute: &T) {
     let shown = format!(in answer.alloc(); "{attribute:?}");
     if let Some(shown) = answer.made(&shown) {
         for character in shown.as_str().chars() {
@@ -118,7 +118,7 @@ pub(crate) fn push_printed<T: Display>(answer: &mut Answer, value: &T) {
 }
 
 /// What is left after what was read, if anything is.
-pub(crate) fn push_rest(answer: &mut Answer, rest: &str) {
+pub(crate) fn push_rest_of_line(answer: &mut Answer, rest: &str) {
     if !rest.is_empty() {
         answer.push("\nleft ");
         push_escaped(answer, rest);

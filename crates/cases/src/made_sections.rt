@@ -9,7 +9,7 @@ use str0m_signal::{MediaLine, PayloadParams, Pt, section_of};
 pub(crate) fn answers(answer: &mut Answer, word: &str, text: &str) -> bool {
     match word {
         "made" => made(answer, text),
-        "fault" => fault(answer, text),
+        "fault" => section_fault(answer, text),
         _ => return false,
     }
     true
@@ -18,26 +18,26 @@ pub(crate) fn answers(answer: &mut Answer, word: &str, text: &str) -> bool {
 /// The rows of the second section of a description in the frame of its first, printed.
 fn made(answer: &mut Answer, text: &str) {
     if let Some(sdp) = &description(answer, text) {
-        made_of_two(answer, sdp.media_lines.as_slice());
+        section_made_of_two(answer, sdp.media_lines.as_slice());
     }
 }
 
-fn made_of_two(answer: &mut Answer, sections: &[MediaLine]) {
+fn section_made_of_two(answer: &mut Answer, sections: &[MediaLine]) {
     match sections {
-        [frame, said] => made_of(answer, frame, said),
+        [frame, said] => section_made_of(answer, frame, said),
         _ => answer.push("not two sections"),
     }
 }
 
-fn made_of(answer: &mut Answer, frame: &MediaLine, said: &MediaLine) {
+fn section_made_of(answer: &mut Answer, frame: &MediaLine, said: &MediaLine) {
     let rows = said.rtp_params();
     if let Some(rows) = answer.made(&rows) {
-        push_made(answer, frame, rows.as_slice());
+        push_made_section(answer, frame, rows.as_slice());
     }
 }
 
 /// What the section prints that is made of the rows in this frame.
-pub(crate) fn push_made(answer: &mut Answer, frame: &MediaLine, rows: &[PayloadParams]) {
+pub(crate) fn push_made_section(answer: &mut Answer, frame: &MediaLine, rows: &[PayloadParams]) {
     let made = section_of(frame, rows);
     if let Some(made) = answer.made(&made) {
         let printed = answer.printed(made);
@@ -46,16 +46,16 @@ pub(crate) fn push_made(answer: &mut Answer, frame: &MediaLine, rows: &[PayloadP
 }
 
 /// What is said of an audio section with a payload type, or `-` for none, and these lines.
-fn fault(answer: &mut Answer, text: &str) {
+fn section_fault(answer: &mut Answer, text: &str) {
     let (pt, lines) = text.split_once(' ').unwrap_or((text, ""));
     let mut section = section(answer, lines);
     if let Ok(pt) = pt.parse::<u8>() {
         answer.note(section.pts.push(Pt::from(pt)));
     }
-    show_fault(answer, &section);
+    show_section_fault(answer, &section);
 }
 
-fn show_fault(answer: &mut Answer, section: &MediaLine) {
+fn show_section_fault(answer: &mut Answer, section: &MediaLine) {
     match &section.check_consistent() {
         Ok(None) => answer.push("consistent"),
         Ok(Some(message)) => answer.push(message.as_str()),

@@ -46,37 +46,37 @@ fn answer_to(answer: &mut Answer, word: &str, text: &str) {
 }
 
 /// The text of a case as it is meant.
-fn unescaped(alloc: Global, text: &str) -> Result<String, AllocError> {
+fn unescaped_case(alloc: Global, text: &str) -> Result<String, AllocError> {
     let mut meant = Answer::new(alloc);
     push_unescaped(&mut meant, text);
     meant.finish()
 }
 
 /// The answer as it stands after `=>`.
-fn indented(alloc: Global, answer: &str) -> Result<String, AllocError> {
+fn indented_answer(alloc: Global, answer: &str) -> Result<String, AllocError> {
     let mut shown = Answer::new(alloc);
     push_indented(&mut shown, answer);
     shown.finish()
 }
 
-fn answered(alloc: Global, word: &str, text: &str) -> Result<String, AllocError> {
+fn answered_case(alloc: Global, word: &str, text: &str) -> Result<String, AllocError> {
     let mut answer = Answer::new(alloc);
     answer_to(&mut answer, word, text);
     answer.finish()
 }
 
 /// The case as it is written: its line, and its answer under it.
-fn written(alloc: Global, line: &str) -> Result<String, AllocError> {
+fn written_case(alloc: Global, line: &str) -> Result<String, AllocError> {
     let (word, text) = line.split_once(' ').unwrap_or((line, ""));
-    let text = unescaped(alloc, text)?;
-    let answer = answered(alloc, word, text.as_str())?;
-    let answer = indented(alloc, answer.as_str())?;
+    let text = unescaped_case(alloc, text)?;
+    let answer = answered_case(alloc, word, text.as_str())?;
+    let answer = indented_answer(alloc, answer.as_str())?;
     format!(in alloc; "{line}\n=>{answer}")
 }
 
 fn main(rt: HostRuntime) -> io::Result<()> {
     for line in rt.lines(rt.alloc()) {
-        let case = written(rt.alloc(), line?.as_str())?;
+        let case = written_case(rt.alloc(), line?.as_str())?;
         println!(rt; "{case}")?;
     }
     Ok(())

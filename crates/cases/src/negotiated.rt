@@ -1,6 +1,6 @@
 //! Rounds of negotiation with a whole text.
 
-use crate::spoken::{behind_header, fail, push_refused};
+use crate::spoken::{fail_to_speak, push_refused, spoken_behind_header};
 use format_cases::{Answer, configuration, is_same, show_rows};
 use str0m_signal::{
     CodecConfig, MediaKind, NegotiationError, SdpError, locked_rows, negotiate_text,
@@ -13,11 +13,11 @@ pub(crate) fn answers(answer: &mut Answer, word: &str, text: &str) -> bool {
     let (own, text) = text.split_once(" | ").unwrap_or((text, ""));
     match word {
         "negotiate" => {
-            let text = behind_header(answer, text);
+            let text = spoken_behind_header(answer, text);
             negotiated(answer, own, text.as_str());
         }
         "negotiate-text" => negotiated(answer, own, text),
-        "negotiate-locked" => locked(answer, own, text),
+        "negotiate-locked" => locked_by_rounds(answer, own, text),
         _ => return false,
     }
     true
@@ -27,9 +27,9 @@ pub(crate) fn answers(answer: &mut Answer, word: &str, text: &str) -> bool {
 /// the rows that are left. Where no round is accepted, the configuration has to be what it was.
 fn negotiated(answer: &mut Answer, own: &str, text: &str) {
     let mut config = configuration(answer, own);
-    let before = copy_of(answer, &config);
+    let before = copy_of_negotiated(answer, &config);
     let outcomes = negotiate_text(&mut config, text);
-    if is_any_accepted(&outcomes) || is_same(&config, &before) {
+    if is_any_round_accepted(&outcomes) || is_same(&config, &before) {
         show_outcomes_or_error(answer, &outcomes);
         answer.item("\n");
         show_rows(answer, config.params());
@@ -38,7 +38,7 @@ fn negotiated(answer: &mut Answer, own: &str, text: &str) {
     }
 }
 
-fn copy_of(answer: &mut Answer, config: &CodecConfig) -> CodecConfig {
+fn copy_of_negotiated(answer: &mut Answer, config: &CodecConfig) -> CodecConfig {
     let none = CodecConfig::empty(answer.alloc());
     answer.kept(config.clone(), none)
 }
@@ -53,18 +53,18 @@ fn show_outcomes_or_error(answer: &mut Answer, outcomes: &Result<Vec<Outcome>, S
 
 /// What the rounds of the text come to, a line each, and then the rows that are locked by them, those of audio before those of
 /// video.
-fn locked(answer: &mut Answer, own: &str, text: &str) {
+fn locked_by_rounds(answer: &mut Answer, own: &str, text: &str) {
     let mut config = configuration(answer, own);
     match &negotiate_text(&mut config, text) {
         Ok(outcomes) => show_outcomes(answer, outcomes.as_slice()),
-        Err(error) => fail(answer, error),
+        Err(error) => fail_to_speak(answer, error),
     }
-    show_locked(answer, &config, "audio ", MediaKind::Audio);
-    show_locked(answer, &config, "video ", MediaKind::Video);
+    show_locked_by_rounds(answer, &config, "audio ", MediaKind::Audio);
+    show_locked_by_rounds(answer, &config, "video ", MediaKind::Video);
 }
 
 /// The locked rows of a kind of media, after its name.
-fn show_locked(answer: &mut Answer, config: &CodecConfig, name: &str, kind: MediaKind) {
+fn show_locked_by_rounds(answer: &mut Answer, config: &CodecConfig, name: &str, kind: MediaKind) {
     answer.item("\n");
     answer.push(name);
     let rows = locked_rows(config, kind);
@@ -73,7 +73,7 @@ fn show_locked(answer: &mut Answer, config: &CodecConfig, name: &str, kind: Medi
     }
 }
 
-fn is_any_accepted(outcomes: &Result<Vec<Outcome>, SdpError>) -> bool {
+fn is_any_round_accepted(outcomes: &Result<Vec<Outcome>, SdpError>) -> bool {
     match outcomes {
         Ok(outcomes) => outcomes.iter().any(|outcome| outcome.is_ok()),
         Err(_) => false,

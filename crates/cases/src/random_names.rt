@@ -45,15 +45,15 @@ impl Rng for Counter {
 }
 
 /// The names that are drawn of the number that the text says and those after it, and the number that comes next.
-pub(crate) fn drawn(answer: &mut Answer, text: &str) {
+pub(crate) fn drawn_name(answer: &mut Answer, text: &str) {
     match text.parse::<u32>() {
-        Ok(first) => drawn_from(answer, first),
+        Ok(first) => drawn_name_from(answer, first),
         Err(_) => answer.no_such("number"),
     }
 }
 
 /// Where there is no room, no number has to be drawn.
-fn drawn_from(answer: &mut Answer, first: u32) {
+fn drawn_name_from(answer: &mut Answer, first: u32) {
     let mut counter = Counter(first);
     match &Msid::random(answer.alloc(), &mut counter) {
         Ok(drawn) => {

@@ -1,9 +1,9 @@
 //! Rows that are put into a section of a description, printed with it and read again.
 
-use crate::made_sections::push_made;
+use crate::made_sections::push_made_section;
 use crate::negotiated::show_outcomes;
-use crate::spoken::{description, fail};
-use crate::writable::changed;
+use crate::spoken::{description, fail_to_speak};
+use crate::writable::changed_attribute;
 use format_cases::{Answer, configuration, show_rows};
 use str0m_signal::{
     CodecConfig, PayloadParams, Sdp, SdpError, is_writable, negotiate_text, sdp_parser, section_of,
@@ -31,13 +31,13 @@ pub(crate) fn answers(answer: &mut Answer, word: &str, text: &str) -> bool {
 /// The rows in the frame of a description's first section, printed.
 fn section_printed(answer: &mut Answer, rows: &[PayloadParams], lines: &str) {
     if let Some(sdp) = &description(answer, lines) {
-        push_made_of_first(answer, sdp, rows);
+        push_first_to_read_back(answer, sdp, rows);
     }
 }
 
-fn push_made_of_first(answer: &mut Answer, sdp: &Sdp, rows: &[PayloadParams]) {
+fn push_first_to_read_back(answer: &mut Answer, sdp: &Sdp, rows: &[PayloadParams]) {
     match sdp.media_lines.as_slice().first() {
-        Some(frame) => push_made(answer, frame, rows),
+        Some(frame) => push_made_section(answer, frame, rows),
         None => answer.push("no section"),
     }
 }
@@ -45,7 +45,7 @@ fn push_made_of_first(answer: &mut Answer, sdp: &Sdp, rows: &[PayloadParams]) {
 /// `read-back ROWS | INDEX LINES | CHANGE`: whether the rows come back from the section at the index.
 fn read_back(answer: &mut Answer, rows: &[PayloadParams], text: &str) {
     let (index, text) = text.split_once(' ').unwrap_or((text, ""));
-    if let Some(sdp) = &changed(answer, text) {
+    if let Some(sdp) = &changed_attribute(answer, text) {
         come_back_at(answer, sdp, index, rows);
     }
 }
@@ -68,7 +68,7 @@ fn negotiated_back(answer: &mut Answer, config: &mut CodecConfig, text: &str) {
 fn negotiated_and_back(answer: &mut Answer, config: &mut CodecConfig, text: &str) {
     match &negotiate_text(config, text) {
         Ok(outcomes) => show_outcomes(answer, outcomes.as_slice()),
-        Err(error) => fail(answer, error),
+        Err(error) => fail_to_speak(answer, error),
     }
 }
 
@@ -79,7 +79,7 @@ fn first_back(answer: &mut Answer, config: &mut CodecConfig, text: &str) {
     negotiated_and_back(answer, config, text);
     if let (Some(sdp), Some(first)) = (&description(answer, lines), config.params().first()) {
         answer.item("\n");
-        push_made_of_first(answer, sdp, &[*first]);
+        push_first_to_read_back(answer, sdp, &[*first]);
         answer.item("\n");
         come_back(answer, sdp, 0, &[*first]);
     }
@@ -88,7 +88,7 @@ fn first_back(answer: &mut Answer, config: &mut CodecConfig, text: &str) {
 fn add_back(answer: &mut Answer, read: &Result<(Sdp, &str), SdpError>, rows: &[PayloadParams]) {
     match read {
         Ok((sdp, _)) => add_sections_back(answer, sdp, rows),
-        Err(error) => fail(answer, error),
+        Err(error) => fail_to_speak(answer, error),
     }
 }
 
@@ -148,26 +148,26 @@ fn compare_read(
     rows: &[PayloadParams],
 ) {
     match read {
-        Ok((sdp, rest)) if rest.is_empty() => compare_at(answer, sdp, index, rows),
+        Ok((sdp, rest)) if rest.is_empty() => compare_read_back_at(answer, sdp, index, rows),
         Ok(_) => answer.push("unread lines"),
-        Err(error) => fail(answer, error),
+        Err(error) => fail_to_speak(answer, error),
     }
 }
 
 /// Compares with the rows of the section at the index; none where there is no such section.
-fn compare_at(answer: &mut Answer, sdp: &Sdp, index: usize, rows: &[PayloadParams]) {
+fn compare_read_back_at(answer: &mut Answer, sdp: &Sdp, index: usize, rows: &[PayloadParams]) {
     match sdp.media_lines.as_slice().get(index) {
         Some(section) => {
             let found = section.rtp_params();
             if let Some(found) = answer.made(&found) {
-                compare(answer, found.as_slice(), rows);
+                compare_read_back(answer, found.as_slice(), rows);
             }
         }
-        None => compare(answer, &[], rows),
+        None => compare_read_back(answer, &[], rows),
     }
 }
 
-fn compare(answer: &mut Answer, found: &[PayloadParams], rows: &[PayloadParams]) {
+fn compare_read_back(answer: &mut Answer, found: &[PayloadParams], rows: &[PayloadParams]) {
     if found == rows {
         answer.push("equal");
     } else {

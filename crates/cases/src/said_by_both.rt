@@ -14,11 +14,11 @@ pub(crate) fn add_setup(answer: &mut Answer, setup: Option<Setup>) {
 /// What a copy of the credentials says.
 pub(crate) fn add_credentials(answer: &mut Answer, found: &Result<Option<IceCreds>, AllocError>) {
     if let Some(creds) = answer.found(found) {
-        add_copy(answer, creds);
+        add_credentials_copy(answer, creds);
     }
 }
 
-fn add_copy(answer: &mut Answer, creds: &IceCreds) {
+fn add_credentials_copy(answer: &mut Answer, creds: &IceCreds) {
     let copy = creds.clone();
     if let Some(creds) = answer.made(&copy) {
         answer.line("credentials");
@@ -39,7 +39,7 @@ pub(crate) fn add_fingerprint(
 }
 
 /// Appends the words where they are said.
-pub(crate) fn add_flag(answer: &mut Answer, words: &str, is_said: bool) {
+pub(crate) fn add_said_flag(answer: &mut Answer, words: &str, is_said: bool) {
     if is_said {
         answer.item("\n");
         answer.push(words);

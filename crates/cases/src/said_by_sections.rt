@@ -1,7 +1,9 @@
 //! What sections say (RFC 8866, section 5.14), and their direction when it is set.
 
 use crate::escapes::push_escaped;
-use crate::said_by_both::{add_credentials, add_fingerprint, add_flag, add_foundations, add_setup};
+use crate::said_by_both::{
+    add_credentials, add_fingerprint, add_foundations, add_said_flag, add_setup,
+};
 use crate::spoken::section;
 use format_cases::Answer;
 use str0m_signal::{Direction, MediaLine, Simulcast};
@@ -10,7 +12,7 @@ use str0m_signal::{Direction, MediaLine, Simulcast};
 pub(crate) fn answers(answer: &mut Answer, word: &str, text: &str) -> bool {
     match word {
         "section-says" => section_says(answer, text),
-        "set-direction" => with_direction(answer, text),
+        "set-direction" => section_with_direction(answer, text),
         _ => return false,
     }
     true
@@ -19,25 +21,25 @@ pub(crate) fn answers(answer: &mut Answer, word: &str, text: &str) -> bool {
 /// All that a section says, a line each.
 fn section_says(answer: &mut Answer, text: &str) {
     let section = section(answer, text);
-    add_role(answer, &section);
-    add_transport(answer, &section);
-    add_data(answer, &section);
-    add_streams(answer, &section);
-    add_layers(answer, &section);
+    add_section_role(answer, &section);
+    add_section_transport(answer, &section);
+    add_section_data(answer, &section);
+    add_section_streams(answer, &section);
+    add_section_layers(answer, &section);
 }
 
-fn add_role(answer: &mut Answer, section: &MediaLine) {
+fn add_section_role(answer: &mut Answer, section: &MediaLine) {
     if section.has_mid() {
         answer.line("mid");
         answer.show(&section.mid());
     }
     answer.line("direction");
-    answer.push(direction_word(section.direction()));
+    answer.push(section_direction_word(section.direction()));
     answer.push_if(!section.has_direction(), ", as none is said");
     add_setup(answer, section.setup());
 }
 
-fn direction_word(direction: Direction) -> &'static str {
+fn section_direction_word(direction: Direction) -> &'static str {
     match direction {
         Direction::SendRecv => "sendrecv",
         Direction::SendOnly => "sendonly",
@@ -46,14 +48,14 @@ fn direction_word(direction: Direction) -> &'static str {
     }
 }
 
-fn add_transport(answer: &mut Answer, section: &MediaLine) {
+fn add_section_transport(answer: &mut Answer, section: &MediaLine) {
     add_credentials(answer, &section.ice_creds());
     add_fingerprint(answer, &section.fingerprint());
     add_foundations(answer, section.ice_candidates());
-    add_flag(answer, "end of candidates", section.end_of_candidates());
+    add_said_flag(answer, "end of candidates", section.end_of_candidates());
 }
 
-fn add_data(answer: &mut Answer, section: &MediaLine) {
+fn add_section_data(answer: &mut Answer, section: &MediaLine) {
     if let Some(init) = section.sctp_init() {
         answer.line("sctp-init");
         answer.push(init);
@@ -64,17 +66,17 @@ fn add_data(answer: &mut Answer, section: &MediaLine) {
     }
 }
 
-fn add_streams(answer: &mut Answer, section: &MediaLine) {
+fn add_section_streams(answer: &mut Answer, section: &MediaLine) {
     let msid = section.msid();
     if let Some(msid) = answer.found(&msid) {
         answer.line("msid");
         answer.show(msid);
     }
-    add_extensions(answer, section);
-    add_rids(answer, section);
+    add_section_extensions(answer, section);
+    add_section_rids(answer, section);
 }
 
-fn add_extensions(answer: &mut Answer, section: &MediaLine) {
+fn add_section_extensions(answer: &mut Answer, section: &MediaLine) {
     let all = section.extmaps();
     if let Some(all) = answer.made(&all) {
         for (index, (id, extension)) in all.iter().enumerate() {
@@ -86,7 +88,7 @@ fn add_extensions(answer: &mut Answer, section: &MediaLine) {
     }
 }
 
-fn add_rids(answer: &mut Answer, section: &MediaLine) {
+fn add_section_rids(answer: &mut Answer, section: &MediaLine) {
     let all = section.rids();
     if let Some(all) = answer.made(&all) {
         for (index, rid) in all.iter().enumerate() {
@@ -97,18 +99,18 @@ fn add_rids(answer: &mut Answer, section: &MediaLine) {
 }
 
 /// The layers of both ways, and what the other side calls them.
-fn add_layers(answer: &mut Answer, section: &MediaLine) {
+fn add_section_layers(answer: &mut Answer, section: &MediaLine) {
     match section.simulcast() {
         Ok(Some(simulcast)) => {
-            add_ways(answer, "simulcast", &simulcast);
-            add_ways(answer, "inverted", &simulcast.invert());
+            add_section_ways(answer, "simulcast", &simulcast);
+            add_section_ways(answer, "inverted", &simulcast.invert());
         }
         Ok(None) => {}
         Err(_) => answer.refuse(),
     }
 }
 
-fn add_ways(answer: &mut Answer, label: &str, simulcast: &Simulcast) {
+fn add_section_ways(answer: &mut Answer, label: &str, simulcast: &Simulcast) {
     answer.line(label);
     answer.push("send `");
     answer.show(&simulcast.send);
@@ -119,20 +121,20 @@ fn add_ways(answer: &mut Answer, label: &str, simulcast: &Simulcast) {
 }
 
 /// The word's direction is set in a section of the lines after it: the direction then, and the section.
-fn with_direction(answer: &mut Answer, text: &str) {
+fn section_with_direction(answer: &mut Answer, text: &str) {
     let (word, lines) = text.split_once(' ').unwrap_or((text, ""));
     let mut section = section(answer, lines);
     if section.has_direction() {
-        section.set_direction(direction_of(word));
-        show_turned(answer, &section);
+        section.set_direction(direction_of_section(word));
+        show_turned_section(answer, &section);
     } else {
         answer.push("no direction to set");
     }
 }
 
 /// The section's direction, and the section.
-fn show_turned(answer: &mut Answer, section: &MediaLine) {
-    answer.push(direction_word(section.direction()));
+fn show_turned_section(answer: &mut Answer, section: &MediaLine) {
+    answer.push(section_direction_word(section.direction()));
     answer.push("\n");
     let printed = section.to_string(answer.alloc());
     if let Some(printed) = answer.made(&printed) {
@@ -140,7 +142,7 @@ fn show_turned(answer: &mut Answer, section: &MediaLine) {
     }
 }
 
-fn direction_of(word: &str) -> Direction {
+fn direction_of_section(word: &str) -> Direction {
     match word {
         "sendrecv" => Direction::SendRecv,
         "sendonly" => Direction::SendOnly,

@@ -1,7 +1,9 @@
 //! What sessions say, and what descriptions say in their session or their sections.
 
-use crate::said_by_both::{add_credentials, add_fingerprint, add_flag, add_foundations, add_setup};
-use crate::spoken::{description, fail, session};
+use crate::said_by_both::{
+    add_credentials, add_fingerprint, add_foundations, add_said_flag, add_setup,
+};
+use crate::spoken::{description, fail_to_speak, session};
 use format_cases::Answer;
 use str0m_signal::{DistinctCandidates, Sdp, SdpError, Session};
 
@@ -9,8 +11,8 @@ use str0m_signal::{DistinctCandidates, Sdp, SdpError, Session};
 pub(crate) fn answers(answer: &mut Answer, word: &str, text: &str) -> bool {
     match word {
         "session-says" => of_session(answer, text),
-        "numbered-candidates" => numbered(answer, text),
-        "description-says" | "consistency" | "emptied" => of_description(answer, word, text),
+        "numbered-candidates" => numbered_session(answer, text),
+        "description-says" | "consistency" | "emptied" => said_by_session(answer, word, text),
         _ => return false,
     }
     true
@@ -22,17 +24,17 @@ fn of_session(answer: &mut Answer, text: &str) {
     }
 }
 
-fn of_description(answer: &mut Answer, word: &str, text: &str) {
+fn said_by_session(answer: &mut Answer, word: &str, text: &str) {
     if let Some(sdp) = &mut description(answer, text) {
-        asked(answer, word, sdp);
+        asked_of_session(answer, word, sdp);
     }
 }
 
-fn asked(answer: &mut Answer, word: &str, sdp: &mut Sdp) {
+fn asked_of_session(answer: &mut Answer, word: &str, sdp: &mut Sdp) {
     match word {
         "description-says" => description_says(answer, sdp),
-        "emptied" => emptied(answer, sdp),
-        _ => consistency(answer, sdp),
+        "emptied" => emptied_session(answer, sdp),
+        _ => consistency_of_session(answer, sdp),
     }
 }
 
@@ -40,9 +42,9 @@ fn session_says(answer: &mut Answer, session: &Session) {
     add_setup(answer, session.setup());
     add_credentials(answer, &session.ice_creds());
     add_fingerprint(answer, &session.fingerprint());
-    add_flag(answer, "ice-lite", session.ice_lite());
+    add_said_flag(answer, "ice-lite", session.ice_lite());
     add_foundations(answer, session.ice_candidates());
-    add_flag(answer, "end of candidates", session.end_of_candidates());
+    add_said_flag(answer, "end of candidates", session.end_of_candidates());
     answer.or_word("nothing");
 }
 
@@ -50,13 +52,13 @@ fn description_says(answer: &mut Answer, sdp: &Sdp) {
     add_setup(answer, sdp.setup());
     add_credentials(answer, &sdp.ice_creds());
     add_fingerprint(answer, &sdp.fingerprint());
-    add_distinct(answer, sdp);
-    add_bundle(answer, sdp);
+    add_session_candidates(answer, sdp);
+    add_session_bundle(answer, sdp);
     answer.or_word("nothing");
 }
 
 /// What its sections are for, and which go together.
-fn add_bundle(answer: &mut Answer, sdp: &Sdp) {
+fn add_session_bundle(answer: &mut Answer, sdp: &Sdp) {
     if let Some(init) = sdp.sctp_init() {
         answer.line("sctp-init");
         answer.push(init);
@@ -73,14 +75,14 @@ fn add_bundle(answer: &mut Answer, sdp: &Sdp) {
 }
 
 /// The foundations of the description's candidates, each once.
-fn add_distinct(answer: &mut Answer, sdp: &Sdp) {
+fn add_session_candidates(answer: &mut Answer, sdp: &Sdp) {
     match sdp.ice_candidates() {
-        Ok(all) => add_each(answer, all),
+        Ok(all) => add_each_session_candidate(answer, all),
         Err(_) => answer.refuse(),
     }
 }
 
-fn add_each(answer: &mut Answer, all: DistinctCandidates<'_>) {
+fn add_each_session_candidate(answer: &mut Answer, all: DistinctCandidates<'_>) {
     let mut index = 0_usize;
     for candidate in all {
         answer.item_of_line("candidates", index);
@@ -90,36 +92,36 @@ fn add_each(answer: &mut Answer, all: DistinctCandidates<'_>) {
 }
 
 /// What is said of a description that contradicts itself.
-fn consistency(answer: &mut Answer, sdp: &Sdp) {
+fn consistency_of_session(answer: &mut Answer, sdp: &Sdp) {
     match &sdp.assert_consistency() {
         Ok(()) => answer.push("consistent"),
         Err(SdpError::Inconsistent(message)) => answer.push(message.as_str()),
-        Err(error) => fail(answer, error),
+        Err(error) => fail_to_speak(answer, error),
     }
 }
 
 /// The same of one whose first section was taken its attributes.
-fn emptied(answer: &mut Answer, sdp: &mut Sdp) {
+fn emptied_session(answer: &mut Answer, sdp: &mut Sdp) {
     if let Some(section) = sdp.media_lines.0.first_mut() {
         section.attrs.0.clear();
     }
-    consistency(answer, sdp);
+    consistency_of_session(answer, sdp);
 }
 
 /// A session of as many candidates as the text says, numbered from 0, each twice: those that it gives.
-fn numbered(answer: &mut Answer, text: &str) {
+fn numbered_session(answer: &mut Answer, text: &str) {
     let count = text.parse::<u32>().unwrap_or(0);
     let mut lines = Answer::new(answer.alloc());
-    add_numbered(&mut lines, count);
-    add_numbered(&mut lines, count);
+    add_numbered_to_session(&mut lines, count);
+    add_numbered_to_session(&mut lines, count);
     if lines.is_refused() {
         answer.refuse();
     } else if let Some(sdp) = &description(answer, lines.text()) {
-        show_count(answer, sdp);
+        show_session_count(answer, sdp);
     }
 }
 
-fn add_numbered(lines: &mut Answer, count: u32) {
+fn add_numbered_to_session(lines: &mut Answer, count: u32) {
     for number in 0..count {
         lines.push("a=candidate:");
         lines.show(&number);
@@ -128,17 +130,17 @@ fn add_numbered(lines: &mut Answer, count: u32) {
 }
 
 /// How many candidates a description gives up to the first that isn't numbered as it stands.
-fn show_count(answer: &mut Answer, sdp: &Sdp) {
+fn show_session_count(answer: &mut Answer, sdp: &Sdp) {
     match sdp.ice_candidates() {
-        Ok(all) => show_count_of(answer, all),
+        Ok(all) => show_session_count_of(answer, all),
         Err(_) => answer.refuse(),
     }
 }
 
-fn show_count_of(answer: &mut Answer, all: DistinctCandidates<'_>) {
+fn show_session_count_of(answer: &mut Answer, all: DistinctCandidates<'_>) {
     let mut count = 0_u32;
     for candidate in all {
-        if !is_numbered(answer, candidate.foundation(), count) {
+        if !is_session_numbered(answer, candidate.foundation(), count) {
             answer.show(&count);
             return answer.push(" in order, then others");
         }
@@ -148,7 +150,7 @@ fn show_count_of(answer: &mut Answer, all: DistinctCandidates<'_>) {
     answer.push(" in order");
 }
 
-fn is_numbered(answer: &mut Answer, foundation: &str, number: u32) -> bool {
+fn is_session_numbered(answer: &mut Answer, foundation: &str, number: u32) -> bool {
     let number = number.to_string(answer.alloc());
     match answer.made(&number) {
         Some(number) => foundation == number.as_str(),

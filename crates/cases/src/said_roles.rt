@@ -9,7 +9,7 @@ pub(crate) fn answers(answer: &mut Answer, word: &str, text: &str) -> bool {
     match word {
         "roles" => roles(answer, text),
         "role-answered" => answering_role(answer, text),
-        "carries" => carries(answer, text),
+        "carries" => carries_role(answer, text),
         _ => return false,
     }
     true
@@ -19,7 +19,7 @@ pub(crate) fn answers(answer: &mut Answer, word: &str, text: &str) -> bool {
 fn roles(answer: &mut Answer, text: &str) {
     let (own, remote) = text.split_once(' ').unwrap_or((text, ""));
     match (role(answer, own), role(answer, remote)) {
-        (Some(own), Some(remote)) => settled(answer, own, remote),
+        (Some(own), Some(remote)) => settled_role(answer, own, remote),
         _ => answer.no_such("role"),
     }
 }
@@ -39,15 +39,15 @@ fn role(answer: &mut Answer, word: &str) -> Option<Setup> {
     }
 }
 
-fn settled(answer: &mut Answer, own: Setup, remote: Setup) {
-    answer.push(word_of(own.compare_to_remote(remote)));
+fn settled_role(answer: &mut Answer, own: Setup, remote: Setup) {
+    answer.push(role_word_of(own.compare_to_remote(remote)));
     answer.push(" | ");
-    answer.push(word_of(remote.compare_to_remote(own)));
+    answer.push(role_word_of(remote.compare_to_remote(own)));
     answer.push(", inverted twice ");
     answer.push(own.invert().invert().setup_line());
 }
 
-fn word_of(role: Option<Setup>) -> &'static str {
+fn role_word_of(role: Option<Setup>) -> &'static str {
     match role {
         None => "none",
         Some(Setup::ActPass) => "actpass",
@@ -57,7 +57,7 @@ fn word_of(role: Option<Setup>) -> &'static str {
 }
 
 /// What a section of this m-line carries.
-fn carries(answer: &mut Answer, head: &str) {
+fn carries_role(answer: &mut Answer, head: &str) {
     let alloc = answer.alloc();
     let lines = format!(in alloc; "{head}\r\na=mid:0\r\na=inactive\r\n");
     let lines = answer.kept(lines, String::new(alloc));

@@ -1,6 +1,6 @@
 //! The rows that sections describe, as `sdpshow rows` prints them without the mid.
 
-use crate::spoken::{behind_header, fail, section};
+use crate::spoken::{fail_to_speak, section, spoken_behind_header};
 use format_cases::Answer;
 use std::fmt::Display;
 use str0m_signal::{
@@ -13,8 +13,8 @@ pub(crate) fn answers(answer: &mut Answer, word: &str, text: &str) -> bool {
     match word {
         "rows" => rows(answer, text),
         "section-rows" => rows_alone(answer, text),
-        "row-feedback" => feedback_of_first(answer, text),
-        "spec-of" => spec_and_back(answer, text),
+        "row-feedback" => first_row_feedback(answer, text),
+        "spec-of" => row_spec_and_back(answer, text),
         _ => return false,
     }
     true
@@ -22,7 +22,7 @@ pub(crate) fn answers(answer: &mut Answer, word: &str, text: &str) -> bool {
 
 /// The rows of each section of a description, a line each, and a line of what is left of the text.
 fn rows(answer: &mut Answer, text: &str) {
-    let text = behind_header(answer, text);
+    let text = spoken_behind_header(answer, text);
     let read = sdp_parser(answer.alloc(), text.as_str());
     rows_read(answer, &read);
 }
@@ -30,7 +30,7 @@ fn rows(answer: &mut Answer, text: &str) {
 fn rows_read(answer: &mut Answer, read: &Result<(Sdp, &str), SdpError>) {
     match read {
         Ok((sdp, rest)) => show_section_rows(answer, sdp, rest),
-        Err(error) => fail(answer, error),
+        Err(error) => fail_to_speak(answer, error),
     }
 }
 
@@ -73,22 +73,22 @@ fn show_row(answer: &mut Answer, row: &PayloadParams) {
     answer.push(" ");
     answer.show_or(&row.red(), "-");
     answer.push(" ");
-    show_spec(answer, &row.spec());
+    show_row_spec(answer, &row.spec());
 }
 
 /// The mapping that a spec stands for, and its format.
-fn show_spec(answer: &mut Answer, spec: &CodecSpec) {
+fn show_row_spec(answer: &mut Answer, spec: &CodecSpec) {
     answer.show(&RtpMap {
         codec: spec.codec,
         clock_rate: spec.clock_rate,
         channels: spec.channels,
     });
     answer.push(" ");
-    show_format(answer, &spec.format);
+    show_row_format(answer, &spec.format);
 }
 
 /// The format, and `-` for what prints nothing.
-pub(crate) fn show_format(answer: &mut Answer, format: &FormatParams) {
+pub(crate) fn show_row_format(answer: &mut Answer, format: &FormatParams) {
     let printed = printed(answer, format);
     answer.push(printed.as_str());
     answer.push_if(printed.is_empty(), "-");
@@ -101,32 +101,32 @@ pub(crate) fn printed<T: Display>(answer: &mut Answer, value: &T) -> String {
 }
 
 /// The feedback of the first row of a section.
-fn feedback_of_first(answer: &mut Answer, text: &str) {
+fn first_row_feedback(answer: &mut Answer, text: &str) {
     let section = section(answer, text);
     let rows = section.rtp_params();
     if let Some(rows) = answer.made(&rows) {
-        show_feedback_of_first(answer, rows.as_slice());
+        show_first_row_feedback(answer, rows.as_slice());
     }
 }
 
-fn show_feedback_of_first(answer: &mut Answer, rows: &[PayloadParams]) {
+fn show_first_row_feedback(answer: &mut Answer, rows: &[PayloadParams]) {
     match rows.first() {
         None => answer.push("no rows"),
-        Some(row) => show_feedback(answer, row),
+        Some(row) => show_row_feedback(answer, row),
     }
 }
 
 /// Which feedback of a row is on.
-fn show_feedback(answer: &mut Answer, row: &PayloadParams) {
-    add_if(answer, "transport-cc", row.fb_transport_cc());
-    add_if(answer, "goog-remb", row.fb_remb());
-    add_if(answer, "ccm fir", row.fb_fir());
-    add_if(answer, "nack", row.fb_nack());
-    add_if(answer, "nack pli", row.fb_pli());
+fn show_row_feedback(answer: &mut Answer, row: &PayloadParams) {
+    add_row_feedback_if(answer, "transport-cc", row.fb_transport_cc());
+    add_row_feedback_if(answer, "goog-remb", row.fb_remb());
+    add_row_feedback_if(answer, "ccm fir", row.fb_fir());
+    add_row_feedback_if(answer, "nack", row.fb_nack());
+    add_row_feedback_if(answer, "nack pli", row.fb_pli());
     answer.or_word("none");
 }
 
-fn add_if(answer: &mut Answer, feedback: &str, is_on: bool) {
+fn add_row_feedback_if(answer: &mut Answer, feedback: &str, is_on: bool) {
     if is_on {
         answer.item(" + ");
         answer.push(feedback);
@@ -134,23 +134,23 @@ fn add_if(answer: &mut Answer, feedback: &str, is_on: bool) {
 }
 
 /// What a mapping makes of a row, and the mapping that this stands for.
-fn spec_and_back(answer: &mut Answer, text: &str) {
+fn row_spec_and_back(answer: &mut Answer, text: &str) {
     let alloc = answer.alloc();
     let line = answer.kept(format!(in alloc; "a=rtpmap:96 {text}"), String::new(alloc));
     let section = section(answer, line.as_str());
-    mapping_both_ways(answer, section.attrs.as_slice());
+    row_mapping_both_ways(answer, section.attrs.as_slice());
 }
 
-fn mapping_both_ways(answer: &mut Answer, said: &[MediaAttribute]) {
+fn row_mapping_both_ways(answer: &mut Answer, said: &[MediaAttribute]) {
     match said.first() {
-        Some(MediaAttribute::RtpMap { value, .. }) => both_ways(answer, *value),
+        Some(MediaAttribute::RtpMap { value, .. }) => row_both_ways(answer, *value),
         _ => answer.push("no mapping"),
     }
 }
 
-fn both_ways(answer: &mut Answer, map: RtpMap) {
+fn row_both_ways(answer: &mut Answer, map: RtpMap) {
     let spec = CodecSpec::from(map);
-    show_spec(answer, &spec);
+    show_row_spec(answer, &spec);
     let back = RtpMap::from(spec);
     answer.push(", back ");
     answer.show(&back);

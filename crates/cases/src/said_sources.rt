@@ -32,25 +32,25 @@ fn show_sources(answer: &mut Answer, sources: &[SsrcInfo]) {
     for info in sources {
         let copy = info.clone();
         if let Some(copy) = answer.made(&copy) {
-            show_one(answer, copy);
+            show_source(answer, copy);
         }
     }
 }
 
 /// A source, the one that it repairs, and its names, as far as they are said.
-fn show_one(answer: &mut Answer, info: &SsrcInfo) {
+fn show_source(answer: &mut Answer, info: &SsrcInfo) {
     answer.item("\n");
     answer.show(&info.ssrc);
     if let Some(repaired) = info.repairs {
         answer.push(" repairs ");
         answer.show(&repaired);
     }
-    add_name(answer, " cname ", &info.cname);
-    add_name(answer, " stream ", &info.stream_id);
-    add_name(answer, " track ", &info.track_id);
+    add_source_name(answer, " cname ", &info.cname);
+    add_source_name(answer, " stream ", &info.stream_id);
+    add_source_name(answer, " track ", &info.track_id);
 }
 
-fn add_name(answer: &mut Answer, label: &str, name: &Option<Text>) {
+fn add_source_name(answer: &mut Answer, label: &str, name: &Option<Text>) {
     if let Some(name) = name {
         answer.push(label);
         answer.push(name.as_str());

@@ -1,11 +1,11 @@
 //! What sessions and sections hold, a line for each part.
 
-use crate::lines::{push_printed, show};
+use crate::lines::{push_printed, show_line};
 use format_cases::Answer;
 use str0m_signal::{Bandwidth, MediaLine, Proto, Pt, Session};
 
 /// What begins the line of a part under its head.
-const PART: &str = "\n  ";
+const SECTION_PART: &str = "\n  ";
 
 /// Appends the session's number, its bandwidth and its attributes.
 pub(crate) fn append_session(answer: &mut Answer, session: &Session) {
@@ -13,22 +13,22 @@ pub(crate) fn append_session(answer: &mut Answer, session: &Session) {
     answer.show(&*session.id);
     append_bandwidth(answer, &session.bw);
     for attribute in session.attrs.as_slice() {
-        answer.push(PART);
-        show(answer, attribute);
+        answer.push(SECTION_PART);
+        show_line(answer, attribute);
     }
 }
 
 /// Appends what the section's m-line says, its bandwidth and its attributes.
 pub(crate) fn append_section(answer: &mut Answer, section: &MediaLine) {
-    append_head(answer, section);
+    append_section_head(answer, section);
     append_bandwidth(answer, &section.bw);
     for attribute in section.attrs.as_slice() {
-        answer.push(PART);
-        show(answer, attribute);
+        answer.push(SECTION_PART);
+        show_line(answer, attribute);
     }
 }
 
-fn append_head(answer: &mut Answer, section: &MediaLine) {
+fn append_section_head(answer: &mut Answer, section: &MediaLine) {
     answer.push("\nsection ");
     answer.show(&section.typ);
     answer.push(if section.disabled {
@@ -40,11 +40,11 @@ fn append_head(answer: &mut Answer, section: &MediaLine) {
         Proto::Srtp => ", SRTP, ",
         Proto::Sctp => ", SCTP, ",
     });
-    append_types(answer, section.pts.as_slice());
+    append_section_types(answer, section.pts.as_slice());
 }
 
 /// The payload types of an m-line, in order.
-fn append_types(answer: &mut Answer, pts: &[Pt]) {
+fn append_section_types(answer: &mut Answer, pts: &[Pt]) {
     answer.push(if pts.is_empty() {
         "no payload types"
     } else {
@@ -58,7 +58,7 @@ fn append_types(answer: &mut Answer, pts: &[Pt]) {
 
 fn append_bandwidth(answer: &mut Answer, bandwidth: &Option<Bandwidth>) {
     if let Some(bandwidth) = bandwidth {
-        answer.push(PART);
+        answer.push(SECTION_PART);
         push_printed(answer, bandwidth);
     }
 }

@@ -6,16 +6,19 @@ use str0m_signal::{
 };
 
 /// A header with nothing that may be left out.
-const HEADER: &str = "v=0\r\no=- 1 1 IN IP4 127.0.0.1\r\ns=-\r\nt=0 0\r\n";
+const SPOKEN_HEADER: &str = "v=0\r\no=- 1 1 IN IP4 127.0.0.1\r\ns=-\r\nt=0 0\r\n";
 
 /// The header, and these lines after it.
-pub(crate) fn behind_header(answer: &mut Answer, lines: &str) -> String {
+pub(crate) fn spoken_behind_header(answer: &mut Answer, lines: &str) -> String {
     let alloc = answer.alloc();
-    answer.kept(format!(in alloc; "{HEADER}{lines}"), String::new(alloc))
+    answer.kept(
+        format!(in alloc; "{SPOKEN_HEADER}{lines}"),
+        String::new(alloc),
+    )
 }
 
 /// Answers why a text is refused, and nothing else.
-pub(crate) fn fail(answer: &mut Answer, error: &SdpError) {
+pub(crate) fn fail_to_speak(answer: &mut Answer, error: &SdpError) {
     match error {
         SdpError::Memory => answer.refuse(),
         error => answer.fail(error),
@@ -24,11 +27,11 @@ pub(crate) fn fail(answer: &mut Answer, error: &SdpError) {
 
 /// What the header and these lines describe; a line that fits nowhere ends it.
 pub(crate) fn description(answer: &mut Answer, lines: &str) -> Option<Sdp> {
-    let text = behind_header(answer, lines);
+    let text = spoken_behind_header(answer, lines);
     match sdp_parser(answer.alloc(), text.as_str()) {
         Ok((sdp, _)) => Some(sdp),
         Err(error) => {
-            fail(answer, &error);
+            fail_to_speak(answer, &error);
             None
         }
     }
@@ -36,11 +39,11 @@ pub(crate) fn description(answer: &mut Answer, lines: &str) -> Option<Sdp> {
 
 /// A session with these attribute lines.
 pub(crate) fn session(answer: &mut Answer, lines: &str) -> Option<Session> {
-    let text = behind_header(answer, lines);
+    let text = spoken_behind_header(answer, lines);
     match session_parser(answer.alloc(), text.as_str()) {
         Ok((session, _)) => Some(session),
         Err(error) => {
-            fail(answer, &error);
+            fail_to_speak(answer, &error);
             None
         }
     }
@@ -50,7 +53,7 @@ pub(crate) fn session(answer: &mut Answer, lines: &str) -> Option<Session> {
 pub(crate) fn add_attribute(answer: &mut Answer, section: &mut MediaLine, line: &str) {
     match media_attribute_line(answer.alloc(), line) {
         Ok((attribute, _)) => answer.note(section.attrs.push(attribute)),
-        Err(error) => fail(answer, &error),
+        Err(error) => fail_to_speak(answer, &error),
     }
 }
 

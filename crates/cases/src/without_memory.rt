@@ -1,6 +1,6 @@
 //! Descriptions that are read while nothing else is given memory.
 
-use crate::spoken::behind_header;
+use crate::spoken::spoken_behind_header;
 use format_cases::Answer;
 use std::alloc::{AllocError, Global};
 use str0m_signal::{SdpError, sdp_parser};
@@ -11,7 +11,7 @@ const HELD: usize = 54_321;
 
 /// What reading these lines after a header comes to.
 pub(crate) fn read(answer: &mut Answer, lines: &str) {
-    let text = behind_header(answer, lines);
+    let text = spoken_behind_header(answer, lines);
     let outcome = outcome(answer.alloc(), text.as_str());
     let outcome = answer.kept(outcome, "");
     answer.push(outcome);

@@ -1,7 +1,7 @@
 //! Whether sessions are writable, as they are read and with one change that no text makes.
 
 use crate::escapes::push_escaped;
-use crate::held_texts::{in_section, in_session, one, text_of};
+use crate::held_texts::{in_section, in_session, one_held_item, text_of};
 use crate::spoken::description;
 use format_cases::Answer;
 use str0m_signal::{
@@ -10,7 +10,7 @@ use str0m_signal::{
 };
 
 /// Two audio sections.
-const TWO: &str =
+const WRITABLE_SECTIONS: &str =
     "m=audio 9 UDP/TLS/RTP/SAVPF 0\r\na=mid:0\r\na=sendrecv\r\nm=audio 9 UDP/TLS/RTP/SAVPF 0\r\na=mid:1\r\na=sendrecv\r\n";
 
 /// Answers what the word asks of the text; whether it is one of these words.
@@ -26,7 +26,7 @@ pub(crate) fn answers(answer: &mut Answer, word: &str, text: &str) -> bool {
 /// `INDEX LINES | CHANGE`: whether the changed description is writable at the index.
 fn writable(answer: &mut Answer, text: &str) {
     let (index, text) = text.split_once(' ').unwrap_or((text, ""));
-    if let Some(sdp) = &changed(answer, text) {
+    if let Some(sdp) = &changed_attribute(answer, text) {
         push_writable_at(answer, sdp, index);
     }
 }
@@ -48,8 +48,8 @@ fn push_writable(answer: &mut Answer, sdp: &Sdp, index: usize) {
 /// `printed-with CHANGE`: what the change adds to the printed text of two sections, and whether the first and the second
 /// are writable then.
 fn printed_with(answer: &mut Answer, change: &str) {
-    if let Some(mut sdp) = description(answer, TWO) {
-        change_description(answer, &mut sdp, change);
+    if let Some(mut sdp) = description(answer, WRITABLE_SECTIONS) {
+        change_writable_description(answer, &mut sdp, change);
         show_offer(answer, &SdpOffer::from(sdp));
     }
 }
@@ -57,7 +57,7 @@ fn printed_with(answer: &mut Answer, change: &str) {
 fn show_offer(answer: &mut Answer, offer: &SdpOffer) {
     let printed = offer.to_sdp_string();
     if let Some(printed) = answer.made(&printed) {
-        push_added_to_two(answer, printed.as_str());
+        push_added_to_writable(answer, printed.as_str());
     }
     answer.push("\nwritable ");
     push_writable(answer, offer, 0);
@@ -66,8 +66,8 @@ fn show_offer(answer: &mut Answer, offer: &SdpOffer) {
 }
 
 /// What stands in the printed text beside what the two sections print.
-fn push_added_to_two(answer: &mut Answer, printed: &str) {
-    if let Some(sdp) = &description(answer, TWO) {
+fn push_added_to_writable(answer: &mut Answer, printed: &str) {
+    if let Some(sdp) = &description(answer, WRITABLE_SECTIONS) {
         let (session, before) = (answer.printed(&sdp.session), answer.printed(sdp));
         let added = added(printed, before.as_str(), session.as_str());
         push_escaped(answer, added);
@@ -86,17 +86,17 @@ fn added<'a>(printed: &'a str, before: &str, session: &str) -> &'a str {
 }
 
 /// `LINES | CHANGE`: the description of the lines, changed.
-pub(crate) fn changed(answer: &mut Answer, text: &str) -> Option<Sdp> {
+pub(crate) fn changed_attribute(answer: &mut Answer, text: &str) -> Option<Sdp> {
     let (lines, change) = text.split_once(" | ").unwrap_or((text, ""));
     let mut sdp = description(answer, lines);
     if let Some(sdp) = &mut sdp {
-        change_description(answer, sdp, change);
+        change_writable_description(answer, sdp, change);
     }
     sdp
 }
 
 /// Changes what the first word names: `session`, or a section by its number.
-fn change_description(answer: &mut Answer, sdp: &mut Sdp, change: &str) {
+fn change_writable_description(answer: &mut Answer, sdp: &mut Sdp, change: &str) {
     let (place, change) = change.split_once(' ').unwrap_or((change, ""));
     let (change, text) = change.split_once(' ').unwrap_or((change, ""));
     match place.parse::<usize>() {
@@ -108,7 +108,7 @@ fn change_description(answer: &mut Answer, sdp: &mut Sdp, change: &str) {
 fn change_session(answer: &mut Answer, session: &mut Session, change: &str, text: &str) {
     match change {
         "" => {}
-        "bandwidth" => session.bw = Some(bandwidth(answer, text)),
+        "bandwidth" => session.bw = Some(changed_bandwidth(answer, text)),
         "mixed" => answer.note(session.attrs.push(SessionAttribute::AllowMixedExts)),
         field => {
             let attribute = in_session(answer, field, text);
@@ -129,7 +129,7 @@ fn change_section(
             "type" => section.typ = MediaType::Unknown(text_of(answer, text)),
             "sctp" => section.proto = Proto::Sctp,
             "srtp" => section.proto = Proto::Srtp,
-            "bandwidth" => section.bw = Some(bandwidth(answer, text)),
+            "bandwidth" => section.bw = Some(changed_bandwidth(answer, text)),
             _ => change_attributes(answer, &mut section.attrs, change, text),
         }
     }
@@ -153,7 +153,7 @@ fn change_attributes(
 }
 
 /// The type and value that stand before and after the first colon.
-fn bandwidth(answer: &mut Answer, text: &str) -> Bandwidth {
+fn changed_bandwidth(answer: &mut Answer, text: &str) -> Bandwidth {
     let (typ, val) = text.split_once(':').unwrap_or((text, ""));
     Bandwidth {
         typ: text_of(answer, typ),
@@ -163,18 +163,18 @@ fn bandwidth(answer: &mut Answer, text: &str) -> Bandwidth {
 
 fn attribute(answer: &mut Answer, word: &str, text: &str) -> MediaAttribute {
     match word {
-        "events" => fmtp_of(answer, FormatParam::TelephoneEvents(15)),
-        "red" => fmtp_of(answer, FormatParam::Red(Pt::from(111))),
-        "distance" => fmtp_of(answer, FormatParam::SpropMaxDonDiff(40_000)),
-        "unknown" => fmtp_of(answer, FormatParam::Unknown),
+        "events" => changed_fmtp_of(answer, FormatParam::TelephoneEvents(15)),
+        "red" => changed_fmtp_of(answer, FormatParam::Red(Pt::from(111))),
+        "distance" => changed_fmtp_of(answer, FormatParam::SpropMaxDonDiff(40_000)),
+        "unknown" => changed_fmtp_of(answer, FormatParam::Unknown),
         field => in_section(answer, field, text),
     }
 }
 
 /// An fmtp line of the payload type 96 with this value alone.
-fn fmtp_of(answer: &mut Answer, value: FormatParam) -> MediaAttribute {
+fn changed_fmtp_of(answer: &mut Answer, value: FormatParam) -> MediaAttribute {
     MediaAttribute::Fmtp {
         pt: Pt::from(96),
-        values: one(answer, value),
+        values: one_held_item(answer, value),
     }
 }

@@ -1,10 +1,14 @@
 -- The names that proofs cite from elsewhere, passed on from one place. Declares nothing.
-pub use Rattle.exchange.specs.Prelude.{Alike, AllDistinct, Answers, AnswersDirection, AreDistinct, AtMostOne, Candidate, Consistent}
-pub use Rattle.exchange.specs.Prelude.{Direction, Fingerprint, FirstLine, HasBoundedRows, HasVideoFeedback, Holds, IceCreds}
+pub use Rattle.exchange.specs.Prelude.{Alike, AllTypesDistinct, Answers, AnswersDirection, AreMidsDistinct, AtMostOne, Candidate}
+pub use Rattle.exchange.specs.Prelude.{Consistent}
+pub use Rattle.exchange.specs.Prelude.{Direction, Fingerprint, FirstLine, HasBoundedRows, HasVideoFeedback, HoldsMids, IceCreds}
 pub use Rattle.exchange.specs.Prelude.{IsCandidateLine, IsFromLine, IsPlain, IsPreferred, IsReading, Line, Lines, LockedStay}
-pub use Rattle.exchange.specs.Prelude.{MediaAttribute, MediaKind, MediaLine, MediaType, Negotiated, Outcome, PayloadParams, Proto, Reached}
+pub use Rattle.exchange.specs.Prelude.{MediaAttribute, MediaKind, MediaLine, MediaType, Negotiated, Outcome, PayloadParams, Proto}
+pub use Rattle.exchange.specs.Prelude.{RunReached}
 pub use Rattle.exchange.specs.Prelude.{Reading, Refuses, Sdp, Session, SessionAttribute, Setup, SimulcastLayer, bundled_of, creds}
-pub use Rattle.exchange.specs.Prelude.{direction_attribute, distinct, first, first_filled, has, is_held, is_listed, is_media, is_mid}
+pub use Rattle.exchange.specs.Prelude.{direction_attribute, distinct, first, first_filled_fingerprints, has, is_mid_held, is_group_listed}
+pub use Rattle.exchange.specs.Prelude.{is_media}
+pub use Rattle.exchange.specs.Prelude.{is_mid}
 pub use Rattle.exchange.specs.Prelude.{is_of_type, kind_rows, locked_types, made, maps, media_pwd, media_ufrag, mid_of, receives, row_attrs}
 pub use Rattle.exchange.specs.Prelude.{rows, section_direction, section_mids, session_pwd, session_ufrag, types, types_of, versioned_text}
 pub use Rattle.exchange.specs.Prelude.{◌>>=◌}
@@ -33,15 +37,17 @@ pub use Rattle.std.proofs.lemmas.Slice.Zip.{AllZip-long, AllZip-right}
 pub use Rattle.std.specs.BTreeSet.{Updates, contains}
 pub use Rattle.std.specs.Cmp.Lexicographic.{pointwise, slice_cmp}
 pub use Rattle.std.specs.List.{AllZip, cons_option, list_any}
-pub use Rattle.str0m_formats.proofs.{bytes_itself, slice_get_item, one_if, times-append, times-cons, times-none, stays-same, stays-then}
-pub use Rattle.str0m_formats.proofs.{at_place, row_before}
+pub use Rattle.str0m_formats.proofs.{pair_key_bytes_itself, claimed_slice_get_item, one_time_if, type_times-append, type_times-cons}
+pub use Rattle.str0m_formats.proofs.{type_times-none}
+pub use Rattle.str0m_formats.proofs.{locked-stays-same, locked-stays-then}
+pub use Rattle.str0m_formats.proofs.{pass_at_place, row_before}
 pub use Rattle.str0m_formats.specs.declared.format.format_param.FormatParam.{FormatParam}
 pub use Rattle.str0m_formats.specs.declared.round.rounds.Round.{Round}
 pub use Rattle.str0m_formats.specs.declared.row.codec_config.CodecConfig.{CodecConfig}
-pub use Rattle.str0m_formats.specs.round.Claimed.{times}
+pub use Rattle.str0m_formats.specs.round.Claimed.{type_times}
 pub use Rattle.str0m_formats.specs.round.RoundsPromises.{StaysLocked}
 pub use Rattle.str0m_sdp.proofs.{map_more, one_mapped, first_by_find_map, first_from_find_map, filter_map_more, filter_map_same}
-pub use Rattle.str0m_sdp.proofs.{count-append, uncounted, holds_before, holds_behind}
+pub use Rattle.str0m_sdp.proofs.{row_count-append, rows_uncounted, mids_holds_before, mids_holds_behind}
 pub use Rattle.str0m_sdp.specs.declared.attribute.MediaAttribute.TheVariants.{Fmtp, RtcpFb, Unused}
 pub use Rattle.str0m_sdp.specs.declared.attribute.media_type.MediaType.TheVariants.{Application, Audio, Unknown, Video}
 pub use Rattle.str0m_sdp.specs.declared.attribute.proto.Proto.TheVariants.{Sctp, Srtp}
@@ -52,4 +58,4 @@ pub use Rattle.str0m_sdp.specs.declared.session.error.SdpError.TheVariants.{Inco
 pub use Rattle.str0m_sdp.specs.section.RowAttributes.{feedback_attrs, feedback_line, fmtp_line, format_attrs, format_values, red_attrs}
 pub use Rattle.str0m_sdp.specs.section.RowAttributes.{red_lines, rtx_attrs, rtx_lines}
 pub use Rattle.str0m_sdp.specs.session.SessionConsistency.{section_mid}
-pub use Rattle.str0m_signal.proofs.{joined-append, line_feeds, line_number}
+pub use Rattle.str0m_signal.proofs.{lines_joined-append, line_feeds, line_number}

@@ -8,15 +8,15 @@ use str0m_values::{IpAddr, SocketAddr};
 pub(crate) fn answers(answer: &mut Answer, word: &str, text: &str) -> bool {
     match word {
         "address" => answer.show_or(&IpAddr::from_text(text), "none"),
-        "address-numbers" => numbers(answer, text),
-        "socket" => socket(answer, text),
+        "address-numbers" => address_numbers(answer, text),
+        "socket" => socket_address(answer, text),
         _ => return false,
     }
     true
 }
 
 /// The octets or groups.
-fn numbers(answer: &mut Answer, text: &str) {
+fn address_numbers(answer: &mut Answer, text: &str) {
     match IpAddr::from_text(text) {
         Some(address) => answer.debug(&address),
         None => answer.push("none"),
@@ -24,7 +24,7 @@ fn numbers(answer: &mut Answer, text: &str) {
 }
 
 /// An address with a port.
-fn socket(answer: &mut Answer, text: &str) {
+fn socket_address(answer: &mut Answer, text: &str) {
     let (ip, port) = text.split_once(' ').unwrap_or((text, ""));
     match (IpAddr::from_text(ip), num_u16(port)) {
         (Some(ip), Some(port)) => answer.show(&SocketAddr { ip, port }),

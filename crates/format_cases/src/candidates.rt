@@ -57,10 +57,10 @@ fn candidate_parts(answer: &mut Answer, found: &Candidate) {
     candidate_socket(answer, Some(found.addr()));
     answer.push("\nkind ");
     answer.debug(&found.kind());
-    further_parts(answer, found);
+    further_candidate_parts(answer, found);
 }
 
-fn further_parts(answer: &mut Answer, found: &Candidate) {
+fn further_candidate_parts(answer: &mut Answer, found: &Candidate) {
     answer.push("\nrelated address ");
     candidate_socket(answer, found.raddr());
     answer.push("\nTCP type ");
@@ -88,10 +88,14 @@ fn candidate_socket(answer: &mut Answer, socket: Option<SocketAddr>) {
 fn again(answer: &mut Answer, found: &Candidate) {
     let printed = printed(answer, found);
     let read = candidate(answer.alloc(), printed.as_str());
-    compared(answer, found, &read);
+    compared_candidates(answer, found, &read);
 }
 
-fn compared(answer: &mut Answer, found: &Candidate, read: &Result<Option<Candidate>, AllocError>) {
+fn compared_candidates(
+    answer: &mut Answer,
+    found: &Candidate,
+    read: &Result<Option<Candidate>, AllocError>,
+) {
     match read {
         Ok(Some(again)) if again == found => answer.push("the same"),
         Ok(Some(_)) => answer.push("another"),

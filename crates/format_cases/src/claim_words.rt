@@ -2,7 +2,7 @@
 //! one. What is asked is asked of every table, and answered where all answer the same.
 
 use crate::answer::Answer;
-use crate::row_texts::type_of;
+use crate::row_texts::row_type_of;
 use crate::row_words::sides;
 use str0m_formats::{ClaimMask, Claimed};
 use str0m_values::Pt;
@@ -10,14 +10,14 @@ use str0m_values::Pt;
 /// Claims the types of a range, as `96-127`, or the one type.
 fn claim_range<C: Claimed>(answer: &mut Answer, set: &mut C, range: &str) {
     let (first, last) = range.split_once('-').unwrap_or((range, range));
-    let (first, last) = (type_of(answer, first), type_of(answer, last));
+    let (first, last) = (row_type_of(answer, first), row_type_of(answer, last));
     for pt in first.value()..=last.value() {
         let _ = set.claim_once(Pt::from(pt));
     }
 }
 
 /// The set of these ranges.
-fn set_of<C: Claimed>(answer: &mut Answer, text: &str) -> C {
+fn claim_set_of<C: Claimed>(answer: &mut Answer, text: &str) -> C {
     let mut set = C::none_claimed();
     if text != "none" {
         for range in text.split(' ') {
@@ -28,7 +28,7 @@ fn set_of<C: Claimed>(answer: &mut Answer, text: &str) -> C {
 }
 
 /// The types that stand in a set.
-fn show_set<C: Claimed>(answer: &mut Answer, set: &C) {
+fn show_claim_set<C: Claimed>(answer: &mut Answer, set: &C) {
     let mut separator = "";
     for number in 0_u8..=255 {
         let pt = Pt::from(number);
@@ -45,12 +45,12 @@ fn show_set<C: Claimed>(answer: &mut Answer, set: &C) {
 fn claims_in<C: Claimed>(answer: &mut Answer, text: &str) {
     let mut set = C::none_claimed();
     for one in text.split(' ') {
-        let is_new = set.claim_once(type_of(answer, one));
+        let is_new = set.claim_once(row_type_of(answer, one));
         answer.item(", ");
         answer.push(if is_new { "yes" } else { "no" });
     }
     answer.push(": ");
-    show_set(answer, &set);
+    show_claim_set(answer, &set);
 }
 
 /// `claims TYPE TYPE`: whether each type can be claimed, one after the other, and which types are claimed then.
@@ -61,27 +61,27 @@ pub(crate) fn claims(answer: &mut Answer, text: &str) {
     if of_table.is_refused() {
         answer.refuse();
     } else if answer.text() != of_table.text() {
-        answer.settle(DIFFERS);
+        answer.settle(CLAIMS_DIFFER);
     }
 }
 
 /// The answer where two tables of claims answer in two ways.
-pub(crate) const DIFFERS: &str = "two tables of claims differ";
+pub(crate) const CLAIMS_DIFFER: &str = "two tables of claims differ";
 
 fn unclaimed_in<C: Claimed>(answer: &mut Answer, claimed: &str, unlocked: &str) -> Option<Pt> {
-    let claimed: C = set_of(answer, claimed);
-    let unlocked: C = set_of(answer, unlocked);
+    let claimed: C = claim_set_of(answer, claimed);
+    let unlocked: C = claim_set_of(answer, unlocked);
     claimed.find_unclaimed(&unlocked)
 }
 
 /// `unclaimed SET | SET`: the first type that is in neither set, of which the second has the types of open rows.
-pub(crate) fn unclaimed(answer: &mut Answer, text: &str) {
+pub(crate) fn unclaimed_types(answer: &mut Answer, text: &str) {
     let (claimed, unlocked) = sides(answer, text);
     let table = unclaimed_in::<[bool; 128]>(answer, claimed, unlocked);
     let mask = unclaimed_in::<ClaimMask>(answer, claimed, unlocked);
     if mask == table {
         answer.show_or(&mask, "none");
     } else {
-        answer.settle(DIFFERS);
+        answer.settle(CLAIMS_DIFFER);
     }
 }

@@ -2,7 +2,7 @@
 
 use crate::answer::Answer;
 use crate::lists::word;
-use crate::row_texts::{byte_of, codec_of, row_of, rows_of, type_of, type_or_dash};
+use crate::row_texts::{codec_of, row_byte_of, row_of, row_type_of, row_type_or_dash, rows_of};
 use std::alloc::AllocError;
 use str0m_formats::{Codec, CodecConfig};
 
@@ -23,7 +23,7 @@ fn enable_audio(
 }
 
 /// Enables or disables what can have no RED; none of what can have one.
-fn enable_other(
+fn enable_other_codec(
     config: &mut CodecConfig,
     codec: Codec,
     is_on: bool,
@@ -42,7 +42,7 @@ fn enable_other(
 }
 
 /// `enable CODEC`, `enable CODEC red` or `enable CODEC plain`: with RED, or without it where it could have one.
-fn enable(
+fn enable_codec(
     answer: &mut Answer,
     config: &mut CodecConfig,
     text: &str,
@@ -53,7 +53,7 @@ fn enable(
     let enabled = match red {
         "red" => enable_audio(config, codec, is_on, true),
         "plain" => enable_audio(config, codec, is_on, false),
-        "" => enable_other(config, codec, is_on),
+        "" => enable_other_codec(config, codec, is_on),
         _ => None,
     };
     if enabled.is_none() {
@@ -63,7 +63,11 @@ fn enable(
 }
 
 /// `add ROW`: a row without RED.
-fn add(answer: &mut Answer, config: &mut CodecConfig, text: &str) -> Result<(), AllocError> {
+fn configure_row(
+    answer: &mut Answer,
+    config: &mut CodecConfig,
+    text: &str,
+) -> Result<(), AllocError> {
     let row = row_of(answer, text);
     let spec = row.spec();
     config.add_config(
@@ -77,7 +81,11 @@ fn add(answer: &mut Answer, config: &mut CodecConfig, text: &str) -> Result<(), 
 }
 
 /// `h264 TYPE RTX MODE ID`: the mode is 0 or 1, the profile and level are hexadecimal.
-fn add_h264(answer: &mut Answer, config: &mut CodecConfig, text: &str) -> Result<(), AllocError> {
+fn configure_h264(
+    answer: &mut Answer,
+    config: &mut CodecConfig,
+    text: &str,
+) -> Result<(), AllocError> {
     let (pt, rest) = word(text);
     let (resend, rest) = word(rest);
     let (mode, id) = word(rest);
@@ -85,12 +93,12 @@ fn add_h264(answer: &mut Answer, config: &mut CodecConfig, text: &str) -> Result
     if id.is_err() || !matches!(mode, "0" | "1") {
         answer.no_such("call");
     }
-    let (pt, resend) = (type_of(answer, pt), type_or_dash(answer, resend));
+    let (pt, resend) = (row_type_of(answer, pt), row_type_or_dash(answer, resend));
     config.add_h264(pt, resend, mode == "1", id.unwrap_or(0))
 }
 
 /// `h265 TYPE RTX PROFILE TIER LEVEL`, and so of H266.
-fn add_triple(
+fn configure_triple(
     answer: &mut Answer,
     config: &mut CodecConfig,
     text: &str,
@@ -100,10 +108,10 @@ fn add_triple(
     let (resend, rest) = word(rest);
     let (profile, rest) = word(rest);
     let (tier, level) = word(rest);
-    let (pt, resend) = (type_of(answer, pt), type_or_dash(answer, resend));
-    let profile = byte_of(answer, profile, "call");
-    let tier = byte_of(answer, tier, "call");
-    let level = byte_of(answer, level, "call");
+    let (pt, resend) = (row_type_of(answer, pt), row_type_or_dash(answer, resend));
+    let profile = row_byte_of(answer, profile, "call");
+    let tier = row_byte_of(answer, tier, "call");
+    let level = row_byte_of(answer, level, "call");
     if is_h266 {
         config.add_h266(pt, resend, profile, tier, level)
     } else {
@@ -111,7 +119,10 @@ fn add_triple(
     }
 }
 
-fn set_defaults(answer: &mut Answer, config: &mut CodecConfig) -> Result<(), AllocError> {
+fn set_configuration_defaults(
+    answer: &mut Answer,
+    config: &mut CodecConfig,
+) -> Result<(), AllocError> {
     *config = CodecConfig::new_with_defaults(answer.alloc())?;
     Ok(())
 }
@@ -119,22 +130,22 @@ fn set_defaults(answer: &mut Answer, config: &mut CodecConfig) -> Result<(), All
 fn call(answer: &mut Answer, config: &mut CodecConfig, text: &str) -> Result<(), AllocError> {
     let (name, rest) = word(text);
     match name {
-        "defaults" => set_defaults(answer, config),
-        "enable" => enable(answer, config, rest, true),
-        "disable" => enable(answer, config, rest, false),
-        "add" => add(answer, config, rest),
-        "h264" => add_h264(answer, config, rest),
-        "h265" => add_triple(answer, config, rest, false),
-        "h266" => add_triple(answer, config, rest, true),
+        "defaults" => set_configuration_defaults(answer, config),
+        "enable" => enable_codec(answer, config, rest, true),
+        "disable" => enable_codec(answer, config, rest, false),
+        "add" => configure_row(answer, config, rest),
+        "h264" => configure_h264(answer, config, rest),
+        "h265" => configure_triple(answer, config, rest, false),
+        "h266" => configure_triple(answer, config, rest, true),
         _ => {
-            clear(answer, config, name);
+            clear_configuration(answer, config, name);
             Ok(())
         }
     }
 }
 
 /// The call that wants no memory.
-fn clear(answer: &mut Answer, config: &mut CodecConfig, name: &str) {
+fn clear_configuration(answer: &mut Answer, config: &mut CodecConfig, name: &str) {
     match name {
         "clear" => config.clear(),
         _ => answer.no_such("call"),
@@ -154,13 +165,13 @@ pub fn is_same(one: &CodecConfig, other: &CodecConfig) -> bool {
 }
 
 /// A copy of the configuration.
-pub(crate) fn copy_of(answer: &mut Answer, config: &CodecConfig) -> CodecConfig {
+pub(crate) fn copy_of_configuration(answer: &mut Answer, config: &CodecConfig) -> CodecConfig {
     let none = CodecConfig::empty(answer.alloc());
     answer.kept(config.clone(), none)
 }
 
 /// The configuration that the calls make of an empty one.
-pub(crate) fn made(answer: &mut Answer, calls: &str) -> CodecConfig {
+pub(crate) fn made_configuration(answer: &mut Answer, calls: &str) -> CodecConfig {
     let mut config = CodecConfig::empty(answer.alloc());
     for one in calls.split(", ") {
         call_unless_refused(answer, &mut config, one);
@@ -169,7 +180,7 @@ pub(crate) fn made(answer: &mut Answer, calls: &str) -> CodecConfig {
 }
 
 fn call_unless_refused(answer: &mut Answer, config: &mut CodecConfig, text: &str) {
-    let before = copy_of(answer, config);
+    let before = copy_of_configuration(answer, config);
     if !answer.is_refused() && call(answer, config, text).is_err() {
         answer.refuse_if(is_same(config, &before));
     }
@@ -178,7 +189,7 @@ fn call_unless_refused(answer: &mut Answer, config: &mut CodecConfig, text: &str
 /// The configuration of these rows, or after `calls` of those calls.
 pub(crate) fn config_of(answer: &mut Answer, text: &str) -> CodecConfig {
     match text.strip_prefix("calls ") {
-        Some(calls) => made(answer, calls),
+        Some(calls) => made_configuration(answer, calls),
         None => {
             let rows = rows_of(answer, text);
             CodecConfig::new_from_payload_params(answer.alloc(), rows)

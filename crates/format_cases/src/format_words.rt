@@ -3,20 +3,20 @@
 use crate::answer::Answer;
 use crate::lists::word;
 use crate::row_answers::{push_or_dash, show_codec};
-use crate::row_texts::{format_of, type_of};
+use crate::row_texts::{format_of, row_type_of};
 use std::alloc::AllocError;
 use std::fmt::Display;
 use str0m_formats::{Codec, CodecSpec, FormatParam, FormatParams};
 use str0m_values::MediaKind;
 
 /// What the value prints, and `-` for nothing.
-fn show_or_dash<T: Display>(answer: &mut Answer, value: &T) {
+fn show_format_or_dash<T: Display>(answer: &mut Answer, value: &T) {
     let printed = answer.printed(value);
     push_or_dash(answer, printed.as_str());
 }
 
 /// What packets of the codec carry.
-fn content(codec: Codec) -> &'static str {
+fn content_of_codec(codec: Codec) -> &'static str {
     match (codec.is_audio(), codec.is_video(), codec.is_tele()) {
         (true, false, false) => "audio",
         (false, true, false) => "video",
@@ -31,7 +31,7 @@ pub(crate) fn codec(answer: &mut Answer, name: &str) {
     let codec = Codec::from(name);
     answer.show(&codec);
     answer.push(" carries ");
-    answer.push(content(codec));
+    answer.push(content_of_codec(codec));
     answer.push(", stands in ");
     answer.push(match codec.kind() {
         MediaKind::Audio => "audio",
@@ -41,13 +41,13 @@ pub(crate) fn codec(answer: &mut Answer, name: &str) {
 
 /// `static TYPE`: what a payload type stands for without a mapping.
 pub(crate) fn static_type(answer: &mut Answer, text: &str) {
-    match CodecSpec::from_static_pt(type_of(answer, text)) {
-        Some(spec) => show_spec(answer, &spec),
+    match CodecSpec::from_static_pt(row_type_of(answer, text)) {
+        Some(spec) => show_codec_spec(answer, &spec),
         None => answer.push("none"),
     }
 }
 
-fn show_spec(answer: &mut Answer, spec: &CodecSpec) {
+fn show_codec_spec(answer: &mut Answer, spec: &CodecSpec) {
     show_codec(answer, spec);
     answer.push(", in RTP at ");
     answer.show(&spec.rtp_clock_rate());
@@ -67,15 +67,15 @@ fn pair<'a>(answer: &mut Answer, text: &'a str) -> (&'a str, &'a str) {
 /// `param KEY=VALUE`: the parameter that the value reads as after the key.
 pub(crate) fn param(answer: &mut Answer, text: &str) {
     let (key, value) = pair(answer, text);
-    show_or_dash(answer, &FormatParam::parse(key, value));
+    show_format_or_dash(answer, &FormatParam::parse(key, value));
 }
 
 /// `events VALUE`: what a value without a key reads as.
-pub(crate) fn events(answer: &mut Answer, value: &str) {
-    show_or_dash(answer, &FormatParam::parse_telephone_events(value));
+pub(crate) fn telephone_events(answer: &mut Answer, value: &str) {
+    show_format_or_dash(answer, &FormatParam::parse_telephone_events(value));
 }
 
-fn pairs_of<'a>(answer: &mut Answer, text: &'a str) -> Vec<(&'a str, &'a str)> {
+fn format_pairs_of<'a>(answer: &mut Answer, text: &'a str) -> Vec<(&'a str, &'a str)> {
     let mut pairs = Vec::new(answer.alloc());
     for piece in text.split(';') {
         let pair = pair(answer, piece);
@@ -84,7 +84,7 @@ fn pairs_of<'a>(answer: &mut Answer, text: &'a str) -> Vec<(&'a str, &'a str)> {
     pairs
 }
 
-fn joined(answer: &mut Answer, params: &Result<Vec<FormatParam>, AllocError>) {
+fn joined_words(answer: &mut Answer, params: &Result<Vec<FormatParam>, AllocError>) {
     match params {
         Ok(params) => show_params(answer, params.as_slice()),
         Err(_) => answer.refuse(),
@@ -96,16 +96,16 @@ fn show_params(answer: &mut Answer, params: &[FormatParam]) {
     let mut separator = "";
     for param in params {
         answer.push(separator);
-        show_or_dash(answer, param);
+        show_format_or_dash(answer, param);
         separator = " + ";
     }
 }
 
 /// `pairs KEY=VALUE;KEY=VALUE`: the parameters that pairs read as together.
 pub(crate) fn pairs(answer: &mut Answer, text: &str) {
-    let pairs = pairs_of(answer, text);
+    let pairs = format_pairs_of(answer, text);
     let read = FormatParam::parse_pairs(answer.alloc(), pairs.as_slice());
-    joined(answer, &read);
+    joined_words(answer, &read);
 }
 
 /// The format that the line says.
@@ -117,18 +117,18 @@ fn said(answer: &mut Answer, line: &str) -> FormatParams {
 /// `line LINE`: the format that the line says.
 pub(crate) fn line(answer: &mut Answer, text: &str) {
     let format = said(answer, text);
-    show_or_dash(answer, &format);
+    show_format_or_dash(answer, &format);
 }
 
 /// `parameters LINE`: the parameters of the format that the line says.
-pub(crate) fn parameters(answer: &mut Answer, text: &str) {
+pub(crate) fn parameters_of_format(answer: &mut Answer, text: &str) {
     let format = said(answer, text);
     let params = format.to_format_param(answer.alloc());
-    joined(answer, &params);
+    joined_words(answer, &params);
 }
 
 /// `triple LINE`: whose profile, tier and level the format of the line has.
-pub(crate) fn triple(answer: &mut Answer, text: &str) {
+pub(crate) fn format_triple(answer: &mut Answer, text: &str) {
     let format = said(answer, text);
     let (h265, h266) = (
         format.h265_profile_tier_level.is_some(),
@@ -143,10 +143,10 @@ pub(crate) fn triple(answer: &mut Answer, text: &str) {
 }
 
 /// `set FORMAT KEY=VALUE`: the format once the parameter is set.
-pub(crate) fn set(answer: &mut Answer, text: &str) {
+pub(crate) fn set_format(answer: &mut Answer, text: &str) {
     let (line, said) = word(text);
     let mut format = format_of(answer, line);
     let (key, value) = pair(answer, said);
     format.set_param(&FormatParam::parse(key, value));
-    show_or_dash(answer, &format);
+    show_format_or_dash(answer, &format);
 }

@@ -17,12 +17,12 @@ fn of_formats(answer: &mut Answer, word: &str, text: &str) -> bool {
         "static" => format_words::static_type(answer, text),
         "param" => format_words::param(answer, text),
         "pairs" => format_words::pairs(answer, text),
-        "set" => format_words::set(answer, text),
+        "set" => format_words::set_format(answer, text),
         "codec" => format_words::codec(answer, text),
-        "events" => format_words::events(answer, text),
+        "events" => format_words::telephone_events(answer, text),
         "line" => format_words::line(answer, text),
-        "parameters" => format_words::parameters(answer, text),
-        "triple" => format_words::triple(answer, text),
+        "parameters" => format_words::parameters_of_format(answer, text),
+        "triple" => format_words::format_triple(answer, text),
         _ => return false,
     }
     true
@@ -31,13 +31,13 @@ fn of_formats(answer: &mut Answer, word: &str, text: &str) -> bool {
 /// What is asked of configurations.
 fn of_configurations(answer: &mut Answer, word: &str, text: &str) -> bool {
     match word {
-        "configuration" => row_words::configuration(answer, text),
-        "match" => row_words::best(answer, text),
-        "meet" => row_words::met(answer, text),
+        "configuration" => row_words::configuration_rows(answer, text),
+        "match" => row_words::best_row(answer, text),
+        "meet" => row_words::met_row(answer, text),
         "kind" => row_words::kind(answer, text, false),
         "offer" => row_words::kind(answer, text, true),
-        "maximum" => row_words::maximum(answer, text),
-        "has" => row_words::has(answer, text),
+        "maximum" => row_words::row_maximum_event(answer, text),
+        "has" => row_words::has_row(answer, text),
         _ => return false,
     }
     true
@@ -46,9 +46,9 @@ fn of_configurations(answer: &mut Answer, word: &str, text: &str) -> bool {
 /// What is asked of rows.
 fn of_rows(answer: &mut Answer, word: &str, text: &str) -> bool {
     match word {
-        "score" => row_words::score(answer, text),
-        "feedback" => row_words::feedback(answer, text),
-        "probe" => row_words::probe(answer, text),
+        "score" => row_words::row_score(answer, text),
+        "feedback" => row_words::row_feedback(answer, text),
+        "probe" => row_words::row_for_probe(answer, text),
         "plain" => plain_rows::plain(answer, text),
         _ => return false,
     }
@@ -59,9 +59,9 @@ fn of_rows(answer: &mut Answer, word: &str, text: &str) -> bool {
 fn of_rounds(answer: &mut Answer, word: &str, text: &str) -> bool {
     match word {
         "rounds" => round_words::rounds(answer, text),
-        "together" => round_words::together(answer, text),
+        "together" => round_words::run_rounds_together(answer, text),
         "claims" => claim_words::claims(answer, text),
-        "unclaimed" => claim_words::unclaimed(answer, text),
+        "unclaimed" => claim_words::unclaimed_types(answer, text),
         "distances" => round_words::distances(answer, text),
         _ => return false,
     }

@@ -8,24 +8,24 @@ use str0m_values::{H264ProfileLevel, NoProfileLevel, lower_level};
 /// Answers what the word asks of the text; whether it is one of these words.
 pub(crate) fn answers(answer: &mut Answer, asked: &str, text: &str) -> bool {
     match asked {
-        "h264" => named(answer, text),
+        "h264" => named_profile(answer, text),
         "h264-fallback" => h264_shown(answer, H264ProfileLevel::FALLBACK),
         "h264-levels-of-high" => levels_of_high(answer),
-        "h264-lower" => lower(answer, text),
+        "h264-lower" => lower_profile(answer, text),
         _ => return false,
     }
     true
 }
 
 /// The profile and level of a profile-level-id, in hexadecimal.
-fn named(answer: &mut Answer, text: &str) {
+fn named_profile(answer: &mut Answer, text: &str) {
     match hex_u32(text) {
-        Some(id) => of_id(answer, id),
+        Some(id) => profile_of_id(answer, id),
         None => answer.push("no number"),
     }
 }
 
-fn of_id(answer: &mut Answer, id: u32) {
+fn profile_of_id(answer: &mut Answer, id: u32) {
     match H264ProfileLevel::try_from(id) {
         Ok(found) => h264_shown(answer, found),
         Err(NoProfileLevel) => answer.show(&NoProfileLevel),
@@ -55,28 +55,28 @@ fn levels_of_high(answer: &mut Answer) {
 }
 
 /// The id of the lower of two levels, `OWN OTHER`, each in hexadecimal or `-` for none.
-fn lower(answer: &mut Answer, text: &str) {
+fn lower_profile(answer: &mut Answer, text: &str) {
     let (own, other) = word(text);
-    match (id_or_dash(own), id_or_dash(other)) {
-        (Some(own), Some(other)) => lower_of(answer, own, other),
+    match (profile_id_or_dash(own), profile_id_or_dash(other)) {
+        (Some(own), Some(other)) => lower_profile_of(answer, own, other),
         _ => answer.push("no two numbers"),
     }
 }
 
-fn lower_of(answer: &mut Answer, own: Option<u32>, other: Option<u32>) {
+fn lower_profile_of(answer: &mut Answer, own: Option<u32>, other: Option<u32>) {
     match lower_level(own, other) {
-        Some(id) => six_digits(answer, id),
+        Some(id) => six_profile_digits(answer, id),
         None => answer.push("-"),
     }
 }
 
-fn six_digits(answer: &mut Answer, id: u32) {
+fn six_profile_digits(answer: &mut Answer, id: u32) {
     let alloc = answer.alloc();
     let digits = answer.kept(format!(in alloc; "{id:06x}"), String::new(alloc));
     answer.push(digits.as_str());
 }
 
-fn id_or_dash(text: &str) -> Option<Option<u32>> {
+fn profile_id_or_dash(text: &str) -> Option<Option<u32>> {
     match hex_u32(text) {
         None if text == "-" => Some(None),
         None => None,

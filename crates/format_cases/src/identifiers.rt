@@ -13,9 +13,9 @@ pub(crate) fn answers(answer: &mut Answer, word: &str, text: &str) -> bool {
         "rid" => answer.push(Rid::from(text).as_str()),
         "rid-printed" => answer.show(&Rid::from(text)),
         "same-text" => answer.push(same_text(text)),
-        "receiving" => answer.push(receiving(text)),
-        "direction" => ways(answer, direction(text)),
-        "direction-answered" => answered(answer, text),
+        "receiving" => answer.push(receiving_direction(text)),
+        "direction" => direction_ways(answer, direction(text)),
+        "direction-answered" => answered_direction(answer, text),
         _ => return of_held_texts(answer, word, text),
     }
     true
@@ -26,8 +26,8 @@ fn of_held_texts(answer: &mut Answer, word: &str, text: &str) -> bool {
     let alloc = answer.alloc();
     match word {
         "text" => kept(answer, text),
-        "extension" => listing(answer, &Extension::from_sdp_uri(alloc, text)),
-        "own-extension" => listing(answer, &Extension::new(alloc, text, false)),
+        "extension" => extension_listing(answer, &Extension::from_sdp_uri(alloc, text)),
+        "own-extension" => extension_listing(answer, &Extension::new(alloc, text, false)),
         _ => return false,
     }
     true
@@ -50,7 +50,7 @@ fn same_text(text: &str) -> &'static str {
 }
 
 /// Whether the side that describes itself so is ready to receive.
-fn receiving(text: &str) -> &'static str {
+fn receiving_direction(text: &str) -> &'static str {
     match direction(text) {
         Some(direction) if direction.sdp_is_receiving() => "yes",
         Some(_) => "no",
@@ -59,7 +59,7 @@ fn receiving(text: &str) -> &'static str {
 }
 
 /// The direction, what its side is ready for, and how the other side says the same.
-fn ways(answer: &mut Answer, direction: Option<Direction>) {
+fn direction_ways(answer: &mut Answer, direction: Option<Direction>) {
     answer.show_or(&direction, "no direction");
     if let Some(direction) = direction {
         answer.push_if(direction.sends(), " sends");
@@ -70,7 +70,7 @@ fn ways(answer: &mut Answer, direction: Option<Direction>) {
 }
 
 /// The direction that answers the first, where this side is ready for the second.
-fn answered(answer: &mut Answer, text: &str) {
+fn answered_direction(answer: &mut Answer, text: &str) {
     let (offered, own) = text.split_once(' ').unwrap_or((text, ""));
     match (direction(offered), direction(own)) {
         (Some(offered), Some(own)) => answer.show(&offered.answer(own)),
@@ -89,7 +89,7 @@ pub(crate) fn direction(text: &str) -> Option<Direction> {
 }
 
 /// The extension's URI, and whether descriptions list it: one that they name, or one of a program's own.
-fn listing(answer: &mut Answer, made: &Result<Extension, AllocError>) {
+fn extension_listing(answer: &mut Answer, made: &Result<Extension, AllocError>) {
     match made {
         Ok(extension) => {
             answer.push(extension.as_uri());

@@ -17,7 +17,7 @@ pub(crate) fn value_of<'a>(text: &'a str, name: &str) -> Option<&'a str> {
 }
 
 /// Three numbers of 8 bits, which spaces part.
-pub(crate) fn three_bytes(text: &str) -> Option<(u8, u8, u8)> {
+pub(crate) fn three_listed_bytes(text: &str) -> Option<(u8, u8, u8)> {
     let (first, rest) = word(text);
     let (second, third) = word(rest);
     match (

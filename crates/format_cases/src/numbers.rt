@@ -8,19 +8,19 @@ use str0m_values::{Frequency, Pt, SessionId, Ssrc};
 pub(crate) fn answers(answer: &mut Answer, word: &str, text: &str) -> bool {
     match word {
         "number-16-bits" => answer.show_or(&num_u16(text), "none"),
-        "number-8-bits-or-93" => answer.show_or(&num_u8_or(unless_dash(text), 93), "none"),
+        "number-8-bits-or-93" => answer.show_or(&num_u8_or(number_unless_dash(text), 93), "none"),
         "hex-8-bits" => answer.show_or(&hex_u8(text), "none"),
         "hex-32-bits" => answer.show_or(&hex_u32(text), "none"),
-        "payload-type" => answer.show_or(&payload_type(text), "none"),
-        "ssrc" => answer.show_or(&source(text), "none"),
-        "session-id" => answer.show_or(&session_id(text), "none"),
-        _ => return of_rates(answer, word, text),
+        "payload-type" => answer.show_or(&payload_type_number(text), "none"),
+        "ssrc" => answer.show_or(&source_number(text), "none"),
+        "session-id" => answer.show_or(&session_id_number(text), "none"),
+        _ => return of_clock_rates(answer, word, text),
     }
     true
 }
 
 /// Of clock rates, in Hz.
-fn of_rates(answer: &mut Answer, word: &str, text: &str) -> bool {
+fn of_clock_rates(answer: &mut Answer, word: &str, text: &str) -> bool {
     match word {
         "clock-rate" => answer.show_or(&hertz(text), "none"),
         "clock-rate-printed" => answer.show_or(&Frequency::from_str(text), "none"),
@@ -32,7 +32,7 @@ fn of_rates(answer: &mut Answer, word: &str, text: &str) -> bool {
 }
 
 /// The text; `-` stands for no text.
-fn unless_dash(text: &str) -> Option<&str> {
+fn number_unless_dash(text: &str) -> Option<&str> {
     if text == "-" { None } else { Some(text) }
 }
 
@@ -58,14 +58,14 @@ fn rate_names(answer: &mut Answer) {
     answer.show(&Frequency::NINETY_KHZ.get());
 }
 
-fn payload_type(text: &str) -> Option<Pt> {
+fn payload_type_number(text: &str) -> Option<Pt> {
     Some(Pt::from(num_u8(text, 255)?))
 }
 
-fn source(text: &str) -> Option<Ssrc> {
+fn source_number(text: &str) -> Option<Ssrc> {
     Some(Ssrc::from(num_u32(text)?))
 }
 
-fn session_id(text: &str) -> Option<SessionId> {
+fn session_id_number(text: &str) -> Option<SessionId> {
     Some(SessionId::from(text.parse::<u64>().ok()?))
 }

@@ -2,19 +2,19 @@
 //! `recvonly 96 - - opus/48000/2 -`; rounds stand after this side's rows, each after ` | `.
 
 use crate::answer::Answer;
-use crate::claim_words::DIFFERS;
-use crate::configuration_calls::{config_of, copy_of, is_same};
+use crate::claim_words::CLAIMS_DIFFER;
+use crate::configuration_calls::{config_of, copy_of_configuration, is_same};
 use crate::lists::word;
 use crate::row_answers::show_rows;
 use crate::row_texts::rows_of;
-use crate::row_words::{direction_of, sides};
+use crate::row_words::{direction_of_rows, sides};
 use str0m_formats::{ClaimMask, Claimed, CodecConfig, NegotiationError, Round};
 
 type Outcome = Result<(), NegotiationError>;
 
 fn round_of(answer: &mut Answer, text: &str) -> Round {
     let (direction, remote) = word(text);
-    let direction = direction_of(answer, direction);
+    let direction = direction_of_rows(answer, direction);
     let remote = rows_of(answer, remote);
     Round { remote, direction }
 }
@@ -39,8 +39,12 @@ fn show_outcome(answer: &mut Answer, outcome: Outcome) {
 }
 
 /// Runs one round with a table of claims. Where memory is refused, the configuration has to be what it was.
-fn run_in<C: Claimed>(answer: &mut Answer, config: &mut CodecConfig, round: &Round) -> Outcome {
-    let before = copy_of(answer, config);
+fn run_round_in<C: Claimed>(
+    answer: &mut Answer,
+    config: &mut CodecConfig,
+    round: &Round,
+) -> Outcome {
+    let before = copy_of_configuration(answer, config);
     let outcome = config.update_params_in::<C>(round.remote.as_slice(), round.direction);
     if outcome == Err(NegotiationError::Memory) {
         answer.refuse_if(is_same(config, &before));
@@ -49,12 +53,12 @@ fn run_in<C: Claimed>(answer: &mut Answer, config: &mut CodecConfig, round: &Rou
 }
 
 /// Runs one round with every table of claims; all have to come to the same.
-fn run(answer: &mut Answer, config: &mut CodecConfig, round: &Round) -> Outcome {
-    let mut other = copy_of(answer, config);
-    let outcome = run_in::<ClaimMask>(answer, config, round);
-    let in_table = run_in::<[bool; 128]>(answer, &mut other, round);
+fn run_one_round(answer: &mut Answer, config: &mut CodecConfig, round: &Round) -> Outcome {
+    let mut other = copy_of_configuration(answer, config);
+    let outcome = run_round_in::<ClaimMask>(answer, config, round);
+    let in_table = run_round_in::<[bool; 128]>(answer, &mut other, round);
     if in_table != outcome || !is_same(config, &other) {
-        answer.settle(DIFFERS);
+        answer.settle(CLAIMS_DIFFER);
     }
     outcome
 }
@@ -64,13 +68,13 @@ pub(crate) fn rounds(answer: &mut Answer, text: &str) {
     let (own, said) = sides(answer, text);
     let mut config = config_of(answer, own);
     let rounds = rounds_of(answer, said);
-    one_by_one(answer, &mut config, rounds.as_slice());
+    rounds_one_by_one(answer, &mut config, rounds.as_slice());
 }
 
-fn one_by_one(answer: &mut Answer, config: &mut CodecConfig, rounds: &[Round]) {
+fn rounds_one_by_one(answer: &mut Answer, config: &mut CodecConfig, rounds: &[Round]) {
     let mut separator = "";
     for round in rounds {
-        let outcome = run(answer, config, round);
+        let outcome = run_one_round(answer, config, round);
         answer.push(separator);
         show_outcome(answer, outcome);
         answer.push(": ");
@@ -81,12 +85,12 @@ fn one_by_one(answer: &mut Answer, config: &mut CodecConfig, rounds: &[Round]) {
 
 /// Runs rounds in one call. Where the whole call is refused memory, the configuration has to be what it was; a round
 /// that is refused it has to leave the rows as those before it left them, as `alone` is told round by round.
-fn run_all(answer: &mut Answer, config: &mut CodecConfig, rounds: &[Round]) {
-    let mut alone = copy_of(answer, config);
+fn run_all_rounds(answer: &mut Answer, config: &mut CodecConfig, rounds: &[Round]) {
+    let mut alone = copy_of_configuration(answer, config);
     match &config.update_all(rounds) {
         Ok(outcomes) => {
             show_outcomes(answer, outcomes.as_slice());
-            let wants_memory = run_again(answer, &mut alone, rounds, outcomes.as_slice());
+            let wants_memory = run_rounds_again(answer, &mut alone, rounds, outcomes.as_slice());
             if wants_memory || !is_same(config, &alone) {
                 answer.refuse_if(is_same(config, &alone));
             }
@@ -96,7 +100,7 @@ fn run_all(answer: &mut Answer, config: &mut CodecConfig, rounds: &[Round]) {
 }
 
 /// Runs those of the rounds again that weren't refused memory; whether one was.
-fn run_again(
+fn run_rounds_again(
     answer: &mut Answer,
     config: &mut CodecConfig,
     rounds: &[Round],
@@ -107,18 +111,18 @@ fn run_again(
         if *outcome == Err(NegotiationError::Memory) {
             wants_memory = true;
         } else {
-            let _ = run(answer, config, round);
+            let _ = run_one_round(answer, config, round);
         }
     }
     wants_memory
 }
 
 /// `together ROWS | ROUND | ROUND`: rounds in one call, their outcomes and the rows that the last one leaves.
-pub(crate) fn together(answer: &mut Answer, text: &str) {
+pub(crate) fn run_rounds_together(answer: &mut Answer, text: &str) {
     let (own, said) = sides(answer, text);
     let mut config = config_of(answer, own);
     let rounds = rounds_of(answer, said);
-    run_all(answer, &mut config, rounds.as_slice());
+    run_all_rounds(answer, &mut config, rounds.as_slice());
     show_rows(answer, config.params());
 }
 
@@ -130,7 +134,7 @@ fn show_outcomes(answer: &mut Answer, outcomes: &[Outcome]) {
     }
 }
 
-fn numbers_of(answer: &mut Answer, text: &str) -> Vec<u32> {
+fn distance_numbers(answer: &mut Answer, text: &str) -> Vec<u32> {
     let mut numbers = Vec::new(answer.alloc());
     for one in text.split_whitespace() {
         match one.parse::<u32>() {
@@ -154,7 +158,7 @@ fn show_distances(answer: &mut Answer, config: &CodecConfig) {
 pub(crate) fn distances(answer: &mut Answer, text: &str) {
     let mut config = CodecConfig::empty(answer.alloc());
     if text != "-" {
-        let numbers = numbers_of(answer, text);
+        let numbers = distance_numbers(answer, text);
         config.set_red_distances(numbers.as_slice());
     }
     show_distances(answer, &config);

@@ -21,7 +21,7 @@ pub(crate) fn show_codec(answer: &mut Answer, spec: &CodecSpec) {
 
 /// A row as a case writes it.
 pub(crate) fn show_row(answer: &mut Answer, row: &PayloadParams) {
-    show_types(answer, row);
+    show_row_types(answer, row);
     let spec = row.spec();
     show_codec(answer, &spec);
     answer.push(" ");
@@ -30,7 +30,7 @@ pub(crate) fn show_row(answer: &mut Answer, row: &PayloadParams) {
     answer.push_if(!row.fb_transport_cc(), " no-transport-cc");
 }
 
-fn show_types(answer: &mut Answer, row: &PayloadParams) {
+fn show_row_types(answer: &mut Answer, row: &PayloadParams) {
     answer.show(&row.pt());
     answer.push(" ");
     answer.show_or(&row.resend(), "-");

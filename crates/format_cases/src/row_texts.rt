@@ -9,7 +9,7 @@ use str0m_formats::{Codec, CodecSpec, FormatParams, PayloadParams};
 use str0m_values::{Frequency, Pt};
 
 /// A number of 8 bits.
-pub(crate) fn byte_of(answer: &mut Answer, text: &str, what: &str) -> u8 {
+pub(crate) fn row_byte_of(answer: &mut Answer, text: &str, what: &str) -> u8 {
     match text.parse::<u8>() {
         Ok(number) => number,
         Err(_) => {
@@ -20,15 +20,15 @@ pub(crate) fn byte_of(answer: &mut Answer, text: &str, what: &str) -> u8 {
 }
 
 /// A payload type, 0 to 255.
-pub(crate) fn type_of(answer: &mut Answer, text: &str) -> Pt {
-    Pt::from(byte_of(answer, text, "payload type"))
+pub(crate) fn row_type_of(answer: &mut Answer, text: &str) -> Pt {
+    Pt::from(row_byte_of(answer, text, "payload type"))
 }
 
 /// A payload type, or `-` for none.
-pub(crate) fn type_or_dash(answer: &mut Answer, text: &str) -> Option<Pt> {
+pub(crate) fn row_type_or_dash(answer: &mut Answer, text: &str) -> Option<Pt> {
     match text {
         "-" => None,
-        _ => Some(type_of(answer, text)),
+        _ => Some(row_type_of(answer, text)),
     }
 }
 
@@ -60,27 +60,27 @@ fn format_said(answer: &mut Answer, line: &str) -> FormatParams {
 }
 
 /// A codec with its rates and its format, as `opus/48000/2 minptime=10`.
-pub(crate) fn spec_of(answer: &mut Answer, map: &str, format: &str) -> CodecSpec {
+pub(crate) fn row_spec_of(answer: &mut Answer, map: &str, format: &str) -> CodecSpec {
     let (name, rates) = split_at_slash(answer, map);
-    let (rate, channels) = rate_and_channels(rates);
+    let (rate, channels) = row_rate_and_channels(rates);
     CodecSpec {
         codec: codec_of(answer, name),
-        clock_rate: rate_of(answer, rate),
-        channels: channels_of(answer, channels),
+        clock_rate: row_rate_of(answer, rate),
+        channels: row_channels_of(answer, channels),
         format: format_of(answer, format),
     }
 }
 
 /// A rate, and the channels after it where there are some.
-fn rate_and_channels(rates: &str) -> (&str, Option<&str>) {
+fn row_rate_and_channels(rates: &str) -> (&str, Option<&str>) {
     match rates.split_once('/') {
         None => (rates, None),
         Some((rate, channels)) => (rate, Some(channels)),
     }
 }
 
-fn channels_of(answer: &mut Answer, text: Option<&str>) -> Option<u8> {
-    Some(byte_of(answer, text?, "row"))
+fn row_channels_of(answer: &mut Answer, text: Option<&str>) -> Option<u8> {
+    Some(row_byte_of(answer, text?, "row"))
 }
 
 fn split_at_slash<'a>(answer: &mut Answer, map: &'a str) -> (&'a str, &'a str) {
@@ -93,7 +93,7 @@ fn split_at_slash<'a>(answer: &mut Answer, map: &'a str) -> (&'a str, &'a str) {
     }
 }
 
-fn rate_of(answer: &mut Answer, text: &str) -> Frequency {
+fn row_rate_of(answer: &mut Answer, text: &str) -> Frequency {
     match Frequency::from_str(text) {
         Some(rate) => rate,
         None => {
@@ -104,7 +104,7 @@ fn rate_of(answer: &mut Answer, text: &str) -> Frequency {
 }
 
 /// Turns off the feedback that a word such as `no-nack` names.
-fn turn_off(answer: &mut Answer, row: &mut PayloadParams, word: &str) {
+fn turn_row_feedback_off(answer: &mut Answer, row: &mut PayloadParams, word: &str) {
     match word {
         "no-transport-cc" => row.set_fb_transport_cc(false),
         "no-nack" => row.set_fb_nack(false),
@@ -116,10 +116,10 @@ fn turn_off(answer: &mut Answer, row: &mut PayloadParams, word: &str) {
 }
 
 /// A codec with its rates and its format, and the text after them.
-fn spec_and_rest<'a>(answer: &mut Answer, text: &'a str) -> (CodecSpec, &'a str) {
+fn row_spec_and_rest<'a>(answer: &mut Answer, text: &'a str) -> (CodecSpec, &'a str) {
     let (map, rest) = word(text);
     let (format, rest) = word(rest);
-    (spec_of(answer, map, format), rest)
+    (row_spec_of(answer, map, format), rest)
 }
 
 /// The row, without the feedback that is turned off in it, a word each.
@@ -127,11 +127,11 @@ pub(crate) fn row_of(answer: &mut Answer, text: &str) -> PayloadParams {
     let (pt, rest) = word(text);
     let (resend, rest) = word(rest);
     let (red, rest) = word(rest);
-    let (spec, feedback) = spec_and_rest(answer, rest);
-    let (pt, resend) = (type_of(answer, pt), type_or_dash(answer, resend));
-    let mut row = PayloadParams::new(pt, resend, spec).with_red(type_or_dash(answer, red));
+    let (spec, feedback) = row_spec_and_rest(answer, rest);
+    let (pt, resend) = (row_type_of(answer, pt), row_type_or_dash(answer, resend));
+    let mut row = PayloadParams::new(pt, resend, spec).with_red(row_type_or_dash(answer, red));
     for word in feedback.split_whitespace() {
-        turn_off(answer, &mut row, word);
+        turn_row_feedback_off(answer, &mut row, word);
     }
     row
 }

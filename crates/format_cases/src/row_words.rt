@@ -1,11 +1,11 @@
 //! What is asked of rows and of configurations.
 
 use crate::answer::Answer;
-use crate::configuration_calls::{config_of, made};
+use crate::configuration_calls::{config_of, made_configuration};
 use crate::identifiers::direction;
 use crate::lists::word;
 use crate::row_answers::{show_row, show_rows};
-use crate::row_texts::{row_of, rows_of, spec_of, type_of};
+use crate::row_texts::{row_of, row_spec_of, row_type_of, rows_of};
 use str0m_formats::{CodecConfig, PayloadParams};
 use str0m_values::{Direction, MediaKind, Pt};
 
@@ -20,7 +20,7 @@ pub(crate) fn sides<'a>(answer: &mut Answer, text: &'a str) -> (&'a str, &'a str
     }
 }
 
-pub(crate) fn direction_of(answer: &mut Answer, text: &str) -> Direction {
+pub(crate) fn direction_of_rows(answer: &mut Answer, text: &str) -> Direction {
     match direction(text) {
         Some(direction) => direction,
         None => {
@@ -30,7 +30,7 @@ pub(crate) fn direction_of(answer: &mut Answer, text: &str) -> Direction {
     }
 }
 
-fn kind_of(answer: &mut Answer, text: &str) -> MediaKind {
+fn kind_of_rows(answer: &mut Answer, text: &str) -> MediaKind {
     match text {
         "audio" => MediaKind::Audio,
         "video" => MediaKind::Video,
@@ -44,11 +44,11 @@ fn kind_of(answer: &mut Answer, text: &str) -> MediaKind {
 /// A row of a codec alone, as `opus/48000/2 minptime=10`, at this type.
 fn row_of_spec(answer: &mut Answer, pt: u8, text: &str) -> PayloadParams {
     let (map, format) = word(text);
-    PayloadParams::new(Pt::from(pt), None, spec_of(answer, map, format))
+    PayloadParams::new(Pt::from(pt), None, row_spec_of(answer, map, format))
 }
 
 /// `score SPEC | SPEC`: how well two rows match.
-pub(crate) fn score(answer: &mut Answer, text: &str) {
+pub(crate) fn row_score(answer: &mut Answer, text: &str) {
     let (own, other) = sides(answer, text);
     let own = row_of_spec(answer, 96, own);
     let other = row_of_spec(answer, 97, other);
@@ -56,8 +56,8 @@ pub(crate) fn score(answer: &mut Answer, text: &str) {
 }
 
 /// `configuration CALLS`: the rows that the calls leave.
-pub(crate) fn configuration(answer: &mut Answer, text: &str) {
-    let config = made(answer, text);
+pub(crate) fn configuration_rows(answer: &mut Answer, text: &str) {
+    let config = made_configuration(answer, text);
     show_rows(answer, config.params());
 }
 
@@ -69,7 +69,7 @@ fn show_row_or_none(answer: &mut Answer, row: Option<&PayloadParams>) {
 }
 
 /// `match ROWS | ROW`: the row that matches best.
-pub(crate) fn best(answer: &mut Answer, text: &str) {
+pub(crate) fn best_row(answer: &mut Answer, text: &str) {
     let (own, asked) = sides(answer, text);
     let config = config_of(answer, own);
     let rows = rows_of(answer, asked);
@@ -80,16 +80,21 @@ pub(crate) fn best(answer: &mut Answer, text: &str) {
 }
 
 /// `meet DIRECTION ROWS | ROW`: the type under which the remote row of the direction is met.
-pub(crate) fn met(answer: &mut Answer, text: &str) {
+pub(crate) fn met_row(answer: &mut Answer, text: &str) {
     let (own, remote) = sides(answer, text);
     let (direction, own) = word(own);
-    let direction = direction_of(answer, direction);
+    let direction = direction_of_rows(answer, direction);
     let config = config_of(answer, own);
     let remote = row_of(answer, remote);
     answer.show_or(&config.sdp_match_remote(remote, direction), "none");
 }
 
-fn show_kind(answer: &mut Answer, config: &CodecConfig, kind: MediaKind, for_new_offer: bool) {
+fn show_rows_of_kind(
+    answer: &mut Answer,
+    config: &CodecConfig,
+    kind: MediaKind,
+    for_new_offer: bool,
+) {
     let mut is_any = false;
     for row in config.all_for_kind(kind, for_new_offer) {
         answer.push_if(is_any, " + ");
@@ -102,29 +107,29 @@ fn show_kind(answer: &mut Answer, config: &CodecConfig, kind: MediaKind, for_new
 /// `kind KIND ROWS`: the rows of the kind, and by `offer KIND ROWS` those for a new offer.
 pub(crate) fn kind(answer: &mut Answer, text: &str, for_new_offer: bool) {
     let (kind, rows) = word(text);
-    let kind = kind_of(answer, kind);
+    let kind = kind_of_rows(answer, kind);
     let config = config_of(answer, rows);
-    show_kind(answer, &config, kind, for_new_offer);
+    show_rows_of_kind(answer, &config, kind, for_new_offer);
 }
 
 /// `maximum TYPE ROWS`: the highest telephone event of the row of the type.
-pub(crate) fn maximum(answer: &mut Answer, text: &str) {
+pub(crate) fn row_maximum_event(answer: &mut Answer, text: &str) {
     let (pt, rows) = word(text);
-    let pt = type_of(answer, pt);
+    let pt = row_type_of(answer, pt);
     let config = config_of(answer, rows);
     answer.show_or(&config.tele_event_max(pt), "none");
 }
 
 /// `has TYPE ROWS`: whether a row has the type as its primary one.
-pub(crate) fn has(answer: &mut Answer, text: &str) {
+pub(crate) fn has_row(answer: &mut Answer, text: &str) {
     let (pt, rows) = word(text);
-    let pt = type_of(answer, pt);
+    let pt = row_type_of(answer, pt);
     let config = config_of(answer, rows);
     answer.push(if config.has_pt(pt) { "yes" } else { "no" });
 }
 
 /// The row, and the feedback that is on.
-fn with_feedback(answer: &mut Answer, row: &PayloadParams) {
+fn row_with_feedback(answer: &mut Answer, row: &PayloadParams) {
     show_row(answer, row);
     answer.push(" with");
     answer.push_if(row.fb_transport_cc(), " transport-cc");
@@ -135,16 +140,16 @@ fn with_feedback(answer: &mut Answer, row: &PayloadParams) {
 }
 
 /// `feedback ROW`: the row, and the feedback that is on.
-pub(crate) fn feedback(answer: &mut Answer, text: &str) {
+pub(crate) fn row_feedback(answer: &mut Answer, text: &str) {
     let rows = rows_of(answer, text);
     match rows.first() {
-        Some(row) => with_feedback(answer, row),
+        Some(row) => row_with_feedback(answer, row),
         None => answer.no_such("row"),
     }
 }
 
 /// `probe TYPE`: a row for packets that only probe.
-pub(crate) fn probe(answer: &mut Answer, text: &str) {
-    let row = PayloadParams::new_probe(type_of(answer, text));
-    with_feedback(answer, &row);
+pub(crate) fn row_for_probe(answer: &mut Answer, text: &str) {
+    let row = PayloadParams::new_probe(row_type_of(answer, text));
+    row_with_feedback(answer, &row);
 }

@@ -1,7 +1,7 @@
 //! Profiles, tiers and levels of H265 and H266.
 
 use crate::answer::Answer;
-use crate::lists::{three_bytes, value_of};
+use crate::lists::{three_listed_bytes, value_of};
 use std::fmt::Debug;
 use str0m_values::{
     H265ProfileTierLevel, H266ProfileTierLevel, Leveled, Numbered, ProfileTierLevel,
@@ -31,23 +31,23 @@ fn of_codec<P: Numbered + Debug, T: Numbered + Debug, L: Leveled + Debug>(
     fallback: ProfileTierLevel<P, T, L>,
 ) -> bool {
     match word {
-        "" => shown_or_none(answer, named),
-        "-numbers" => shown_or_none::<P, T, L>(answer, of_numbers(text)),
+        "" => profile_shown_or_none(answer, named),
+        "-numbers" => profile_shown_or_none::<P, T, L>(answer, profile_of_numbers(text)),
         "-fallback" => tiered_shown(answer, fallback),
-        "-profiles" | "-tiers" | "-levels" => listed(answer, word, fallback),
+        "-profiles" | "-tiers" | "-levels" => listed_profiles(answer, word, fallback),
         _ => return false,
     }
     true
 }
 
-fn of_numbers<P: Numbered, T: Numbered, L: Numbered>(
+fn profile_of_numbers<P: Numbered, T: Numbered, L: Numbered>(
     text: &str,
 ) -> Option<ProfileTierLevel<P, T, L>> {
-    let (profile_id, tier_flag, level_id) = three_bytes(text)?;
+    let (profile_id, tier_flag, level_id) = three_listed_bytes(text)?;
     ProfileTierLevel::new(profile_id, tier_flag, level_id)
 }
 
-fn shown_or_none<P: Numbered + Debug, T: Numbered + Debug, L: Leveled + Debug>(
+fn profile_shown_or_none<P: Numbered + Debug, T: Numbered + Debug, L: Leveled + Debug>(
     answer: &mut Answer,
     found: Option<ProfileTierLevel<P, T, L>>,
 ) {
@@ -63,16 +63,16 @@ fn tiered_shown<P: Numbered + Debug, T: Numbered + Debug, L: Leveled + Debug>(
     found: ProfileTierLevel<P, T, L>,
 ) {
     answer.push("profile ");
-    part(answer, found.profile(), found.profile_id());
+    profile_part(answer, found.profile(), found.profile_id());
     answer.push(", tier ");
-    part(answer, found.tier(), found.tier_flag());
+    profile_part(answer, found.tier(), found.tier_flag());
     answer.push(", level ");
-    part(answer, found.level(), found.level_id());
+    profile_part(answer, found.level(), found.level_id());
     answer.push(", ordinal ");
     answer.show(&found.level().place());
 }
 
-fn part<A: Debug + Copy>(answer: &mut Answer, found: A, id: u8) {
+fn profile_part<A: Debug + Copy>(answer: &mut Answer, found: A, id: u8) {
     answer.debug(&found);
     answer.push(" ");
     answer.show(&id);
@@ -85,21 +85,21 @@ fn asked<P: Numbered + Debug, T: Numbered + Debug, L: Leveled + Debug>(
     found: ProfileTierLevel<P, T, L>,
 ) {
     match word {
-        "-profiles" => part(answer, found.profile(), found.profile_id()),
-        "-tiers" => part(answer, found.tier(), found.tier_flag()),
-        _ => part(answer, found.level(), found.level_id()),
+        "-profiles" => profile_part(answer, found.profile(), found.profile_id()),
+        "-tiers" => profile_part(answer, found.tier(), found.tier_flag()),
+        _ => profile_part(answer, found.level(), found.level_id()),
     }
 }
 
 /// Each profile, tier or level that a number names, as the word asks, with its number.
-fn listed<P: Numbered + Debug, T: Numbered + Debug, L: Leveled + Debug>(
+fn listed_profiles<P: Numbered + Debug, T: Numbered + Debug, L: Leveled + Debug>(
     answer: &mut Answer,
     word: &str,
     fallback: ProfileTierLevel<P, T, L>,
 ) {
     let mut separator = "";
     for number in 0..=255 {
-        if let Some(found) = numbered(word, number, fallback) {
+        if let Some(found) = numbered_profile(word, number, fallback) {
             answer.push(separator);
             asked(answer, word, found);
             separator = ", ";
@@ -108,7 +108,7 @@ fn listed<P: Numbered + Debug, T: Numbered + Debug, L: Leveled + Debug>(
 }
 
 /// The fallback with this number where the word asks for it.
-fn numbered<P: Numbered, T: Numbered, L: Numbered>(
+fn numbered_profile<P: Numbered, T: Numbered, L: Numbered>(
     word: &str,
     number: u8,
     fallback: ProfileTierLevel<P, T, L>,

@@ -2,9 +2,9 @@
 use Rattle.lint.proofs.Common.{◌≡◌, ◌+◌, ◌≤◌, ℕ, Bool, true, false, List, [], ◌∷◌, ◌++◌, length, map, refl, sym, ap, ◌∙◌, arith, cond}
 use Rattle.lint.proofs.Common.{append_assoc, append-nil, Line, lines_of}
 use Rattle.lint.proofs.LineLaws.{BeginsWithLine}
-use Rattle.lint.specs.Findings.{KeepsUnread, NotesLine, ends, lines_kept, is_changed, is_refused}
+use Rattle.lint.specs.Findings.{KeepsUnread, NotesLine, end_lines, lines_kept, is_changed, is_refused}
 use Rattle.lint.specs.Kept.{is_unread, kept_at}
-use Rattle.lint.specs.Lines.{IsNumbered, attribute_numbers, begins_attribute}
+use Rattle.lint.specs.Lines.{IsLineNumber, attribute_numbers, begins_attribute}
 use Rattle.lint.specs.declared.mark.Mark.{Mark}
 use Rattle.lint.specs.declared.notes.Notes.{Notes}
 
@@ -13,18 +13,19 @@ abbrev pub unread_numbers : ℕ → List ℕ → List Mark → List ℕ
 unread_numbers before text said = kept_at (map is_unread said) (attribute_numbers (before + 1) (lines_of text))
 
 -- from the notes in the beginning, with all lines and attributes before them, to those now, with what is left
-pub record SoFar (old : Notes) (before : ℕ) (text : List ℕ) (said : List Mark) (now : Notes) (passed : ℕ) (rest : List ℕ)
+pub record AttributesSoFar (old : Notes) (before : ℕ) (text : List ℕ) (said : List Mark) (now : Notes) (passed : ℕ) (rest : List ℕ)
     (left : List Mark) : Type 0 where
   pub lines : passed + length (lines_of rest) ≡ before + length (lines_of text)
   pub kept_are : lines_kept now.findings ++ unread_numbers passed rest left ≡ lines_kept old.findings ++ unread_numbers before text said
-  pub ends_stay : ends now.findings ≡ ends old.findings
+  pub ends_stay : end_lines now.findings ≡ end_lines old.findings
   pub refused_stays : is_refused now.findings ≡ is_refused old.findings
   pub changed_stays : is_changed now.findings ≡ is_changed old.findings
   pub last_stays : now.last ≡ old.last
 
 -- the notes are those of the beginning
-pub from_start : (old : Notes) (before : ℕ) (text : List ℕ) (said : List Mark) → SoFar old before text said old before text said
-from_start old before text said = record {
+pub attributes_from_start : (old : Notes) (before : ℕ) (text : List ℕ) (said : List Mark)
+    → AttributesSoFar old before text said old before text said
+attributes_from_start old before text said = record {
   lines = refl;
   kept_are = refl;
   ends_stay = refl;
@@ -38,13 +39,13 @@ kept_of_none [] = refl
 kept_of_none (flag ∷ flags) = refl
 
 -- the first of the lines is no attribute line
-numbers_skip : (n : ℕ) (content ending : List ℕ) (lines : List Line) → begins_attribute content ≡ false
+attribute_numbers_skip : (n : ℕ) (content ending : List ℕ) (lines : List Line) → begins_attribute content ≡ false
     → attribute_numbers n (record { content = content; ending = ending } ∷ lines) ≡ attribute_numbers (n + 1) lines
-numbers_skip n content ending lines not_one = rw not_one refl
+attribute_numbers_skip n content ending lines not_one = rw not_one refl
 
-numbers_take : (n : ℕ) (content ending : List ℕ) (lines : List Line) → begins_attribute content ≡ true
+attribute_numbers_take : (n : ℕ) (content ending : List ℕ) (lines : List Line) → begins_attribute content ≡ true
     → attribute_numbers n (record { content = content; ending = ending } ∷ lines) ≡ n ∷ attribute_numbers (n + 1) lines
-numbers_take n content ending lines one = rw one refl
+attribute_numbers_take n content ending lines one = rw one refl
 
 -- the first attribute stands on the line of this number
 kept_take : (flag : Bool) (flags : List Bool) (n : ℕ) (ns : List ℕ)
@@ -64,7 +65,7 @@ notes_other number content left old not_one = record {
     changed_stays = refl;
     last_stays = refl;
   };
-  rest_are = λ ending lines. ap (kept_at (map is_unread left)) (numbers_skip number content ending lines not_one);
+  rest_are = λ ending lines. ap (kept_at (map is_unread left)) (attribute_numbers_skip number content ending lines not_one);
 }
 
 -- no attribute is left
@@ -87,17 +88,17 @@ pub notes_next : (number : ℕ) (content : List ℕ) (one : Mark) (more : List M
 notes_next number content one more old new is k = record {
   own = cond (is_unread one) (number ∷ []) [];
   keeps = k;
-  rest_are = λ ending lines. ap (kept_at (is_unread one ∷ map is_unread more)) (numbers_take number content ending lines is)
+  rest_are = λ ending lines. ap (kept_at (is_unread one ∷ map is_unread more)) (attribute_numbers_take number content ending lines is)
       ∙ kept_take (is_unread one) (map is_unread more) number (attribute_numbers (number + 1) lines);
 }
 
 -- one line further
-pub one_further : (old : Notes) (before : ℕ) (text : List ℕ) (said : List Mark) (now next : Notes) (passed : ℕ) (rest : List ℕ)
+pub one_line_further : (old : Notes) (before : ℕ) (text : List ℕ) (said : List Mark) (now next : Notes) (passed : ℕ) (rest : List ℕ)
     (left more : List Mark) (content after : List ℕ)
-    → SoFar old before text said now passed rest left → BeginsWithLine rest content after
+    → AttributesSoFar old before text said now passed rest left → BeginsWithLine rest content after
     → NotesLine (passed + 1) content left more now next
-    → SoFar old before text said next (passed + 1) after more
-one_further old before text said now next passed rest left more content after h (ending, e) n =
+    → AttributesSoFar old before text said next (passed + 1) after more
+one_line_further old before text said now next passed rest left more content after h (ending, e) n =
     let later : List ℕ = unread_numbers (passed + 1) after more in
     let here : unread_numbers passed rest left ≡ n.own ++ later =
     ap (λ ls. kept_at (map is_unread left) (attribute_numbers (passed + 1) ls)) e ∙ n.rest_are ending (lines_of after) in
@@ -115,14 +116,15 @@ one_further old before text said now next passed rest left more content after h 
 -- a line stands there, so its number is that of a line
 pub here : (old : Notes) (before : ℕ) (text : List ℕ) (said : List Mark) (now : Notes) (passed : ℕ) (rest : List ℕ) (left : List Mark)
     (content after : List ℕ)
-    → before + length (lines_of text) ≤ old.last → SoFar old before text said now passed rest left → BeginsWithLine rest content after
-    → IsNumbered now.last (passed + 1)
+    → before + length (lines_of text) ≤ old.last → AttributesSoFar old before text said now passed rest left
+    → BeginsWithLine rest content after
+    → IsLineNumber now.last (passed + 1)
 here old before text said now passed rest left content after fits h (ending, e) = omega (arith, h.lines, ap length e, h.last_stays)
 
 -- no line is left
 pub without_lines : (old : Notes) (before : ℕ) (text : List ℕ) (said : List Mark) (now : Notes) (passed : ℕ) (rest : List ℕ)
     (left : List Mark)
-    → SoFar old before text said now passed rest left → lines_of rest ≡ [] → KeepsUnread (unread_numbers before text said) old now
+    → AttributesSoFar old before text said now passed rest left → lines_of rest ≡ [] → KeepsUnread (unread_numbers before text said) old now
 without_lines old before text said now passed rest left h none =
     let nothing : unread_numbers passed rest left ≡ [] =
     ap (λ ls. kept_at (map is_unread left) (attribute_numbers (passed + 1) ls)) none ∙ kept_of_none (map is_unread left) in

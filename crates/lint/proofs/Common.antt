@@ -9,9 +9,9 @@ pub use Rattle.std.proofs.lemmas.List.{map-append}
 pub use Rattle.std.proofs.lemmas.List.Elements.{filter_map-append}
 pub use Rattle.std.proofs.lemmas.Result.{on_err_weaker, on_ok_weaker}
 pub use Rattle.std.specs.List.{cons_option, list_any}
-pub use Rattle.str0m_formats.proofs.{ran_from}
+pub use Rattle.str0m_formats.proofs.{rounds_ran_from}
 pub use Rattle.str0m_formats.proofs.Common.{take_more}
 pub use Rattle.str0m_formats.specs.declared.row.codec_config.CodecConfig.{CodecConfig}
 pub use Rattle.str0m_formats.specs.round.RoundsPromises.{Negotiates}
-pub use Rattle.str0m_sdp.proofs.{or_false}
+pub use Rattle.str0m_sdp.proofs.{rows_or_false}
 pub use Rattle.str0m_signal.proofs.Common.{Utf8, shadow}

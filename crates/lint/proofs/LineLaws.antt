@@ -3,16 +3,16 @@ use Rattle.lint.proofs.Common.{◌≡◌, ◌<◌, ◌-◌, ◌+◌, ℕ, List, 
 use Rattle.lint.proofs.Common.{sym, ap, ◌∙◌, inl, inr, arith, lit<, append_assoc, append-nil, Bor, cut}
 use Rattle.lint.specs.Lines.{IsWithoutReturn}
 use Rattle.std.specs.Str.Pattern.{FindsCharSuffix}
-use Rattle.str0m_signal.proofs.{line_here, without_suffix}
+use Rattle.str0m_signal.proofs.{line_here, line_without_suffix}
 use Rattle.str0m_signal.specs.line.LinesReading.{lines_of}
-use Rattle.str0m_values.proofs.CutLaws.{cut_found, cut_none_lacks, Lacks-append}
+use Rattle.str0m_values.proofs.CutLaws.{cut_found, cut_none_lacks, LacksCut-append}
 use Rattle.str0m_values.specs.CutsParts.{Lacks}
 
 pub without_return : (line : Bor (List ℕ)) (r : Option (Bor (List ℕ))) (result : Bor (List ℕ))
     → MatchOption r (FindsCharSuffix 13 line.now None) (λ x. (n : ℕ) × FindsCharSuffix 13 line.now (Some n)
     × (x.now ≡ take (length line.now - n) line.now) × (length x.now + n ≡ length line.now))
     → result ≡ unwrap_or r line → IsWithoutReturn line.now result.now
-without_return line r result cases is = rw is (without_suffix 13 (lit< tt) line r cases)
+without_return line r result cases is = rw is (line_without_suffix 13 (lit< tt) line r cases)
 
 -- some end after the content, and the rest of the lines
 abbrev pub BeginsWithLine : List ℕ → List ℕ → List ℕ → Type 0
@@ -24,7 +24,7 @@ line_at_feed text front rest content found (inl returned) =
     let at = cut_found 10 text front rest (sym found) in
     let whole : text ≡ content ++ ((13 ∷ 10 ∷ []) ++ rest) = at.0 ∙ ap (λ (t : List ℕ). t ++ (10 ∷ rest)) returned
     ∙ append_assoc content (13 ∷ []) (10 ∷ rest) in
-    let inside : Lacks 10 content = Lacks-append 10 content (13 ∷ []) (rw returned at at.1) in (
+    let inside : Lacks 10 content = LacksCut-append 10 content (13 ∷ []) (rw returned at at.1) in (
       13 ∷ 10 ∷ [],
       line_here text (record { content = content; ending = 13 ∷ 10 ∷ [] }) rest whole
           (record { inside = inside; ends = inr (inl refl) }),

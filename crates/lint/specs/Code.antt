@@ -44,9 +44,9 @@ is_refusal (Refused refusal) = true
 is_refusal _ = false
 
 -- reading ended there
-abbrev pub is_end : Code → Bool
-is_end (Unread unfit) = true
-is_end _ = false
+abbrev pub is_end_code : Code → Bool
+is_end_code (Unread unfit) = true
+is_end_code _ = false
 
 -- an attribute line is kept unread
 abbrev pub is_unread_code : Code → Bool

@@ -18,12 +18,12 @@ abbrev pub last_line : List ℕ → ℕ
 last_line text = max 1 (length (lines_of text))
 
 -- the number of a line, counted from 1
-abbrev pub IsNumbered : ℕ → ℕ → Type 0
-IsNumbered last n = (1 ≤ n) × (n ≤ last)
+abbrev pub IsLineNumber : ℕ → ℕ → Type 0
+IsLineNumber last n = (1 ≤ n) × (n ≤ last)
 
 -- the finding names a line of its text
 abbrev pub IsWithinLines : ℕ → Finding → Type 0
-IsWithinLines last finding = IsNumbered last finding.line
+IsWithinLines last finding = IsLineNumber last finding.line
 
 -- an attribute line begins with `a=` (RFC 8866, section 5.13)
 abbrev pub begins_attribute : List ℕ → Bool

@@ -1,9 +1,9 @@
 -- What definitions and clauses cite of the crates below, passed on from one place. Declares nothing.
 pub use Rattle.str0m_formats.specs.declared.codec.Codec.{Codec}
 pub use Rattle.str0m_formats.specs.declared.row.payload_params.PayloadParams.{PayloadParams}
-pub use Rattle.str0m_formats.specs.round.Choices.{IsChoice, points_with}
+pub use Rattle.str0m_formats.specs.round.Choices.{IsChoice, choice_points_with}
 pub use Rattle.str0m_formats.specs.round.MatchScore.{same_codec, score}
-pub use Rattle.str0m_formats.specs.round.RoundsRuns.{Outcome, Ran}
+pub use Rattle.str0m_formats.specs.round.RoundsRuns.{Outcome, RoundRan}
 pub use Rattle.str0m_sdp.specs.attribute.MediaType.{is_media}
 pub use Rattle.str0m_sdp.specs.declared.section.media_line.MediaLine.{MediaLine}
 pub use Rattle.str0m_sdp.specs.declared.session.Sdp.{Sdp}

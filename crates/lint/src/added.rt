@@ -1,10 +1,10 @@
 //! Findings that are added to the others, and whether there is one of a kind.
-ghost use Rattle.lint.specs.Findings.{AddsOne, is_changed};
+ghost use Rattle.lint.specs.Findings.{AddsOneFinding, is_changed};
 ghost use Rattle.std.specs.Prelude.{◌≡◌, OnOk};
 
 use crate::code::Code;
 use crate::finding::Finding;
-use crate::lines::column_of;
+use crate::lines::line_column;
 use crate::notes::Notes;
 use crate::part::{Part, Place};
 use std::alloc::AllocError;
@@ -14,7 +14,7 @@ impl Notes {
     /// Adds a finding: what is wrong by its code, what stands there, where there is something, and what to do. What is missing after
     /// the last line is said of that line.
     pub(crate) fn add(&mut self, place: Place, code: Code, detail: &str) -> Result<(), AllocError>
-        ensures one { OnOk result (AddsOne place.line code self.old self.new) }
+        ensures one { OnOk result (AddsOneFinding place.line code self.old self.new) }
         ensures last { self.new.last ≡ self.old.last }
     {
         let entry = code.entry();
@@ -38,13 +38,13 @@ impl Notes {
         code: Code,
         part: Part<'_>,
     ) -> Result<(), AllocError>
-        ensures one { OnOk result (AddsOne number code self.old self.new) }
+        ensures one { OnOk result (AddsOneFinding number code self.old self.new) }
         ensures last { self.new.last ≡ self.old.last }
     {
         let detail = part.quoted(self.alloc)?;
         let place = Place {
             line: number,
-            column: column_of(line, part.behind),
+            column: line_column(line, part.behind),
         };
         self.add(place, code, detail.as_str())
     }

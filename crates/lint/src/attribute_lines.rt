@@ -1,7 +1,7 @@
 //! What is found on attribute lines.
 ghost use Rattle.lint.specs.Findings.{KeepsUnread, NotesLine};
 ghost use Rattle.lint.specs.Kept.{is_unread, kept_at};
-ghost use Rattle.lint.specs.Lines.{IsNumbered, attribute_numbers};
+ghost use Rattle.lint.specs.Lines.{IsLineNumber, attribute_numbers};
 ghost use Rattle.lint.specs.Prelude.{lines_of};
 ghost use Rattle.std.specs.Prelude.{◌≡◌, ◌+◌, ◌≤◌, IfOk, OnOk, [], ◌∷◌, length, map, if◌then◌else◌};
 
@@ -22,7 +22,7 @@ fn note_attribute(
     text: &str,
     mark: Mark,
 ) -> Result<(), AllocError>
-    ensures keeps { IsNumbered notes.old.last number
+    ensures keeps { IsLineNumber notes.old.last number
         → OnOk result (KeepsUnread (if is_unread mark then number ∷ [] else []) notes.old notes.new) }
     ensures last { notes.new.last ≡ notes.old.last }
 {
@@ -47,7 +47,7 @@ fn note_line<'a>(
     line: &str,
     left: &'a [Mark],
 ) -> Result<&'a [Mark], AllocError>
-    ensures notes { IsNumbered notes.old.last number
+    ensures notes { IsLineNumber notes.old.last number
         → IfOk result (λ more. NotesLine number line.now left.now more.now notes.old notes.new) }
     ensures last { notes.new.last ≡ notes.old.last }
 {

@@ -5,7 +5,7 @@ ghost use Rattle.std.specs.Prelude.{◌≡◌, ◌↔◌, OnOk, false, true};
 
 use crate::code::{Change, Code};
 use crate::fork::{fork, is_respelled};
-use crate::lines::{behind_space, column_of, next_line};
+use crate::lines::{behind_space, line_column, next_line};
 use crate::mark::Mark;
 use crate::notes::Notes;
 use crate::part::{Part, Place};
@@ -15,7 +15,7 @@ use str0m_values::cuts::strip;
 
 /// The attributes and the printed text that are left.
 #[derive(Clone, Copy)]
-struct Left<'a> {
+struct LeftForChanges<'a> {
     marks: &'a [Mark],
     printed: &'a str,
 }
@@ -33,7 +33,7 @@ fn next_printed<'a>(text: &'a str, letter: &str) -> Option<(&'a str, &'a str)> {
 }
 
 /// What a text becomes where it is printed.
-fn becomes(alloc: Global, text: &str, printed: &str) -> Result<String, AllocError> {
+fn printed_change(alloc: Global, text: &str, printed: &str) -> Result<String, AllocError> {
     let shown = Part::to_end(text).quoted(alloc)?;
     if printed.is_empty() {
         return format!(in alloc; "{shown} is left out");
@@ -54,10 +54,10 @@ fn note_change(
     ensures last { notes.new.last ≡ notes.old.last }
 {
     let (behind, printed) = ends;
-    let detail = becomes(notes.alloc(), behind, printed)?;
+    let detail = printed_change(notes.alloc(), behind, printed)?;
     let place = Place {
         line: number,
-        column: column_of(line, behind),
+        column: line_column(line, behind),
     };
     notes.add(place, Code::Changed(change), detail.as_str())
 }
@@ -67,8 +67,8 @@ fn note_lost_attribute<'a>(
     notes: &mut Notes,
     number: usize,
     line: &str,
-    left: Left<'a>,
-) -> Result<Left<'a>, AllocError>
+    left: LeftForChanges<'a>,
+) -> Result<LeftForChanges<'a>, AllocError>
     ensures only { OnOk result (OnlyChanges notes.old notes.new) }
     ensures last { notes.new.last ≡ notes.old.last }
 {
@@ -78,7 +78,7 @@ fn note_lost_attribute<'a>(
     let printed = left.printed;
     if let Mark::Unprinted = mark {
         note_change(notes, number, line, (behind_space(line), ""), mark.change())?;
-        return Ok(Left { marks, printed });
+        return Ok(LeftForChanges { marks, printed });
     }
     let Some((written, printed)) = next_printed(printed, "a=") else {
         return Ok(left);
@@ -91,7 +91,7 @@ fn note_lost_attribute<'a>(
         };
         note_change(notes, number, line, fork(line, written), change)?;
     }
-    Ok(Left { marks, printed })
+    Ok(LeftForChanges { marks, printed })
 }
 
 /// What is lost of an m-line, by what stands after its port and what is printed there.
@@ -108,8 +108,8 @@ fn note_media<'a>(
     notes: &mut Notes,
     number: usize,
     line: &str,
-    left: Left<'a>,
-) -> Result<Left<'a>, AllocError>
+    left: LeftForChanges<'a>,
+) -> Result<LeftForChanges<'a>, AllocError>
     ensures only { OnOk result (OnlyChanges notes.old notes.new) }
     ensures last { notes.new.last ≡ notes.old.last }
 {
@@ -122,7 +122,7 @@ fn note_media<'a>(
         note_change(notes, number, line, fork(told.rest, other.rest), change)?;
     }
     let marks = left.marks;
-    Ok(Left { marks, printed })
+    Ok(LeftForChanges { marks, printed })
 }
 
 /// Says what is lost of a line. Returns what is left then.
@@ -130,8 +130,8 @@ fn note_lost<'a>(
     notes: &mut Notes,
     number: usize,
     line: &str,
-    left: Left<'a>,
-) -> Result<Left<'a>, AllocError>
+    left: LeftForChanges<'a>,
+) -> Result<LeftForChanges<'a>, AllocError>
     ensures only { OnOk result (OnlyChanges notes.old notes.new) }
     ensures last { notes.new.last ≡ notes.old.last }
 {
@@ -157,7 +157,7 @@ pub(crate) fn note_printed(
     ensures only { OnOk result (OnlyChanges notes.old notes.new) }
     ensures last { notes.new.last ≡ notes.old.last }
 {
-    let mut left = Left { marks, printed };
+    let mut left = LeftForChanges { marks, printed };
     let mut rest = text;
     let mut passed = before;
     while let Some((line, after)) = next_line(rest) {

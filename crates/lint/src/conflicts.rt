@@ -1,5 +1,5 @@
 //! What lines of a description say against each other.
-ghost use Rattle.lint.specs.Findings.{SaysElse};
+ghost use Rattle.lint.specs.Findings.{AddsOtherFindings};
 ghost use Rattle.std.specs.Prelude.{◌≡◌, OnOk};
 
 use crate::code::{Code, Conflict};
@@ -8,7 +8,7 @@ use crate::lines::next_line;
 use crate::notes::Notes;
 use crate::part::{Part, Place};
 use crate::types::Types;
-use crate::written::{gains_types, head_fault, takes_rows};
+use crate::written::{gains_written_types, head_fault, takes_rows};
 use std::alloc::{AllocError, Global};
 use std::collections::BTreeSet;
 use str0m_sdp::{MediaAttribute, MediaLine, Sdp};
@@ -31,12 +31,12 @@ fn lines_of(alloc: Global, text: &str) -> Result<Vec<usize>, AllocError> {
 }
 
 /// The number of the line that stands there; a number after all lines where there is none.
-pub(crate) fn number_at(lines: &[usize], at: usize) -> usize {
+pub(crate) fn conflict_line_number(lines: &[usize], at: usize) -> usize {
     lines.get(at).copied().unwrap_or(usize::MAX)
 }
 
 /// The lines after so many.
-fn behind(lines: &[usize], count: usize) -> &[usize] {
+fn lines_behind(lines: &[usize], count: usize) -> &[usize] {
     lines.get(count..).unwrap_or(&[])
 }
 
@@ -47,7 +47,7 @@ pub(crate) fn note_conflict(
     conflict: Conflict,
     detail: &str,
 ) -> Result<(), AllocError>
-    ensures others { OnOk result (SaysElse notes.old notes.new) }
+    ensures others { OnOk result (AddsOtherFindings notes.old notes.new) }
     ensures last { notes.new.last ≡ notes.old.last }
 {
     let place = Place {
@@ -64,7 +64,7 @@ pub(crate) fn note_mid(
     conflict: Conflict,
     mid: Mid,
 ) -> Result<(), AllocError>
-    ensures others { OnOk result (SaysElse notes.old notes.new) }
+    ensures others { OnOk result (AddsOtherFindings notes.old notes.new) }
     ensures last { notes.new.last ≡ notes.old.last }
 {
     let name = Part::to_end(mid.as_str()).quoted(notes.alloc())?;
@@ -73,7 +73,7 @@ pub(crate) fn note_mid(
 
 /// Says that a line contradicts others by what it says of a payload type.
 fn note_type(notes: &mut Notes, number: usize, conflict: Conflict, pt: Pt) -> Result<(), AllocError>
-    ensures others { OnOk result (SaysElse notes.old notes.new) }
+    ensures others { OnOk result (AddsOtherFindings notes.old notes.new) }
     ensures last { notes.new.last ≡ notes.old.last }
 {
     let detail = format!(in notes.alloc(); "type {pt}")?;
@@ -96,10 +96,10 @@ fn note_head(
     section: SectionLines<'_>,
     types: &Types<'_>,
 ) -> Result<(), AllocError>
-    ensures others { OnOk result (SaysElse notes.old notes.new) }
+    ensures others { OnOk result (AddsOtherFindings notes.old notes.new) }
     ensures last { notes.new.last ≡ notes.old.last }
 {
-    let number = number_at(section.numbers, 0);
+    let number = conflict_line_number(section.numbers, 0);
     if let Some(pt) = types.static_of_other_kind() {
         note_type(notes, number, Conflict::OtherKind, pt)?;
     }
@@ -121,7 +121,7 @@ fn note_line_conflict(
     types: &Types<'_>,
     attribute: &MediaAttribute,
 ) -> Result<(), AllocError>
-    ensures others { OnOk result (SaysElse notes.old notes.new) }
+    ensures others { OnOk result (AddsOtherFindings notes.old notes.new) }
     ensures last { notes.new.last ≡ notes.old.last }
 {
     match types.conflict(attribute) {
@@ -136,10 +136,10 @@ fn note_stream(
     number: usize,
     attribute: &MediaAttribute,
 ) -> Result<(), AllocError>
-    ensures others { OnOk result (SaysElse notes.old notes.new) }
+    ensures others { OnOk result (AddsOtherFindings notes.old notes.new) }
     ensures last { notes.new.last ≡ notes.old.last }
 {
-    if gains_types(notes.alloc(), attribute)? {
+    if gains_written_types(notes.alloc(), attribute)? {
         return note_conflict(
             notes,
             number,
@@ -152,14 +152,14 @@ fn note_stream(
 
 /// Says what the lines of a section say against each other.
 fn note_section(notes: &mut Notes, section: SectionLines<'_>) -> Result<(), AllocError>
-    ensures others { OnOk result (SaysElse notes.old notes.new) }
+    ensures others { OnOk result (AddsOtherFindings notes.old notes.new) }
     ensures last { notes.new.last ≡ notes.old.last }
 {
     let types = Types::of(section.line);
     note_head(notes, section, &types)?;
-    let numbers = behind(section.numbers, 1);
+    let numbers = lines_behind(section.numbers, 1);
     for (i, attribute) in section.line.attrs.as_slice().iter().enumerate() {
-        let number = number_at(numbers, i);
+        let number = conflict_line_number(numbers, i);
         note_line_conflict(notes, number, &types, attribute)?;
         if section.some_take_rows {
             note_stream(notes, number, attribute)?;
@@ -169,7 +169,7 @@ fn note_section(notes: &mut Notes, section: SectionLines<'_>) -> Result<(), Allo
 }
 
 /// The mid of a section, and how many attributes stand before it.
-fn mid_of(section: &MediaLine) -> Option<(usize, &Mid)> {
+fn conflict_mid_of(section: &MediaLine) -> Option<(usize, &Mid)> {
     for (i, attribute) in section.attrs.as_slice().iter().enumerate() {
         if let MediaAttribute::Mid(mid) = attribute {
             return Some((i, mid));
@@ -179,7 +179,7 @@ fn mid_of(section: &MediaLine) -> Option<(usize, &Mid)> {
 }
 
 /// How many sections rows may be written into.
-fn count_taking(sections: &[MediaLine]) -> usize {
+fn count_sections_taking(sections: &[MediaLine]) -> usize {
     sections
         .iter()
         .filter(|section| takes_rows(section))
@@ -192,16 +192,16 @@ fn note_sections(
     lines: &[usize],
     sections: &[MediaLine],
 ) -> Result<(), AllocError>
-    ensures others { OnOk result (SaysElse notes.old notes.new) }
+    ensures others { OnOk result (AddsOtherFindings notes.old notes.new) }
     ensures last { notes.new.last ≡ notes.old.last }
 {
-    let taking = count_taking(sections);
+    let taking = count_sections_taking(sections);
     let mut seen = BTreeSet::new(notes.alloc());
     let mut numbers = lines;
     for line in sections {
-        if let Some((i, mid)) = mid_of(line) {
+        if let Some((i, mid)) = conflict_mid_of(line) {
             if !seen.insert(mid.as_str())? {
-                let number = number_at(numbers, i.saturating_add(1));
+                let number = conflict_line_number(numbers, i.saturating_add(1));
                 note_mid(notes, number, Conflict::RepeatedMid, *mid)?;
             }
         }
@@ -212,16 +212,16 @@ fn note_sections(
             others_take_rows: taking > usize::from(takes_rows(line)),
         };
         note_section(notes, section)?;
-        numbers = behind(numbers, line.attrs.len().saturating_add(1));
+        numbers = lines_behind(numbers, line.attrs.len().saturating_add(1));
     }
     Ok(())
 }
 
 /// The mids of sections.
-fn names_of(alloc: Global, sections: &[MediaLine]) -> Result<BTreeSet<&str>, AllocError> {
+fn mids_of_sections(alloc: Global, sections: &[MediaLine]) -> Result<BTreeSet<&str>, AllocError> {
     let mut names = BTreeSet::new(alloc);
     for section in sections {
-        if let Some((_, mid)) = mid_of(section) {
+        if let Some((_, mid)) = conflict_mid_of(section) {
             names.insert(mid.as_str())?;
         }
     }
@@ -236,18 +236,18 @@ pub(crate) fn note_conflicts(
     sdp: &Sdp,
     is_whole: bool,
 ) -> Result<(), AllocError>
-    ensures others { OnOk result (SaysElse notes.old notes.new) }
+    ensures others { OnOk result (AddsOtherFindings notes.old notes.new) }
     ensures last { notes.new.last ≡ notes.old.last }
 {
     let alloc = notes.alloc();
     let lines = lines_of(alloc, text)?;
     let lines = lines.as_slice();
     let sections = sdp.media_lines.as_slice();
-    let names = names_of(alloc, sections)?;
+    let names = mids_of_sections(alloc, sections)?;
     let attributes = sdp.session.attrs.as_slice();
     note_groups(notes, lines, attributes, &names)?;
     if is_whole || !sections.is_empty() {
         note_grouping(notes, lines, sdp, &names)?;
     }
-    note_sections(notes, behind(lines, attributes.len()), sections)
+    note_sections(notes, lines_behind(lines, attributes.len()), sections)
 }

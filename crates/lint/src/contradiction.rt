@@ -8,25 +8,25 @@ use str0m_values::Pt;
 
 /// The numbers of the first two lines of a kind, 0 where there is none.
 #[derive(Clone, Copy)]
-struct FirstTwo {
+struct FirstTwoLines {
     first: usize,
     second: usize,
 }
 
-impl FirstTwo {
-    const NONE: FirstTwo = FirstTwo {
+impl FirstTwoLines {
+    const NONE: FirstTwoLines = FirstTwoLines {
         first: 0,
         second: 0,
     };
 
     /// The pair with one more line.
-    fn and(self, line: usize) -> FirstTwo {
+    fn and(self, line: usize) -> FirstTwoLines {
         match (self.first, self.second) {
-            (0, _) => FirstTwo {
+            (0, _) => FirstTwoLines {
                 first: line,
                 second: 0,
             },
-            (first, 0) => FirstTwo {
+            (first, 0) => FirstTwoLines {
                 first,
                 second: line,
             },
@@ -52,17 +52,17 @@ pub(crate) struct Fault {
 
 /// The first two lines of each kind that a section has once, where its attributes begin after so many lines.
 #[derive(Clone, Copy)]
-struct Seen {
-    mids: FirstTwo,
-    setups: FirstTwo,
-    directions: FirstTwo,
+struct ContradictionLines {
+    mids: FirstTwoLines,
+    setups: FirstTwoLines,
+    directions: FirstTwoLines,
 }
 
-fn first_lines(attributes: &[MediaAttribute], before: usize) -> Seen {
-    let mut seen = Seen {
-        mids: FirstTwo::NONE,
-        setups: FirstTwo::NONE,
-        directions: FirstTwo::NONE,
+fn first_lines(attributes: &[MediaAttribute], before: usize) -> ContradictionLines {
+    let mut seen = ContradictionLines {
+        mids: FirstTwoLines::NONE,
+        setups: FirstTwoLines::NONE,
+        directions: FirstTwoLines::NONE,
     };
     let mut line = before;
     for attribute in attributes {
@@ -78,9 +78,9 @@ fn first_lines(attributes: &[MediaAttribute], before: usize) -> Seen {
     seen
 }
 
-impl Seen {
+impl ContradictionLines {
     /// What a section over this protocol lacks or has twice.
-    fn fault(self, proto: Proto) -> Option<(Refusal, FirstTwo)> {
+    fn fault(self, proto: Proto) -> Option<(Refusal, FirstTwoLines)> {
         if self.mids.first == 0 {
             return Some((Refusal::MissingMid, self.mids));
         }
@@ -102,8 +102,8 @@ impl Seen {
 }
 
 /// The first two mappings of each payload type.
-fn mappings(attributes: &[MediaAttribute], before: usize) -> [FirstTwo; 256] {
-    let mut mappings = [FirstTwo::NONE; 256];
+fn mappings(attributes: &[MediaAttribute], before: usize) -> [FirstTwoLines; 256] {
+    let mut mappings = [FirstTwoLines::NONE; 256];
     let mut line = before;
     for attribute in attributes {
         line = line.saturating_add(1);
@@ -116,7 +116,7 @@ fn mappings(attributes: &[MediaAttribute], before: usize) -> [FirstTwo; 256] {
 }
 
 /// The first payload type without a mapping or with two, and the lines.
-fn mapping_fault(section: &MediaLine, before: usize) -> Option<(Refusal, Pt, FirstTwo)> {
+fn mapping_fault(section: &MediaLine, before: usize) -> Option<(Refusal, Pt, FirstTwoLines)> {
     let mappings = mappings(section.attrs.as_slice(), before);
     for pt in section.pts.as_slice() {
         let pair = mappings[usize::from(pt.value())];
@@ -131,7 +131,7 @@ fn mapping_fault(section: &MediaLine, before: usize) -> Option<(Refusal, Pt, Fir
 }
 
 /// The first primary type that the values name.
-fn apt_of(values: &[FormatParam]) -> Option<Pt> {
+fn contradicting_apt_of(values: &[FormatParam]) -> Option<Pt> {
     values.iter().find_map(|value| match value {
         FormatParam::Apt(pt) => Some(*pt),
         _ => None,
@@ -139,20 +139,23 @@ fn apt_of(values: &[FormatParam]) -> Option<Pt> {
 }
 
 /// The first payload type of which two format lines name different primary types, and these lines.
-fn clash(attributes: &[MediaAttribute], before: usize) -> Option<(Pt, FirstTwo)> {
+fn contradicting_formats(
+    attributes: &[MediaAttribute],
+    before: usize,
+) -> Option<(Pt, FirstTwoLines)> {
     let mut apts = [(0usize, 0u8); 256];
     let mut line = before;
     for attribute in attributes {
         line = line.saturating_add(1);
         if let MediaAttribute::Fmtp { pt, values } = attribute {
-            if let Some(apt) = apt_of(values.as_slice()) {
+            if let Some(apt) = contradicting_apt_of(values.as_slice()) {
                 let (first, known) = apts[usize::from(pt.value())];
                 if first == 0 {
                     apts[usize::from(pt.value())] = (line, apt.value());
                 } else if known != apt.value() {
                     return Some((
                         *pt,
-                        FirstTwo {
+                        FirstTwoLines {
                             first,
                             second: line,
                         },
@@ -182,7 +185,7 @@ pub(crate) fn contradiction(section: &MediaLine, before: usize) -> Result<Fault,
         let detail = format!(in alloc; "type {pt}{comma}{lines}")?;
         return Ok(Fault { refusal, detail });
     }
-    let detail = match clash(attributes, before) {
+    let detail = match contradicting_formats(attributes, before) {
         Some((pt, pair)) => {
             let lines = pair.said(alloc)?;
             format!(in alloc; "type {pt}, {lines}")?

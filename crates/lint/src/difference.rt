@@ -7,37 +7,47 @@ use str0m_values::cuts::before;
 
 /// A parameter of a format, and its text.
 #[derive(Drop)]
-struct Parameter {
+struct DifferenceParameter {
     text: String,
     param: FormatParam,
 }
 
-impl Parameter {
+impl DifferenceParameter {
     fn key(&self) -> &str {
         before(self.text.as_str(), Separator::Equals)
     }
 }
 
 /// The parameters of a format, in the order in which they print.
-fn parameters(alloc: Global, format: FormatParams) -> Result<Vec<Parameter>, AllocError> {
+fn format_parameters(
+    alloc: Global,
+    format: FormatParams,
+) -> Result<Vec<DifferenceParameter>, AllocError> {
     let mut all = Vec::new(alloc);
     let params = format.to_format_param(alloc)?;
     for param in &params {
         let text = param.to_string(alloc)?;
         let param = *param;
-        all.push(Parameter { text, param })?;
+        all.push(DifferenceParameter { text, param })?;
     }
     Ok(all)
 }
 
 /// The parameter of a key.
-fn of_key<'a>(all: &'a [Parameter], key: &str) -> Option<&'a Parameter> {
+fn parameter_of_key<'a>(
+    all: &'a [DifferenceParameter],
+    key: &str,
+) -> Option<&'a DifferenceParameter> {
     all.iter().find(|it| it.key() == key)
 }
 
 /// What a format says of a key, in quotes.
-fn said(alloc: Global, all: &[Parameter], key: &str) -> Result<String, AllocError> {
-    match of_key(all, key) {
+fn said_of_key(
+    alloc: Global,
+    all: &[DifferenceParameter],
+    key: &str,
+) -> Result<String, AllocError> {
+    match parameter_of_key(all, key) {
         Some(it) => {
             let text = it.text.as_str();
             format!(in alloc; "`{text}`")
@@ -47,7 +57,7 @@ fn said(alloc: Global, all: &[Parameter], key: &str) -> Result<String, AllocErro
 }
 
 /// How many channels a row has.
-fn channels(alloc: Global, count: Option<u8>) -> Result<String, AllocError> {
+fn row_channels(alloc: Global, count: Option<u8>) -> Result<String, AllocError> {
     match count {
         Some(1) => String::from_str(alloc, "1 channel"),
         Some(count) => format!(in alloc; "{count} channels"),
@@ -57,24 +67,24 @@ fn channels(alloc: Global, count: Option<u8>) -> Result<String, AllocError> {
 
 /// A row of this side and one of the other side, of the same codec, with what their formats say.
 #[derive(Drop)]
-pub(crate) struct Pair<'a> {
+pub(crate) struct RowDifference<'a> {
     ours: &'a PayloadParams,
     theirs: &'a PayloadParams,
-    own: Vec<Parameter>,
-    other: Vec<Parameter>,
+    own: Vec<DifferenceParameter>,
+    other: Vec<DifferenceParameter>,
 }
 
-impl<'a> Pair<'a> {
+impl<'a> RowDifference<'a> {
     pub(crate) fn of(
         alloc: Global,
         ours: &'a PayloadParams,
         theirs: &'a PayloadParams,
-    ) -> Result<Pair<'a>, AllocError> {
-        Ok(Pair {
+    ) -> Result<RowDifference<'a>, AllocError> {
+        Ok(RowDifference {
             ours,
             theirs,
-            own: parameters(alloc, ours.spec().format)?,
-            other: parameters(alloc, theirs.spec().format)?,
+            own: format_parameters(alloc, ours.spec().format)?,
+            other: format_parameters(alloc, theirs.spec().format)?,
         })
     }
 
@@ -103,7 +113,7 @@ impl<'a> Pair<'a> {
                 format.set_param(&it.param);
             }
         }
-        if let Some(it) = of_key(self.other.as_slice(), key) {
+        if let Some(it) = parameter_of_key(self.other.as_slice(), key) {
             format.set_param(&it.param);
         }
         format
@@ -117,7 +127,7 @@ impl<'a> Pair<'a> {
     }
 
     /// How many keys of a format alone make the rows unfit.
-    fn unfit_count(&self, all: &[Parameter]) -> usize {
+    fn unfit_count(&self, all: &[DifferenceParameter]) -> usize {
         all.iter().filter(|it| self.has_unfit(it.key())).count()
     }
 
@@ -133,13 +143,13 @@ impl<'a> Pair<'a> {
     }
 
     /// The first key of a format that alone makes the rows unfit.
-    fn unfit_key<'b>(&self, all: &'b [Parameter]) -> Option<&'b str> {
+    fn unfit_key<'b>(&self, all: &'b [DifferenceParameter]) -> Option<&'b str> {
         let found = all.iter().find(|it| self.has_unfit(it.key()))?;
         Some(found.key())
     }
 
     /// The first key of a format of which the rows say different things.
-    fn other_key<'b>(&self, all: &'b [Parameter]) -> Option<&'b str> {
+    fn other_key<'b>(&self, all: &'b [DifferenceParameter]) -> Option<&'b str> {
         let own = self.ours.spec().format;
         let found = all.iter().find(|it| self.with_key(it.key()) != own)?;
         Some(found.key())
@@ -173,14 +183,14 @@ impl<'a> Pair<'a> {
         }
         if self.has_other_channels() {
             return Ok((
-                channels(alloc, own.channels)?,
-                channels(alloc, other.channels)?,
+                row_channels(alloc, own.channels)?,
+                row_channels(alloc, other.channels)?,
             ));
         }
         let key = self.key().unwrap_or("");
         Ok((
-            said(alloc, self.own.as_slice(), key)?,
-            said(alloc, self.other.as_slice(), key)?,
+            said_of_key(alloc, self.own.as_slice(), key)?,
+            said_of_key(alloc, self.other.as_slice(), key)?,
         ))
     }
 
@@ -193,15 +203,15 @@ impl<'a> Pair<'a> {
 }
 
 /// The row of the same codec that is nearest to a row of the other side, the first of several.
-pub(crate) fn nearest<'a>(
+pub(crate) fn nearest_row<'a>(
     alloc: Global,
     rows: &'a [PayloadParams],
     theirs: &'a PayloadParams,
-) -> Result<Option<Pair<'a>>, AllocError> {
-    let mut best: Option<Pair<'a>> = None;
+) -> Result<Option<RowDifference<'a>>, AllocError> {
+    let mut best: Option<RowDifference<'a>> = None;
     for row in rows {
         if row.spec().codec == theirs.spec().codec {
-            let pair = Pair::of(alloc, row, theirs)?;
+            let pair = RowDifference::of(alloc, row, theirs)?;
             let is_nearer = match &best {
                 Some(known) => pair.distance() < known.distance(),
                 None => true,

@@ -13,7 +13,7 @@ pub(crate) fn is_field(line: &str, letter: &str) -> bool {
 
 /// Whether the line is one that may stand between the name of a session and its bandwidth (RFC 8866, sections 5.4 to 5.7, 5.11 and
 /// 5.12).
-pub(crate) fn is_info(line: &str) -> bool {
+pub(crate) fn is_info_field(line: &str) -> bool {
     match line.get(..2) {
         Some(letter) => {
             matches!(letter, "i=" | "u=" | "e=" | "p=" | "c=" | "z=" | "k=")
@@ -24,7 +24,7 @@ pub(crate) fn is_info(line: &str) -> bool {
 }
 
 /// Whether the line is `b=` with a type and a value (RFC 8866, section 5.8).
-pub(crate) fn is_bandwidth(line: &str) -> bool {
+pub(crate) fn is_bandwidth_field(line: &str) -> bool {
     match cut(line, Separator::Colon) {
         Some((typ, value)) => {
             is_field(typ, "b=") && !value.is_empty() && !has(line, Separator::CarriageReturn)
@@ -34,7 +34,7 @@ pub(crate) fn is_bandwidth(line: &str) -> bool {
 }
 
 /// Whether the line names a session (RFC 8866, section 5.2).
-pub(crate) fn is_origin(line: &str) -> bool {
+pub(crate) fn is_origin_field(line: &str) -> bool {
     let Some(body) = strip(line, "o=") else {
         return false;
     };

@@ -2,32 +2,32 @@
 ghost use Rattle.std.specs.Prelude.{◌<◌, IfSome, length};
 
 /// Whether the character parts words of a line.
-fn is_separator(byte: u8) -> bool {
+fn is_fork_separator(byte: u8) -> bool {
     matches!(byte, b' ' | b':' | b';' | b',' | b'=' | b'/')
 }
 
 /// How many bytes of two lines are the same, up to the last separator before they differ; where the line goes on after what is printed
 /// with a separator, with that.
-fn common(line: &[u8], printed: &[u8]) -> usize {
+fn fork_start(line: &[u8], printed: &[u8]) -> usize {
     let shorter = line.len().min(printed.len());
     let mut start = 0usize;
     for i in 0..shorter {
         if line[i] != printed[i] {
             return start;
         }
-        if is_separator(line[i]) {
+        if is_fork_separator(line[i]) {
             start = i + 1;
         }
     }
     match line.get(shorter) {
-        Some(byte) if is_separator(*byte) => shorter.saturating_add(1),
+        Some(byte) if is_fork_separator(*byte) => shorter.saturating_add(1),
         _ => start,
     }
 }
 
 /// What stands in two lines from the word on in which they differ.
 pub(crate) fn fork<'a, 'b>(line: &'a str, printed: &'b str) -> (&'a str, &'b str) {
-    let start = common(line.as_bytes(), printed.as_bytes());
+    let start = fork_start(line.as_bytes(), printed.as_bytes());
     (
         line.get(start..).unwrap_or(""),
         printed.get(start..).unwrap_or(""),

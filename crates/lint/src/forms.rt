@@ -8,7 +8,7 @@ use str0m_values::{IpAddr, Separator, candidate_label, case_of};
 
 /// Where an attribute is read.
 #[derive(Clone, Copy, PartialEq, Eq)]
-pub(crate) enum Level {
+pub(crate) enum FormLevel {
     Session,
     Section,
     Both,
@@ -83,7 +83,7 @@ const PARTS: usize = 6;
 
 /// An attribute: its label, where it is read, and its parts after the label. A word alone has none.
 #[derive(Clone, Copy)]
-pub(crate) struct Form(&'static str, Level, [Step; PARTS]);
+pub(crate) struct Form(&'static str, FormLevel, [Step; PARTS]);
 
 const WORD_ALONE: [Step; PARTS] = [MORE; PARTS];
 
@@ -94,37 +94,37 @@ const WORDS: [Step; PARTS] = [WORD, LAST, MORE, MORE, MORE, MORE];
 static FORMS: [Form; 32] = [
     Form(
         label::RTPMAP,
-        Level::Section,
+        FormLevel::Section,
         [TYPE, NAME_OF_CODEC, RATE, CHANNELS, MORE, MORE],
     ),
     Form(
         label::FMTP,
-        Level::Section,
+        FormLevel::Section,
         [TYPE_OR_END, MORE, MORE, MORE, MORE, MORE],
     ),
     Form(
         label::RTCP_FB,
-        Level::Section,
+        FormLevel::Section,
         [TYPE, LAST, MORE, MORE, MORE, MORE],
     ),
     Form(
         label::EXTMAP,
-        Level::Section,
+        FormLevel::Section,
         [EXTENSION, LAST, MORE, MORE, MORE, MORE],
     ),
     Form(
         candidate_label::CANDIDATE,
-        Level::Both,
+        FormLevel::Both,
         [WORD, PORT, WORD, NUMBER, ADDRESS, PORT],
     ),
     Form(
         label::SSRC,
-        Level::Section,
+        FormLevel::Section,
         [NUMBER, KEY, LAST, MORE, MORE, MORE],
     ),
     Form(
         label::SSRC_GROUP,
-        Level::Section,
+        FormLevel::Section,
         [
             WORD,
             NUMBER_OR_END,
@@ -136,53 +136,53 @@ static FORMS: [Form; 32] = [
     ),
     Form(
         label::SETUP,
-        Level::Both,
+        FormLevel::Both,
         [LAST_ROLE, MORE, MORE, MORE, MORE, MORE],
     ),
     Form(
         label::FINGERPRINT,
-        Level::Both,
+        FormLevel::Both,
         [WORD, HEX_PAIR, HEX_PAIR, HEX_PAIR, HEX_PAIR, HEX_PAIR],
     ),
     Form(
         label::RID,
-        Level::Section,
+        FormLevel::Section,
         [NAME, DIRECTION, MORE, MORE, MORE, MORE],
     ),
     Form(
         label::SIMULCAST,
-        Level::Section,
+        FormLevel::Section,
         [DIRECTION, MORE, MORE, MORE, MORE, MORE],
     ),
     Form(
         label::SCTP_PORT,
-        Level::Section,
+        FormLevel::Section,
         [LAST_PORT, MORE, MORE, MORE, MORE, MORE],
     ),
     Form(
         label::MAX_MESSAGE_SIZE,
-        Level::Section,
+        FormLevel::Section,
         [LAST_SIZE, MORE, MORE, MORE, MORE, MORE],
     ),
-    Form(label::MSID, Level::Section, WORDS),
-    Form(label::MSID_SEMANTIC, Level::Session, WORDS),
-    Form(label::GROUP, Level::Session, ONE_TEXT),
-    Form(label::ICE_UFRAG, Level::Both, ONE_TEXT),
-    Form(label::ICE_PWD, Level::Both, ONE_TEXT),
-    Form(label::ICE_OPTIONS, Level::Both, ONE_TEXT),
-    Form(label::MID, Level::Section, ONE_TEXT),
-    Form(label::RTCP, Level::Section, ONE_TEXT),
-    Form(label::SCTP_INIT, Level::Section, ONE_TEXT),
-    Form(label::EXTMAP_ALLOW_MIXED, Level::Session, WORD_ALONE),
-    Form(label::ICE_LITE, Level::Session, WORD_ALONE),
-    Form(label::END_OF_CANDIDATES, Level::Both, WORD_ALONE),
-    Form(label::RECV_ONLY, Level::Section, WORD_ALONE),
-    Form(label::SEND_RECV, Level::Section, WORD_ALONE),
-    Form(label::SEND_ONLY, Level::Section, WORD_ALONE),
-    Form(label::INACTIVE, Level::Section, WORD_ALONE),
-    Form(label::RTCP_MUX, Level::Section, WORD_ALONE),
-    Form(label::RTCP_MUX_ONLY, Level::Section, WORD_ALONE),
-    Form(label::RTCP_RSIZE, Level::Section, WORD_ALONE),
+    Form(label::MSID, FormLevel::Section, WORDS),
+    Form(label::MSID_SEMANTIC, FormLevel::Session, WORDS),
+    Form(label::GROUP, FormLevel::Session, ONE_TEXT),
+    Form(label::ICE_UFRAG, FormLevel::Both, ONE_TEXT),
+    Form(label::ICE_PWD, FormLevel::Both, ONE_TEXT),
+    Form(label::ICE_OPTIONS, FormLevel::Both, ONE_TEXT),
+    Form(label::MID, FormLevel::Section, ONE_TEXT),
+    Form(label::RTCP, FormLevel::Section, ONE_TEXT),
+    Form(label::SCTP_INIT, FormLevel::Section, ONE_TEXT),
+    Form(label::EXTMAP_ALLOW_MIXED, FormLevel::Session, WORD_ALONE),
+    Form(label::ICE_LITE, FormLevel::Session, WORD_ALONE),
+    Form(label::END_OF_CANDIDATES, FormLevel::Both, WORD_ALONE),
+    Form(label::RECV_ONLY, FormLevel::Section, WORD_ALONE),
+    Form(label::SEND_RECV, FormLevel::Section, WORD_ALONE),
+    Form(label::SEND_ONLY, FormLevel::Section, WORD_ALONE),
+    Form(label::INACTIVE, FormLevel::Section, WORD_ALONE),
+    Form(label::RTCP_MUX, FormLevel::Section, WORD_ALONE),
+    Form(label::RTCP_MUX_ONLY, FormLevel::Section, WORD_ALONE),
+    Form(label::RTCP_RSIZE, FormLevel::Section, WORD_ALONE),
 ];
 
 // Nothing else names the table: what does is proved over a copy of it.
@@ -191,7 +191,7 @@ fn all_forms() -> &'static [Form] {
 }
 
 /// The form of this name among those that are listed.
-fn named_among(forms: &[Form], name: &str) -> Option<Form> {
+fn form_named_among(forms: &[Form], name: &str) -> Option<Form> {
     forms
         .iter()
         .copied()
@@ -199,7 +199,7 @@ fn named_among(forms: &[Form], name: &str) -> Option<Form> {
 }
 
 /// Whether the text is one or more ASCII letters and digits, and letters of other scripts.
-fn is_name(text: &str) -> bool {
+fn is_form_name(text: &str) -> bool {
     !text.is_empty()
         && text
             .bytes()
@@ -207,7 +207,7 @@ fn is_name(text: &str) -> bool {
 }
 
 /// What is said where the part isn't of this kind.
-fn misfit_unless(is: bool, misfit: Misfit) -> Option<Misfit> {
+fn form_misfit_unless(is: bool, misfit: Misfit) -> Option<Misfit> {
     if is { None } else { Some(misfit) }
 }
 
@@ -224,41 +224,47 @@ impl Kind {
             Kind::Text | Kind::Any => None,
             Kind::PayloadType => match text {
                 "*" => Some(Misfit::AllTypes),
-                _ => misfit_unless(num_u8(text, 127).is_some(), Misfit::PayloadType),
+                _ => form_misfit_unless(num_u8(text, 127).is_some(), Misfit::PayloadType),
             },
-            Kind::Extension => misfit_unless(
+            Kind::Extension => form_misfit_unless(
                 num_u8(before(text, Separator::Slash), 255).is_some(),
                 Misfit::Number,
             ),
-            Kind::Channels => misfit_unless(num_u8(text, 255).is_some(), Misfit::Number),
-            Kind::Port => misfit_unless(num_u16(text).is_some(), Misfit::Number),
-            Kind::Number => misfit_unless(num_u32(text).is_some(), Misfit::Number),
-            Kind::Size => misfit_unless(text.parse::<u64>().is_ok(), Misfit::Number),
+            Kind::Channels => form_misfit_unless(num_u8(text, 255).is_some(), Misfit::Number),
+            Kind::Port => form_misfit_unless(num_u16(text).is_some(), Misfit::Number),
+            Kind::Number => form_misfit_unless(num_u32(text).is_some(), Misfit::Number),
+            Kind::Size => form_misfit_unless(text.parse::<u64>().is_ok(), Misfit::Number),
             Kind::Rate => match num_u32(text) {
-                Some(rate) => misfit_unless(rate > 0, Misfit::ClockRate),
+                Some(rate) => form_misfit_unless(rate > 0, Misfit::ClockRate),
                 None => Some(Misfit::ClockRate),
             },
-            Kind::Address => misfit_unless(IpAddr::from_text(text).is_some(), Misfit::HostName),
-            Kind::Role => misfit_unless(case_of(&SETUPS, text).is_some(), Misfit::Role),
-            Kind::Name => misfit_unless(is_name(text), Misfit::StreamName),
-            Kind::Direction => misfit_unless(
+            Kind::Address => form_misfit_unless(
+                IpAddr::from_text(text).is_some(),
+                Misfit::HostName,
+            ),
+            Kind::Role => form_misfit_unless(case_of(&SETUPS, text).is_some(), Misfit::Role),
+            Kind::Name => form_misfit_unless(is_form_name(text), Misfit::StreamName),
+            Kind::Direction => form_misfit_unless(
                 text == "send" || text == "recv",
                 Misfit::StreamDirection,
             ),
-            Kind::HexPair => misfit_unless(text.len() == 2 && hex_u8(text).is_some(), Misfit::Hash),
+            Kind::HexPair => form_misfit_unless(
+                text.len() == 2 && hex_u8(text).is_some(),
+                Misfit::Hash,
+            ),
         }
     }
 }
 
 /// The name of an attribute: the text after `a=` up to a colon or a space.
-pub(crate) fn name_of(text: &str) -> &str {
+pub(crate) fn form_name_of(text: &str) -> &str {
     before(before(text, Separator::Colon), Separator::Space)
 }
 
 impl Form {
     /// The form of the attribute of this name.
     pub(crate) fn named(name: &str) -> Option<Form> {
-        named_among(all_forms(), name)
+        form_named_among(all_forms(), name)
     }
 
     /// The label, with its colon where a value follows.
@@ -267,7 +273,7 @@ impl Form {
     }
 
     /// Where the attribute is read.
-    pub(crate) fn level(self) -> Level {
+    pub(crate) fn level(self) -> FormLevel {
         self.1
     }
 

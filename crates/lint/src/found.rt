@@ -1,5 +1,5 @@
 //! What a text loses, and why it is refused, line by line.
-ghost use Rattle.lint.specs.Findings.{AreFindingsOf, AreSilent, IsNoWant, ReadsAs, TellsUnread, ends, lines_kept, is_refused};
+ghost use Rattle.lint.specs.Findings.{AreFindingsOf, AreFindingsSilent, IsNotOutOfMemory, ReadsAs, TellsUnread, end_lines, lines_kept, is_refused};
 ghost use Rattle.lint.specs.Kept.{kept_at, kept_flags};
 ghost use Rattle.lint.specs.Lines.{IsWithinLines, attribute_numbers, last_line, unread_lines};
 ghost use Rattle.lint.specs.Prelude.{AtMostOne, Reading, Sdp, lines_of};
@@ -10,7 +10,7 @@ use crate::attribute_lines::note_attributes;
 use crate::changes::note_changes;
 use crate::conflicts::note_conflicts;
 use crate::finding::Report;
-use crate::lines::{line_count, text_before};
+use crate::lines::{line_count, lines_before_rest};
 use crate::mark::all_marks;
 use crate::notes::Notes;
 use crate::refused::note_refused;
@@ -29,7 +29,7 @@ fn note_read(notes: &mut Notes, text: &str, sdp: &Sdp, rest: &str) -> Result<(),
     let printed = sdp.to_string(notes.alloc())?;
     note_changes(
         notes,
-        text_before(text, rest),
+        lines_before_rest(text, rest),
         printed.as_str(),
         marks.as_slice(),
     )?;
@@ -46,12 +46,12 @@ fn note_described(notes: &mut Notes, text: &str, sdp: &Sdp, rest: &str) -> Resul
     ensures last { notes.new.last ≡ notes.old.last }
 {
     note_read(notes, text, sdp, rest)?;
-    note_conflicts(notes, text_before(text, rest), sdp, rest.is_empty())
+    note_conflicts(notes, lines_before_rest(text, rest), sdp, rest.is_empty())
 }
 
 /// Of an error that isn't out of memory, nothing.
-fn unless_memory(error: SdpError) -> Result<(), AllocError>
-    ensures { OnOk result (IsNoWant error) }
+fn found_unless_memory(error: SdpError) -> Result<(), AllocError>
+    ensures { OnOk result (IsNotOutOfMemory error) }
 {
     match error {
         SdpError::Memory => Err(AllocError),
@@ -68,7 +68,7 @@ pub(crate) fn read(alloc: Global, text: &str) -> Result<Option<(Sdp, &str)>, All
     match sdp_parser(alloc, text) {
         Ok(found) => Ok(Some(found)),
         Err(error) => {
-            unless_memory(error)?;
+            found_unless_memory(error)?;
             Ok(None)
         }
     }
@@ -102,10 +102,10 @@ fn note_found(notes: &mut Notes, text: &str, found: Option<(Sdp, &str)>) -> Resu
 pub fn findings(alloc: Global, text: &str) -> Result<Report, AllocError>
     ensures numbered { IfOk result (λ report. All (IsWithinLines (last_line text.now)) report.findings) }
     ensures refused { IfOk result (λ report. (is_refused report.findings ≡ true) ↔ ((v : Sdp × List ℕ) → Reading text.now v → ⊥)) }
-    ensures unread { IfOk result (λ report. (sdp : Sdp) (rest : List ℕ) → Reading text.now (sdp, rest) → ends report.findings ≡ unread_lines text.now rest) }
+    ensures unread { IfOk result (λ report. (sdp : Sdp) (rest : List ℕ) → Reading text.now (sdp, rest) → end_lines report.findings ≡ unread_lines text.now rest) }
     ensures kept { IfOk result (λ report. (sdp : Sdp) (rest : List ℕ) → Reading text.now (sdp, rest)
         → lines_kept report.findings ≡ kept_at (kept_flags sdp) (attribute_numbers 1 (lines_of text.now))) }
-    ensures silent { IfOk result (λ report. AreSilent report.findings ↔ NothingLost text.now) }
+    ensures silent { IfOk result (λ report. AreFindingsSilent report.findings ↔ NothingLost text.now) }
 {
     let mut notes = Notes::new(alloc, line_count(text));
     let found = read(alloc, text)?;

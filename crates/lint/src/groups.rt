@@ -1,9 +1,9 @@
 //! What the groups of a session say against its sections.
-ghost use Rattle.lint.specs.Findings.{SaysElse};
+ghost use Rattle.lint.specs.Findings.{AddsOtherFindings};
 ghost use Rattle.std.specs.Prelude.{◌≡◌, OnOk};
 
 use crate::code::Conflict;
-use crate::conflicts::{note_conflict, note_mid, number_at};
+use crate::conflicts::{conflict_line_number, note_conflict, note_mid};
 use crate::notes::Notes;
 use std::alloc::AllocError;
 use std::collections::BTreeSet;
@@ -11,7 +11,7 @@ use str0m_sdp::{Sdp, SdpError, SessionAttribute};
 use str0m_values::Mid;
 
 /// The first mid of a group that no section has.
-fn stray(mids: &[Mid], names: &BTreeSet<&str>) -> Option<Mid> {
+fn stray_group_mid(mids: &[Mid], names: &BTreeSet<&str>) -> Option<Mid> {
     mids.iter()
         .copied()
         .find(|mid| !names.contains(mid.as_str()))
@@ -24,10 +24,10 @@ fn note_group(
     mids: &[Mid],
     names: &BTreeSet<&str>,
 ) -> Result<(), AllocError>
-    ensures others { OnOk result (SaysElse notes.old notes.new) }
+    ensures others { OnOk result (AddsOtherFindings notes.old notes.new) }
     ensures last { notes.new.last ≡ notes.old.last }
 {
-    match stray(mids, names) {
+    match stray_group_mid(mids, names) {
         Some(mid) => note_mid(notes, number, Conflict::GroupOfNothing, mid),
         None => Ok(()),
     }
@@ -40,12 +40,17 @@ pub(crate) fn note_groups(
     attributes: &[SessionAttribute],
     names: &BTreeSet<&str>,
 ) -> Result<(), AllocError>
-    ensures others { OnOk result (SaysElse notes.old notes.new) }
+    ensures others { OnOk result (AddsOtherFindings notes.old notes.new) }
     ensures last { notes.new.last ≡ notes.old.last }
 {
     for (i, attribute) in attributes.iter().enumerate() {
         if let SessionAttribute::Group { mids, .. } = attribute {
-            note_group(notes, number_at(lines, i), mids.as_slice(), names)?;
+            note_group(
+                notes,
+                conflict_line_number(lines, i),
+                mids.as_slice(),
+                names,
+            )?;
         }
     }
     Ok(())
@@ -73,7 +78,7 @@ fn group_fault(sdp: &Sdp) -> Result<Option<String>, AllocError> {
 
 /// Says that the first group doesn't list the sections as they stand, where it doesn't.
 fn note_listing(notes: &mut Notes, number: usize, sdp: &Sdp) -> Result<(), AllocError>
-    ensures others { OnOk result (SaysElse notes.old notes.new) }
+    ensures others { OnOk result (AddsOtherFindings notes.old notes.new) }
     ensures last { notes.new.last ≡ notes.old.last }
 {
     match group_fault(sdp)? {
@@ -90,20 +95,20 @@ pub(crate) fn note_grouping(
     sdp: &Sdp,
     names: &BTreeSet<&str>,
 ) -> Result<(), AllocError>
-    ensures others { OnOk result (SaysElse notes.old notes.new) }
+    ensures others { OnOk result (AddsOtherFindings notes.old notes.new) }
     ensures last { notes.new.last ≡ notes.old.last }
 {
     let attributes = sdp.session.attrs.as_slice();
     let Some((i, mids)) = first_group(attributes) else {
         return note_conflict(
             notes,
-            number_at(lines, attributes.len()),
+            conflict_line_number(lines, attributes.len()),
             Conflict::NoGroup,
             "",
         );
     };
-    if names.len() < sdp.media_lines.len() || stray(mids, names).is_some() {
+    if names.len() < sdp.media_lines.len() || stray_group_mid(mids, names).is_some() {
         return Ok(());
     }
-    note_listing(notes, number_at(lines, i), sdp)
+    note_listing(notes, conflict_line_number(lines, i), sdp)
 }

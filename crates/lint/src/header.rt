@@ -3,14 +3,14 @@ ghost use Rattle.lint.specs.Findings.{is_refused};
 ghost use Rattle.std.specs.Prelude.{◌≡◌, true, OnOk};
 
 use crate::code::{Code, Refusal};
-use crate::fields::{is_bandwidth, is_field, is_info, is_origin};
+use crate::fields::{is_bandwidth_field, is_field, is_info_field, is_origin_field};
 use crate::lines::next_line;
 use crate::notes::Notes;
 use crate::part::{Part, Place};
 use std::alloc::{AllocError, Global};
 
 /// Why a text is refused by its first characters.
-fn first_characters(text: &str) -> Option<Refusal> {
+fn header_first_characters(text: &str) -> Option<Refusal> {
     if text.is_empty() {
         return Some(Refusal::EmptyText);
     }
@@ -38,10 +38,10 @@ impl HeaderLine {
     fn behind(self, line: &str) -> Option<HeaderLine> {
         match self {
             HeaderLine::Version if line == "v=0" => Some(HeaderLine::Origin),
-            HeaderLine::Origin if is_origin(line) => Some(HeaderLine::Name),
+            HeaderLine::Origin if is_origin_field(line) => Some(HeaderLine::Name),
             HeaderLine::Name if is_field(line, "s=") => Some(HeaderLine::Fields),
-            HeaderLine::Fields if is_info(line) => Some(HeaderLine::Fields),
-            HeaderLine::Fields if is_bandwidth(line) => Some(HeaderLine::Timing),
+            HeaderLine::Fields if is_info_field(line) => Some(HeaderLine::Fields),
+            HeaderLine::Fields if is_bandwidth_field(line) => Some(HeaderLine::Timing),
             _ => None,
         }
     }
@@ -75,7 +75,7 @@ fn header_fault(text: &str) -> (Refusal, usize, Option<&str>) {
 }
 
 /// What stands in a place.
-fn standing(alloc: Global, line: Option<&str>) -> Result<String, AllocError> {
+fn header_line_standing(alloc: Global, line: Option<&str>) -> Result<String, AllocError> {
     let Some(line) = line else {
         return String::from_str(alloc, "the text ends before it");
     };
@@ -91,12 +91,12 @@ pub(crate) fn note_header(notes: &mut Notes, text: &str) -> Result<(), AllocErro
     ensures refused { OnOk result (is_refused notes.new.findings ≡ true) }
     ensures last { notes.new.last ≡ notes.old.last }
 {
-    if let Some(refusal) = first_characters(text) {
+    if let Some(refusal) = header_first_characters(text) {
         let place = Place { line: 1, column: 1 };
         return notes.add(place, Code::Refused(refusal), "");
     }
     let (refusal, before, line) = header_fault(text);
-    let detail = standing(notes.alloc(), line)?;
+    let detail = header_line_standing(notes.alloc(), line)?;
     let place = Place {
         line: before.saturating_add(1),
         column: 1,

@@ -3,13 +3,13 @@ ghost use Rattle.lint.specs.Code.{is_unread_code};
 ghost use Rattle.std.specs.Prelude.{◌≡◌, true};
 
 use crate::code::{Code, Misfit, Unknown};
-use crate::forms::{Form, Level, name_of};
+use crate::forms::{Form, FormLevel, form_name_of};
 use crate::part::Part;
 use str0m_values::cuts::strip;
 
 /// Why a line is kept unread, and the part at fault.
 #[derive(Clone, Copy)]
-pub(crate) struct Reason<'a> {
+pub(crate) struct KeptReason<'a> {
     pub(crate) code: Code,
     pub(crate) part: Part<'a>,
 }
@@ -31,28 +31,28 @@ fn misfit<'a>(form: Form, text: &'a str) -> (Misfit, Part<'a>) {
 }
 
 /// Why the text after `a=` is kept unread on this level.
-pub(crate) fn why_kept<'a>(level: Level, text: &'a str) -> Reason<'a>
+pub(crate) fn why_kept<'a>(level: FormLevel, text: &'a str) -> KeptReason<'a>
     ensures { is_unread_code result.code ≡ true }
 {
-    let name = name_of(text);
+    let name = form_name_of(text);
     let named = Part {
         shown: name,
         behind: text,
     };
     let Some(form) = Form::named(name) else {
-        return Reason {
+        return KeptReason {
             code: Code::Unknown(Unknown::Attribute),
             part: named,
         };
     };
-    if form.level() != level && form.level() != Level::Both {
-        return Reason {
+    if form.level() != level && form.level() != FormLevel::Both {
+        return KeptReason {
             code: Code::Unknown(Unknown::Level),
             part: named,
         };
     }
     let (misfit, part) = misfit(form, text);
-    Reason {
+    KeptReason {
         code: Code::Malformed(misfit),
         part,
     }

@@ -42,7 +42,7 @@ pub(crate) fn line_count(text: &str) -> usize
 }
 
 /// How many characters stand before a text that ends the line, counted from 1: the column at which that text begins.
-pub(crate) fn column_of(line: &str, behind: &str) -> usize {
+pub(crate) fn line_column(line: &str, behind: &str) -> usize {
     let before = line.chars().count().saturating_sub(behind.chars().count());
     before.saturating_add(1)
 }
@@ -56,7 +56,7 @@ pub(crate) fn behind_space(line: &str) -> &str {
 }
 
 /// The text before the rest of it; all of it where there is no rest.
-pub(crate) fn text_before<'a>(text: &'a str, rest: &str) -> &'a str
+pub(crate) fn lines_before_rest<'a>(text: &'a str, rest: &str) -> &'a str
     ensures { rest.now ≡ [] → result.now ≡ text.now }
 {
     if rest.is_empty() {

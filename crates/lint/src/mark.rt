@@ -3,7 +3,7 @@ ghost use Rattle.lint.specs.Kept.{is_unread, is_unread_of_section, is_unread_of_
 ghost use Rattle.std.specs.Prelude.{◌≡◌, ◌++◌, IfOk, OnOk, map};
 
 use crate::code::{Change, Unseen};
-use crate::forms::Level;
+use crate::forms::FormLevel;
 use crate::unseen::{change, is_unprinted, unseen};
 use std::alloc::{AllocError, Global};
 use str0m_sdp::{MediaAttribute, MediaLine, Sdp, SessionAttribute};
@@ -12,7 +12,7 @@ use str0m_sdp::{MediaAttribute, MediaLine, Sdp, SessionAttribute};
 #[derive(Clone, Copy)]
 pub(crate) enum Mark {
     /// It is kept unread, on this level.
-    Kept(Level),
+    Kept(FormLevel),
     /// It is read, and leaves this unknown.
     Unseen(Unseen),
     /// It is read, and this is lost where its line is printed otherwise than it stands.
@@ -26,7 +26,7 @@ impl Mark {
         ensures { is_unread result ≡ is_unread_of_session attribute.now }
     {
         match attribute {
-            SessionAttribute::Unused(_) => Mark::Kept(Level::Session),
+            SessionAttribute::Unused(_) => Mark::Kept(FormLevel::Session),
             SessionAttribute::Group { .. } => Mark::Read(Change::Mid),
             SessionAttribute::Candidate(_) => Mark::Read(Change::Candidate),
             _ => Mark::Read(Change::Spelling),
@@ -37,7 +37,7 @@ impl Mark {
         ensures { IfOk result (λ mark. is_unread mark ≡ is_unread_of_section attribute.now) }
     {
         if let MediaAttribute::Unused(_) = attribute {
-            return Ok(Mark::Kept(Level::Section));
+            return Ok(Mark::Kept(FormLevel::Section));
         }
         if is_unprinted(alloc, attribute)? {
             return Ok(Mark::Unprinted);

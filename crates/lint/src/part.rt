@@ -17,7 +17,7 @@ pub(crate) struct Part<'a> {
 }
 
 /// The most bytes that are shown of a part.
-const SHOWN: usize = 60;
+const SHOWN_PART_BYTES: usize = 60;
 
 impl<'a> Part<'a> {
     /// A part that ends the line.
@@ -34,7 +34,9 @@ impl<'a> Part<'a> {
         if whole.is_empty() {
             return Ok(String::new(alloc));
         }
-        let shown = whole.get(..whole.floor_char_boundary(SHOWN)).unwrap_or("");
+        let shown = whole
+            .get(..whole.floor_char_boundary(SHOWN_PART_BYTES))
+            .unwrap_or("");
         let dots = if shown.len() < whole.len() { ".." } else { "" };
         format!(in alloc; "`{shown}{dots}`")
     }

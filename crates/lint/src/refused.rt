@@ -7,7 +7,7 @@ use crate::changes::note_printed;
 use crate::code::{Code, Refusal};
 use crate::contradiction::contradiction;
 use crate::header::note_header;
-use crate::lines::{line_count, next_line, text_before};
+use crate::lines::{line_count, lines_before_rest, next_line};
 use crate::mark::{add_section, session_marks};
 use crate::notes::Notes;
 use crate::part::Place;
@@ -87,7 +87,7 @@ fn note_refused_sections(notes: &mut Notes, before: usize, text: &str) -> Result
     let mut rest = text;
     while let Some(found) = next_section(alloc, rest)? {
         let lead = before.saturating_add(found.lead);
-        note_lines(notes, before, text_before(rest, found.rest), &found)?;
+        note_lines(notes, before, lines_before_rest(rest, found.rest), &found)?;
         if found.line.check_consistent()?.is_some() {
             return note_refused_section(notes, before, &found);
         }
@@ -119,7 +119,7 @@ pub(crate) fn note_refused(notes: &mut Notes, text: &str) -> Result<(), AllocErr
 {
     match session_parser(notes.alloc(), text) {
         Ok((session, rest)) => {
-            note_session(notes, text_before(text, rest), &session)?;
+            note_session(notes, lines_before_rest(text, rest), &session)?;
             let before = line_count(text).saturating_sub(line_count(rest));
             note_refused_sections(notes, before, rest)
         }

@@ -1,23 +1,23 @@
 //! What is said of rounds.
-ghost use Rattle.lint.specs.Fates.{AddsFates, RoundSays, RoundsSay, fate, refusal_fate, some_of};
+ghost use Rattle.lint.specs.Fates.{AddsFates, RoundSays, RoundsSay, fate, refusal_fate, fate_as_list};
 ghost use Rattle.lint.specs.declared.code.Fate.{Fate};
 ghost use Rattle.std.specs.Prelude.{◌≡◌, Err, List, OnOk, Some, filter_map};
 
 use crate::code::{Code, Fate};
-use crate::difference::nearest;
-use crate::fate::{Ran, has_type};
+use crate::difference::nearest_row;
+use crate::fate::{RanRound, row_has_type};
 use crate::notes::Notes;
 use crate::part::Place;
-use crate::row_places::{Cursor, RowPlaces, next_places};
+use crate::row_places::{PlaceCursor, RowPlaces, next_places};
 use std::alloc::{AllocError, Global};
 use str0m_formats::{CodecConfig, NegotiationError, PayloadParams};
 use str0m_sdp::MediaLine;
 use str0m_values::Pt;
 
 /// Which row of this side goes with a row of the other one, and under which type.
-fn locked(
+fn round_locked_detail(
     alloc: Global,
-    ran: &Ran<'_>,
+    ran: &RanRound<'_>,
     partners: &[Option<Pt>],
     theirs: &PayloadParams,
 ) -> Result<String, AllocError> {
@@ -36,9 +36,9 @@ fn locked(
 }
 
 /// With which row the row of this side goes that fits a row of the other one.
-fn passed_over(
+fn round_passed_over_detail(
     alloc: Global,
-    ran: &Ran<'_>,
+    ran: &RanRound<'_>,
     partners: &[Option<Pt>],
     theirs: &PayloadParams,
 ) -> Result<String, AllocError> {
@@ -54,7 +54,11 @@ fn passed_over(
 }
 
 /// Which type of a row is taken, and by what, where that was locked before.
-fn taken(alloc: Global, ran: &Ran<'_>, theirs: &PayloadParams) -> Result<String, AllocError> {
+fn round_taken_detail(
+    alloc: Global,
+    ran: &RanRound<'_>,
+    theirs: &PayloadParams,
+) -> Result<String, AllocError> {
     let pt = match ran.outcome {
         Err(NegotiationError::ClaimedTwice(pt)) => pt,
         _ => theirs.pt(),
@@ -62,7 +66,7 @@ fn taken(alloc: Global, ran: &Ran<'_>, theirs: &PayloadParams) -> Result<String,
     match ran
         .after
         .iter()
-        .find(|row| row.locked() && has_type(row, pt))
+        .find(|row| row.locked() && row_has_type(row, pt))
     {
         Some(row) => {
             let codec = row.spec().codec;
@@ -75,16 +79,16 @@ fn taken(alloc: Global, ran: &Ran<'_>, theirs: &PayloadParams) -> Result<String,
 /// What stands there, by what comes of a row.
 fn detail<'a>(
     alloc: Global,
-    ran: &Ran<'a>,
+    ran: &RanRound<'a>,
     partners: &[Option<Pt>],
     theirs: &'a PayloadParams,
     fate: Fate,
 ) -> Result<String, AllocError> {
     match fate {
-        Fate::Locked => locked(alloc, ran, partners, theirs),
-        Fate::OtherRow => passed_over(alloc, ran, partners, theirs),
-        Fate::TakenType => taken(alloc, ran, theirs),
-        Fate::OtherFormat => match nearest(alloc, ran.before, theirs)? {
+        Fate::Locked => round_locked_detail(alloc, ran, partners, theirs),
+        Fate::OtherRow => round_passed_over_detail(alloc, ran, partners, theirs),
+        Fate::TakenType => round_taken_detail(alloc, ran, theirs),
+        Fate::OtherFormat => match nearest_row(alloc, ran.before, theirs)? {
             Some(pair) => pair.detail(alloc),
             None => Ok(String::new(alloc)),
         },
@@ -99,12 +103,12 @@ fn detail<'a>(
 fn note_fate<'a>(
     notes: &mut Notes,
     line: usize,
-    ran: &Ran<'a>,
+    ran: &RanRound<'a>,
     partners: &[Option<Pt>],
     theirs: &'a PayloadParams,
     fate: Fate,
 ) -> Result<(), AllocError>
-    ensures said { OnOk result (AddsFates (some_of (Some fate)) notes.old notes.new) }
+    ensures said { OnOk result (AddsFates (fate_as_list (Some fate)) notes.old notes.new) }
     ensures last { notes.new.last ≡ notes.old.last }
 {
     let detail = detail(notes.alloc(), ran, partners, theirs, fate)?;
@@ -113,16 +117,16 @@ fn note_fate<'a>(
 }
 
 /// Says what comes of a row, if anything.
-#[tactic(auto, using(crate::proofs::FateLaws::adds_none))]
+#[tactic(auto, using(crate::proofs::FateLaws::adds_no_fate))]
 fn note_row<'a>(
     notes: &mut Notes,
     places: &RowPlaces,
-    ran: &Ran<'a>,
+    ran: &RanRound<'a>,
     partners: &[Option<Pt>],
     theirs: &'a PayloadParams,
 ) -> Result<(), AllocError>
     ensures said { OnOk result (AddsFates
-        (some_of (fate ran.now.before.now ran.now.receives ran.now.after.now ran.now.outcome partners.now theirs.now)) notes.old notes.new) }
+        (fate_as_list (fate ran.now.before.now ran.now.receives ran.now.after.now ran.now.outcome partners.now theirs.now)) notes.old notes.new) }
     ensures last { notes.new.last ≡ notes.old.last }
 {
     match ran.fate(partners, theirs) {
@@ -135,7 +139,7 @@ fn note_row<'a>(
 fn note_rows(
     notes: &mut Notes,
     places: &RowPlaces,
-    ran: &Ran<'_>,
+    ran: &RanRound<'_>,
     partners: &[Option<Pt>],
 ) -> Result<(), AllocError>
     ensures said { OnOk result (AddsFates
@@ -162,7 +166,7 @@ fn note_cause(notes: &mut Notes, line: usize, cause: NegotiationError) -> Result
 }
 
 /// Says that a round is refused, and why, where it is.
-#[tactic(auto, using(crate::proofs::FateLaws::adds_none))]
+#[tactic(auto, using(crate::proofs::FateLaws::adds_no_fate))]
 fn note_refusal(
     notes: &mut Notes,
     line: usize,
@@ -193,7 +197,7 @@ fn note_round(
     let direction = section.direction();
     let outcome = config.update_params(theirs.params(), direction);
     note_refusal(notes, places.head, outcome)?;
-    let ran = Ran {
+    let ran = RanRound {
         before: before.params(),
         after: config.params(),
         theirs: &theirs,
@@ -215,7 +219,7 @@ pub(crate) fn note_rounds(
         × RoundsSay sections.now config.old.params.items fates config.new.params.items) }
     ensures last { notes.new.last ≡ notes.old.last }
 {
-    let mut cursor = Cursor::of(text);
+    let mut cursor = PlaceCursor::of(text);
     for section in sections {
         let (places, behind) = next_places(cursor, section);
         cursor = behind;

@@ -21,14 +21,14 @@ impl RowPlaces {
 
 /// The text that is left, and how many lines stand before it.
 #[derive(Clone, Copy)]
-pub(crate) struct Cursor<'a> {
+pub(crate) struct PlaceCursor<'a> {
     rest: &'a str,
     passed: usize,
 }
 
-impl<'a> Cursor<'a> {
-    pub(crate) fn of(text: &'a str) -> Cursor<'a> {
-        Cursor {
+impl<'a> PlaceCursor<'a> {
+    pub(crate) fn of(text: &'a str) -> PlaceCursor<'a> {
+        PlaceCursor {
             rest: text,
             passed: 0,
         }
@@ -36,29 +36,32 @@ impl<'a> Cursor<'a> {
 }
 
 /// After the next line that begins so; where none does, after the last line.
-fn next<'a>(from: Cursor<'a>, letter: &str) -> Cursor<'a> {
+fn next_place<'a>(from: PlaceCursor<'a>, letter: &str) -> PlaceCursor<'a> {
     let mut rest = from.rest;
     let mut passed = from.passed;
     while let Some((line, after)) = next_line(rest) {
         passed = passed.saturating_add(1);
         if strip(line, letter).is_some() {
-            return Cursor {
+            return PlaceCursor {
                 rest: after,
                 passed,
             };
         }
         rest = after;
     }
-    Cursor { rest, passed }
+    PlaceCursor { rest, passed }
 }
 
 /// The lines of the section that stands next, and the place after it.
-pub(crate) fn next_places<'a>(from: Cursor<'a>, section: &MediaLine) -> (RowPlaces, Cursor<'a>) {
-    let mut at = next(from, "m=");
+pub(crate) fn next_places<'a>(
+    from: PlaceCursor<'a>,
+    section: &MediaLine,
+) -> (RowPlaces, PlaceCursor<'a>) {
+    let mut at = next_place(from, "m=");
     let head = at.passed;
     let mut mapped = [head; 256];
     for attribute in section.attrs.as_slice() {
-        at = next(at, "a=");
+        at = next_place(at, "a=");
         if let MediaAttribute::RtpMap { pt, .. } = attribute {
             mapped[usize::from(pt.value())] = at.passed;
         }

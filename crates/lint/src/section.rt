@@ -1,9 +1,9 @@
 //! A section by itself, consistent or not.
 ghost use Rattle.std.specs.Prelude.{◌<◌, ◌≤◌, IfOk, IfSome, length};
 
-use crate::fields::{is_bandwidth, is_field};
+use crate::fields::{is_bandwidth_field, is_field};
 use crate::lines::next_line;
-use crate::unfit::{Parts, media_line};
+use crate::unfit::{MediaLineParts, media_line};
 use std::alloc::{AllocError, Global};
 use str0m_sdp::label::{APPLICATION, AUDIO, SRTP, VIDEO};
 use str0m_sdp::{MediaAttribute, MediaLine, MediaType, Proto, SdpError};
@@ -42,7 +42,7 @@ fn types(alloc: Global, text: &str) -> Result<Items<Pt>, AllocError> {
 }
 
 /// The section of an m-line, without attributes.
-fn head(alloc: Global, parts: Parts<'_>) -> Result<MediaLine, AllocError> {
+fn head(alloc: Global, parts: MediaLineParts<'_>) -> Result<MediaLine, AllocError> {
     let mut section = MediaLine::new(alloc);
     section.typ = media_type(alloc, parts.kind)?;
     section.disabled = parts.port == "0";
@@ -79,7 +79,7 @@ fn attributes(alloc: Global, text: &str) -> Result<(Items<MediaAttribute>, &str)
 }
 
 /// The text after a `c=` line that stands next, and how many lines that are.
-fn behind_connection(text: &str) -> (usize, &str)
+fn section_behind_connection(text: &str) -> (usize, &str)
     ensures rest { length result.1.now ≤ length text.now }
     ensures one { result.0 ≤ 1 }
 {
@@ -90,12 +90,12 @@ fn behind_connection(text: &str) -> (usize, &str)
 }
 
 /// The text after a `b=` line that stands next, and how many lines that are.
-fn behind_bandwidth(text: &str) -> (usize, &str)
+fn section_behind_bandwidth(text: &str) -> (usize, &str)
     ensures rest { length result.1.now ≤ length text.now }
     ensures one { result.0 ≤ 1 }
 {
     match next_line(text) {
-        Some((line, rest)) if is_bandwidth(line) => (1, rest),
+        Some((line, rest)) if is_bandwidth_field(line) => (1, rest),
         _ => (0, text),
     }
 }
@@ -111,8 +111,8 @@ pub(crate) fn next_section(alloc: Global, text: &str) -> Result<Option<Section<'
         return Ok(None);
     };
     let mut head = head(alloc, parts)?;
-    let (connections, rest) = behind_connection(rest);
-    let (bandwidths, start) = behind_bandwidth(rest);
+    let (connections, rest) = section_behind_connection(rest);
+    let (bandwidths, start) = section_behind_bandwidth(rest);
     let (attrs, rest) = attributes(alloc, start)?;
     head.attrs = attrs;
     Ok(Some(Section {

@@ -15,7 +15,7 @@ pub(crate) struct Types<'a> {
 }
 
 /// The primary type of retransmissions that a value names (RFC 4588, section 8.1).
-fn primary(value: FormatParam) -> Option<Pt> {
+fn primary_type_named(value: FormatParam) -> Option<Pt> {
     match value {
         FormatParam::Apt(pt) => Some(pt),
         _ => None,
@@ -23,7 +23,7 @@ fn primary(value: FormatParam) -> Option<Pt> {
 }
 
 /// The first type of redundant audio that a value names (RFC 2198, section 5).
-fn redundant(value: FormatParam) -> Option<Pt> {
+fn redundant_type_named(value: FormatParam) -> Option<Pt> {
     match value {
         FormatParam::BarePtList(pt) | FormatParam::Red(pt) => Some(pt),
         _ => None,
@@ -31,21 +31,23 @@ fn redundant(value: FormatParam) -> Option<Pt> {
 }
 
 /// The type that a value names in the format of a codec that repeats others.
-fn repeated(codec: Codec, value: FormatParam) -> Option<Pt> {
+fn repeated_type(codec: Codec, value: FormatParam) -> Option<Pt> {
     match codec {
-        Codec::Rtx => primary(value),
-        Codec::Red => redundant(value),
+        Codec::Rtx => primary_type_named(value),
+        Codec::Red => redundant_type_named(value),
         _ => None,
     }
 }
 
 /// Whether a format names a primary type of retransmissions.
-fn names_primary(values: &[FormatParam]) -> bool {
-    values.iter().any(|value| primary(*value).is_some())
+fn names_primary_type(values: &[FormatParam]) -> bool {
+    values
+        .iter()
+        .any(|value| primary_type_named(*value).is_some())
 }
 
 /// Whether a codec carries another kind of media than sections of this type.
-fn is_of_other_kind(typ: &MediaType, codec: Codec) -> bool {
+fn is_type_of_other_kind(typ: &MediaType, codec: Codec) -> bool {
     match typ {
         MediaType::Audio => codec.is_video(),
         MediaType::Video => codec.is_audio() || codec.is_tele(),
@@ -79,7 +81,7 @@ impl<'a> Types<'a> {
                 MediaAttribute::RtpMap { pt, value } => {
                     self.codecs[usize::from(pt.value())] = Some(value.codec);
                 }
-                MediaAttribute::Fmtp { pt, values } if names_primary(values.as_slice()) => {
+                MediaAttribute::Fmtp { pt, values } if names_primary_type(values.as_slice()) => {
                     self.repeating[usize::from(pt.value())] = true;
                 }
                 _ => {}
@@ -118,7 +120,7 @@ impl<'a> Types<'a> {
             .iter()
             .copied()
             .find(|pt| match self.static_codec(*pt) {
-                Some(codec) => is_of_other_kind(typ, codec),
+                Some(codec) => is_type_of_other_kind(typ, codec),
                 None => false,
             })
     }
@@ -129,7 +131,7 @@ impl<'a> Types<'a> {
         if !self.listed[place] {
             return None;
         }
-        if is_of_other_kind(&self.section.typ, codec) {
+        if is_type_of_other_kind(&self.section.typ, codec) {
             return Some(Conflict::OtherKind);
         }
         match codec {
@@ -140,7 +142,7 @@ impl<'a> Types<'a> {
 
     /// Whether a value names a type that isn't mapped, in the format of a codec that repeats others.
     fn repeats_none(&self, codec: Codec, value: FormatParam) -> bool {
-        match repeated(codec, value) {
+        match repeated_type(codec, value) {
             Some(pt) => !self.is_mapped(pt),
             None => false,
         }

@@ -1,10 +1,10 @@
 //! Why a line fits nowhere.
-ghost use Rattle.lint.specs.Findings.{Ends};
-ghost use Rattle.lint.specs.Lines.{IsNumbered};
+ghost use Rattle.lint.specs.Findings.{EndsReading};
+ghost use Rattle.lint.specs.Lines.{IsLineNumber};
 ghost use Rattle.std.specs.Prelude.{◌≡◌, OnOk, ◌∷◌, []};
 
 use crate::code::{Code, Unfit};
-use crate::lines::{column_of, next_line};
+use crate::lines::{line_column, next_line};
 use crate::notes::Notes;
 use crate::part::{Part, Place};
 use std::alloc::{AllocError, Global};
@@ -14,7 +14,7 @@ use str0m_values::cuts::{cut, strip};
 
 /// The parts of an m-line, as they stand there.
 #[derive(Clone, Copy)]
-pub(crate) struct Parts<'a> {
+pub(crate) struct MediaLineParts<'a> {
     pub(crate) kind: &'a str,
     pub(crate) port: &'a str,
     pub(crate) protocol: &'a str,
@@ -22,11 +22,11 @@ pub(crate) struct Parts<'a> {
 }
 
 /// The parts of an m-line, where a space stands between each two, and the text from its protocol on (RFC 8866, section 5.14).
-fn media_parts(line: &str) -> Option<(Parts<'_>, &str)> {
+fn media_line_parts(line: &str) -> Option<(MediaLineParts<'_>, &str)> {
     let (kind, rest) = cut(strip(line, "m=")?, Separator::Space)?;
     let (port, behind) = cut(rest, Separator::Space)?;
     let (protocol, formats) = cut(behind, Separator::Space)?;
-    let parts = Parts {
+    let parts = MediaLineParts {
         kind,
         port,
         protocol,
@@ -36,7 +36,7 @@ fn media_parts(line: &str) -> Option<(Parts<'_>, &str)> {
 }
 
 /// Whether a media type is read: one of three words, or one that begins with none of them.
-fn is_kind(text: &str) -> bool {
+fn is_fit_media_type(text: &str) -> bool {
     match text {
         AUDIO | VIDEO | APPLICATION => true,
         _ => !text.is_empty()
@@ -47,21 +47,21 @@ fn is_kind(text: &str) -> bool {
 }
 
 /// The first carriage return of a line, of which nothing can be shown.
-fn lone_return(line: &str) -> Option<Part<'_>> {
+fn unfit_lone_return(line: &str) -> Option<Part<'_>> {
     let (front, _) = cut(line, Separator::CarriageReturn)?;
     let behind = line.get(front.len()..).unwrap_or("");
     Some(Part { shown: "", behind })
 }
 
 /// The parts of an m-line; or why the line is none, and the part at fault.
-pub(crate) fn media_line(line: &str) -> Result<Parts<'_>, (Unfit, Part<'_>)> {
-    if let Some(part) = lone_return(line) {
+pub(crate) fn media_line(line: &str) -> Result<MediaLineParts<'_>, (Unfit, Part<'_>)> {
+    if let Some(part) = unfit_lone_return(line) {
         return Err((Unfit::LoneReturn, part));
     }
-    let Some((parts, behind)) = media_parts(line) else {
+    let Some((parts, behind)) = media_line_parts(line) else {
         return Err((Unfit::MediaParts, Part::to_end(line)));
     };
-    if !is_kind(parts.kind) {
+    if !is_fit_media_type(parts.kind) {
         let shown = parts.kind;
         return Err((
             Unfit::MediaType,
@@ -90,7 +90,7 @@ fn fault(line: &str) -> (Unfit, Part<'_>) {
     if line.is_empty() {
         return (Unfit::Blank, whole);
     }
-    if let Some(part) = lone_return(line) {
+    if let Some(part) = unfit_lone_return(line) {
         return (Unfit::LoneReturn, part);
     }
     match line.get(..2) {
@@ -123,13 +123,13 @@ fn lost(text: &str) -> (usize, usize) {
 }
 
 /// A count with its noun, which takes an `s` where it isn't one.
-fn counted(alloc: Global, count: usize, noun: &str) -> Result<String, AllocError> {
+fn counted_noun(alloc: Global, count: usize, noun: &str) -> Result<String, AllocError> {
     let ending = if count == 1 { "" } else { "s" };
     format!(in alloc; "{count} {noun}{ending}")
 }
 
 /// What the first line of the rest is, by the part of it that is at fault, and what stands after it.
-fn hidden(alloc: Global, part: Part<'_>, rest: &str) -> Result<String, AllocError> {
+fn unfit_line(alloc: Global, part: Part<'_>, rest: &str) -> Result<String, AllocError> {
     let shown = part.quoted(alloc)?;
     let (lines, sections) = lost(rest);
     if lines == 0 {
@@ -140,17 +140,17 @@ fn hidden(alloc: Global, part: Part<'_>, rest: &str) -> Result<String, AllocErro
     } else {
         shown.as_str()
     };
-    let lines = counted(alloc, lines, "line")?;
+    let lines = counted_noun(alloc, lines, "line")?;
     if sections == 0 {
         return format!(in alloc; "{subject} hides {lines} after it");
     }
-    let sections = counted(alloc, sections, "m-line")?;
+    let sections = counted_noun(alloc, sections, "m-line")?;
     format!(in alloc; "{subject} hides {lines} after it, {sections} among them")
 }
 
 /// Says that reading ended at the first line of the rest, which has this number, why, and what stands after it.
 pub(crate) fn note_end(notes: &mut Notes, number: usize, rest: &str) -> Result<(), AllocError>
-    ensures ends { IsNumbered notes.old.last number → OnOk result (Ends number notes.old notes.new) }
+    ensures ends { IsLineNumber notes.old.last number → OnOk result (EndsReading number notes.old notes.new) }
     ensures last { notes.new.last ≡ notes.old.last }
 {
     let line = match next_line(rest) {
@@ -158,10 +158,10 @@ pub(crate) fn note_end(notes: &mut Notes, number: usize, rest: &str) -> Result<(
         None => "",
     };
     let (unfit, part) = fault(line);
-    let detail = hidden(notes.alloc(), part, rest)?;
+    let detail = unfit_line(notes.alloc(), part, rest)?;
     let place = Place {
         line: number,
-        column: column_of(line, part.behind),
+        column: line_column(line, part.behind),
     };
     notes.add(place, Code::Unread(unfit), detail.as_str())
 }

@@ -13,21 +13,20 @@ fn known_feedback() -> &'static [&'static str] {
     FEEDBACK.as_slice()
 }
 
-fn is_among(listed: &[&str], value: &str) -> bool {
+fn is_among_feedback(listed: &[&str], value: &str) -> bool {
     listed.iter().any(|it| *it == value)
 }
 
 /// What the line of an attribute leaves unknown and is printed all the same, if anything.
 pub(crate) fn unseen(attribute: &MediaAttribute) -> Option<Unseen> {
     match attribute {
-        MediaAttribute::RtcpFb { value, .. } if !is_among(known_feedback(), value.as_str()) => Some(
-            Unseen::Feedback,
-        ),
+        MediaAttribute::RtcpFb { value, .. }
+            if !is_among_feedback(known_feedback(), value.as_str()) => Some(Unseen::Feedback),
         _ => None,
     }
 }
 
-fn holds_unknown(values: &[FormatParam]) -> bool {
+fn holds_unseen_parameter(values: &[FormatParam]) -> bool {
     values.iter().any(|value| matches!(value, FormatParam::Unknown | FormatParam::AmrWbUnsupported))
 }
 
@@ -36,7 +35,7 @@ pub(crate) fn change(attribute: &MediaAttribute) -> Change {
     match attribute {
         MediaAttribute::RtpMap { value, .. } if matches!(value.codec, Codec::Unknown) =>
             Change::Codec,
-        MediaAttribute::Fmtp { values, .. } => if holds_unknown(values.as_slice()) {
+        MediaAttribute::Fmtp { values, .. } => if holds_unseen_parameter(values.as_slice()) {
             Change::FormatKey
         } else {
             Change::FormatValue
@@ -52,7 +51,7 @@ pub(crate) fn change(attribute: &MediaAttribute) -> Change {
 /// Whether no line is printed of an attribute: of a format of which nothing is known.
 pub(crate) fn is_unprinted(alloc: Global, attribute: &MediaAttribute) -> Result<bool, AllocError> {
     match attribute {
-        MediaAttribute::Fmtp { values, .. } if holds_unknown(values.as_slice()) => {
+        MediaAttribute::Fmtp { values, .. } if holds_unseen_parameter(values.as_slice()) => {
             Ok(attribute.to_string(alloc)?.is_empty())
         }
         _ => Ok(false),

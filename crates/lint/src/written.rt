@@ -11,7 +11,7 @@ pub(crate) fn takes_rows(section: &MediaLine) -> bool {
 }
 
 /// Whether a restriction of a stream has the name of payload types.
-fn restricts_types(restrictions: &[(Text, Text)]) -> bool {
+fn restricts_written_types(restrictions: &[(Text, Text)]) -> bool {
     restrictions.iter().any(|(key, _)| key.as_str() == "pt")
 }
 
@@ -29,16 +29,21 @@ fn is_read_otherwise(alloc: Global, attribute: &MediaAttribute) -> Result<bool, 
 
 /// Whether the line of a stream is printed with payload types that it hasn't. No other attribute that was read comes back as another
 /// one (the clause `of_reading` of `is_writable`).
-pub(crate) fn gains_types(alloc: Global, attribute: &MediaAttribute) -> Result<bool, AllocError> {
+pub(crate) fn gains_written_types(
+    alloc: Global,
+    attribute: &MediaAttribute,
+) -> Result<bool, AllocError> {
     match attribute {
-        MediaAttribute::Rid { restriction, .. } if restricts_types(restriction.as_slice()) =>
-            is_read_otherwise(alloc, attribute),
+        MediaAttribute::Rid { restriction, .. }
+            if restricts_written_types(restriction.as_slice()) => is_read_otherwise(
+            alloc, attribute,
+        ),
         _ => Ok(false),
     }
 }
 
 /// How many mappings of type 0 a section has.
-fn mappings_of_0(attributes: &[MediaAttribute]) -> usize {
+fn written_mappings_of_0(attributes: &[MediaAttribute]) -> usize {
     let zero = Pt::new_with_value(0);
     attributes
         .iter()
@@ -57,7 +62,7 @@ pub(crate) fn head_fault(section: &MediaLine) -> Option<&'static str> {
             _ => None,
         };
     }
-    if section.pts.as_slice().is_empty() && mappings_of_0(section.attrs.as_slice()) > 1 {
+    if section.pts.as_slice().is_empty() && written_mappings_of_0(section.attrs.as_slice()) > 1 {
         return Some("type 0 is printed, which has two mappings");
     }
     None

@@ -5,7 +5,7 @@ use std::alloc::{AllocError, Global};
 use str0m_signal::CodecConfig;
 
 /// Adds the default rows of a codec.
-fn enable(config: &mut CodecConfig, name: &str) -> Result<(), AllocError> {
+fn enable_named_codec(config: &mut CodecConfig, name: &str) -> Result<(), AllocError> {
     match name {
         "opus" => config.enable_opus(true, false),
         "pcmu" => config.enable_pcmu(true, false),
@@ -24,7 +24,7 @@ fn enable(config: &mut CodecConfig, name: &str) -> Result<(), AllocError> {
 }
 
 /// The configuration of the codecs that are named, in order; the default one where none is.
-pub(crate) fn configured(
+pub(crate) fn configured_codecs(
     alloc: Global,
     matches: &ArgMatches<'_>,
 ) -> Result<CodecConfig, AllocError> {
@@ -33,7 +33,7 @@ pub(crate) fn configured(
     };
     let mut config = CodecConfig::empty(alloc);
     for name in names {
-        enable(&mut config, name)?;
+        enable_named_codec(&mut config, name)?;
     }
     Ok(config)
 }

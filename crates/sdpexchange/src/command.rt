@@ -3,21 +3,21 @@
 use clap::{Arg, ArgAction, ArgMatches, Command, value_parser};
 use std::alloc::{AllocError, Global};
 
-static DIRECTIONS: [&str; 4] = ["sendrecv", "sendonly", "recvonly", "inactive"];
+static COMMAND_DIRECTIONS: [&str; 4] = ["sendrecv", "sendonly", "recvonly", "inactive"];
 
-static STEPS: &str =
+static COMMAND_STEPS: &str =
     "what happens, in order: FILE, an offer of the other side, which is answered ('-' is standard input); add=audio, add=video or add=channels, \
 also with a direction as add=audio,recvonly; direction=MID,DIRECTION; restart; offer, an offer of this side; answer=FILE, the other side's \
 answer to it; rollback. Without any, an offer is read from standard input";
 
 /// The codecs that can be named, in the order in which `--help` shows them.
-pub(crate) static CODECS: [&str; 12] = [
+pub(crate) static COMMAND_CODECS: [&str; 12] = [
     "opus", "pcmu", "pcma", "g722", "cn", "amr-wb", "vp8", "vp9", "av1", "h264", "h265", "h266",
 ];
 
 /// What an option takes.
 #[derive(Clone, Copy)]
-enum Takes {
+enum ArgumentTakes {
     /// A text, and the option has to be given.
     Required,
     /// A text, which is this one where the option isn't given.
@@ -37,111 +37,121 @@ enum Takes {
 }
 
 /// The options in the order of `--help`: the name, how its value is called, what it takes, and what it says.
-static OPTIONS: [(&str, &str, Takes, &str); 15] = [
+static OPTIONS: [(&str, &str, ArgumentTakes, &str); 15] = [
     (
         "offer",
         "",
-        Takes::Nothing,
+        ArgumentTakes::Nothing,
         "end with an offer of this side",
     ),
     (
         "ufrag",
         "TEXT",
-        Takes::Required,
+        ArgumentTakes::Required,
         "ICE user fragment of this side",
     ),
-    ("pwd", "TEXT", Takes::Required, "ICE password of this side"),
+    (
+        "pwd",
+        "TEXT",
+        ArgumentTakes::Required,
+        "ICE password of this side",
+    ),
     (
         "fingerprint",
         "HASH",
-        Takes::Required,
+        ArgumentTakes::Required,
         "hash of this side's certificate, as 'sha-256 AB:CD:..'",
     ),
     (
         "candidate",
         "LINE",
-        Takes::Texts,
+        ArgumentTakes::Texts,
         "where this side is reached, a candidate with or without 'a='",
     ),
     (
         "session-id",
         "NUMBER",
-        Takes::Long("1"),
+        ArgumentTakes::Long("1"),
         "number of the session in the 'o=' line",
     ),
     (
         "audio",
         "DIRECTION",
-        Takes::Direction,
+        ArgumentTakes::Direction,
         "what this side is ready for in audio",
     ),
     (
         "video",
         "DIRECTION",
-        Takes::Direction,
+        ArgumentTakes::Direction,
         "what this side is ready for in video",
     ),
     (
         "stream",
         "ID",
-        Takes::Text("-"),
+        ArgumentTakes::Text("-"),
         "id of the stream that this side sends",
     ),
     (
         "codec",
         "NAME",
-        Takes::Codecs,
+        ArgumentTakes::Codecs,
         "a codec of this side, in order of preference; the default rows where none is named",
     ),
     (
         "extension",
         "URI",
-        Takes::Texts,
+        ArgumentTakes::Texts,
         "a header extension that this side knows",
     ),
     (
         "no-simulcast",
         "",
-        Takes::Nothing,
+        ArgumentTakes::Nothing,
         "receive no layers of simulcast",
     ),
     (
         "sctp-port",
         "PORT",
-        Takes::Short("5000"),
+        ArgumentTakes::Short("5000"),
         "port of SCTP for data channels",
     ),
     (
         "max-message-size",
         "BYTES",
-        Takes::Long("262144"),
+        ArgumentTakes::Long("262144"),
         "longest message of a data channel; 0 for any",
     ),
-    ("no-channels", "", Takes::Nothing, "take no data channels"),
+    (
+        "no-channels",
+        "",
+        ArgumentTakes::Nothing,
+        "take no data channels",
+    ),
 ];
 
 /// The option as `clap` has it, where it takes a value.
-fn valued<'a>(arg: Arg<'a>, value: &'a str, takes: Takes) -> Arg<'a> {
+fn valued_argument<'a>(arg: Arg<'a>, value: &'a str, takes: ArgumentTakes) -> Arg<'a> {
     let arg = arg.value_name(value);
     match takes {
-        Takes::Required => arg.action(ArgAction::Set).required(true),
-        Takes::Text(default) => arg.action(ArgAction::Set).default_value(default),
-        Takes::Direction => arg
+        ArgumentTakes::Required => arg.action(ArgAction::Set).required(true),
+        ArgumentTakes::Text(default) => arg.action(ArgAction::Set).default_value(default),
+        ArgumentTakes::Direction => arg
             .action(ArgAction::Set)
             .default_value("sendrecv")
-            .value_parser(DIRECTIONS.as_slice()),
-        Takes::Short(default) => arg
+            .value_parser(COMMAND_DIRECTIONS.as_slice()),
+        ArgumentTakes::Short(default) => arg
             .action(ArgAction::Set)
             .default_value(default)
             .value_parser(value_parser!(u16)),
-        Takes::Long(default) => arg
+        ArgumentTakes::Long(default) => arg
             .action(ArgAction::Set)
             .default_value(default)
             .value_parser(value_parser!(u64)),
-        Takes::Codecs => arg
+        ArgumentTakes::Codecs => arg
             .action(ArgAction::Append)
-            .value_parser(CODECS.as_slice()),
-        Takes::Texts | Takes::Nothing => arg.action(ArgAction::Append),
+            .value_parser(COMMAND_CODECS.as_slice()),
+        ArgumentTakes::Texts | ArgumentTakes::Nothing => arg.action(ArgAction::Append),
     }
 }
 
@@ -150,7 +160,7 @@ pub(crate) fn command<'a>(alloc: Global) -> Result<Command<'a>, AllocError> {
     let steps = Arg::new(alloc, "step")
         .value_name("STEP")
         .action(ArgAction::Append)
-        .help(STEPS);
+        .help(COMMAND_STEPS);
     let mut command = Command::new(alloc, "sdpexchange")
         .version("0.25.0")
         .about("Takes the steps of a session, and writes the last answer or offer of this side")
@@ -158,8 +168,8 @@ pub(crate) fn command<'a>(alloc: Global) -> Result<Command<'a>, AllocError> {
     for &(name, value, takes, help) in &OPTIONS {
         let arg = Arg::new(alloc, name).long(name).help(help);
         let arg = match takes {
-            Takes::Nothing => arg.action(ArgAction::SetTrue),
-            _ => valued(arg, value, takes),
+            ArgumentTakes::Nothing => arg.action(ArgAction::SetTrue),
+            _ => valued_argument(arg, value, takes),
         };
         command = command.arg(arg)?;
     }

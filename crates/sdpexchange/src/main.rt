@@ -7,11 +7,11 @@ mod fault;
 mod own;
 mod session;
 
-use crate::codecs::configured;
+use crate::codecs::configured_codecs;
 use crate::command::command;
 use crate::fault::Fault;
 use crate::own::own_side;
-use crate::session::{offer, take};
+use crate::session::{offer, take_session_step};
 use clap::ArgMatches;
 use clap::error::ErrorKind;
 use exchange::Exchange;
@@ -28,7 +28,7 @@ fn said_by(
 ) -> Result<String, Fault> {
     let mut said = String::new(rt.alloc());
     for (number, step) in steps.iter().enumerate() {
-        if let Some(text) = take(rt, matches, exchange, number, step)? {
+        if let Some(text) = take_session_step(rt, matches, exchange, number, step)? {
             said = text;
         }
     }
@@ -64,7 +64,7 @@ fn said_last(
 /// What a session of this side comes to, as text.
 fn text_of_session(rt: &HostRuntime, matches: &ArgMatches<'_>) -> Result<String, Fault> {
     let own = own_side(rt.alloc(), matches)?;
-    let mut exchange = Exchange::new(own, configured(rt.alloc(), matches)?);
+    let mut exchange = Exchange::new(own, configured_codecs(rt.alloc(), matches)?);
     said_last(rt, matches, &mut exchange)
 }
 

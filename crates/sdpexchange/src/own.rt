@@ -10,7 +10,7 @@ use str0m_signal::{
 };
 
 /// The direction of a word.
-pub(crate) fn direction_named(word: &str) -> Option<Direction> {
+pub(crate) fn own_direction_named(word: &str) -> Option<Direction> {
     match word {
         "sendrecv" => Some(Direction::SendRecv),
         "sendonly" => Some(Direction::SendOnly),
@@ -20,8 +20,8 @@ pub(crate) fn direction_named(word: &str) -> Option<Direction> {
     }
 }
 
-fn direction(matches: &ArgMatches<'_>, name: &str) -> Direction {
-    direction_named(value(matches, name)).unwrap_or(Direction::SendRecv)
+fn own_media_direction(matches: &ArgMatches<'_>, name: &str) -> Direction {
+    own_direction_named(value(matches, name)).unwrap_or(Direction::SendRecv)
 }
 
 fn fingerprint(alloc: Global, matches: &ArgMatches<'_>) -> Result<Fingerprint, Fault> {
@@ -45,9 +45,9 @@ fn texts(alloc: Global, matches: &ArgMatches<'_>, name: &str) -> Result<Items<Te
 }
 
 /// The candidate of a line, as `candidate:1 1 udp 2130706431 192.0.2.1 9999 typ host`.
-fn candidate(alloc: Global, line: &str) -> Result<Candidate, Fault> {
+fn own_candidate(alloc: Global, line: &str) -> Result<Candidate, Fault> {
     match trickled_candidate(alloc, line) {
-        Ok(candidate) => Ok(candidate),
+        Ok(own_candidate) => Ok(own_candidate),
         Err(SdpError::Memory) => Err(Fault::Memory),
         Err(_) => Err(Fault::Option {
             option: "candidate",
@@ -60,7 +60,7 @@ fn candidates(alloc: Global, matches: &ArgMatches<'_>) -> Result<Items<Candidate
     let mut candidates = Items::empty(alloc);
     if let Some(lines) = matches.get_strs("candidate") {
         for line in lines {
-            candidates.push(candidate(alloc, line)?)?;
+            candidates.push(own_candidate(alloc, line)?)?;
         }
     }
     Ok(candidates)
@@ -86,7 +86,7 @@ fn creds(alloc: Global, matches: &ArgMatches<'_>) -> Result<IceCreds, AllocError
 }
 
 /// The credentials after a restart of ICE: those of the options with the number of the offer after them.
-pub(crate) fn restarted(
+pub(crate) fn restarted_answer(
     alloc: Global,
     matches: &ArgMatches<'_>,
     number: usize,
@@ -104,8 +104,8 @@ pub(crate) fn own_side(alloc: Global, matches: &ArgMatches<'_>) -> Result<OwnSid
         session_id: SessionId::from(matches.get_one::<u64>("session-id").unwrap_or(1)),
         creds: creds(alloc, matches)?,
         fingerprint: fingerprint(alloc, matches)?,
-        audio: direction(matches, "audio"),
-        video: direction(matches, "video"),
+        audio: own_media_direction(matches, "audio"),
+        video: own_media_direction(matches, "video"),
         stream_id: Text::from_str(alloc, value(matches, "stream"))?,
         extensions: texts(alloc, matches, "extension")?,
         candidates: candidates(alloc, matches)?,

@@ -1,7 +1,7 @@
 //! The steps of a session.
 
 use crate::fault::Fault;
-use crate::own::{direction_named, restarted};
+use crate::own::{own_direction_named, restarted_answer};
 use clap::ArgMatches;
 use exchange::{Exchange, is_ice_restart};
 use std::alloc::Global;
@@ -12,7 +12,7 @@ use str0m_signal::{MediaKind, Mid, SdpError, SdpOffer};
 const STANDARD_INPUT: &str = "-";
 
 /// The text of a file, or of standard input.
-fn text_of(rt: &HostRuntime, file: &str) -> io::Result<String> {
+fn session_text_of(rt: &HostRuntime, file: &str) -> io::Result<String> {
     if file != STANDARD_INPUT {
         return fs::read_to_string(rt, file);
     }
@@ -22,8 +22,8 @@ fn text_of(rt: &HostRuntime, file: &str) -> io::Result<String> {
 }
 
 /// The text of a file, or why there is none.
-fn read(rt: &HostRuntime, file: &str) -> Result<String, Fault> {
-    match text_of(rt, file) {
+fn read_session_file(rt: &HostRuntime, file: &str) -> Result<String, Fault> {
+    match session_text_of(rt, file) {
         Ok(text) => Ok(text),
         Err(error) => Err(Fault::of_reading(rt.alloc(), file, error)),
     }
@@ -50,10 +50,10 @@ fn answer_to(
     file: &str,
 ) -> Result<String, Fault> {
     let alloc = rt.alloc();
-    let text = read(rt, file)?;
+    let text = read_session_file(rt, file)?;
     // An answer to a restart says credentials of its own (RFC 8839, section 4.4.3.1).
     if is_restart(alloc, exchange, text.as_str())? {
-        exchange.restart_ice(restarted(alloc, matches, number)?);
+        exchange.restart_ice(restarted_answer(alloc, matches, number)?);
     }
     match exchange.accept_offer(text.as_str()) {
         Ok(answer) => Ok(answer.to_string(alloc)?),
@@ -62,8 +62,12 @@ fn answer_to(
 }
 
 /// Takes the other side's answer to the offer of this side.
-fn accept(rt: &HostRuntime, exchange: &mut Exchange, file: &str) -> Result<(), Fault> {
-    let text = read(rt, file)?;
+fn accept_session_answer(
+    rt: &HostRuntime,
+    exchange: &mut Exchange,
+    file: &str,
+) -> Result<(), Fault> {
+    let text = read_session_file(rt, file)?;
     match exchange.accept_answer(text.as_str()) {
         Ok(()) => Ok(()),
         Err(error) => Err(Fault::of_text(rt.alloc(), file, error)),
@@ -79,9 +83,9 @@ pub(crate) fn offer(alloc: Global, exchange: &mut Exchange) -> Result<String, Fa
 }
 
 /// Adds what is named, as `audio`, `video,recvonly` or `channels`.
-fn add(alloc: Global, exchange: &mut Exchange, step: &str, what: &str) -> Result<(), Fault> {
+fn add_offer(alloc: Global, exchange: &mut Exchange, step: &str, what: &str) -> Result<(), Fault> {
     let (kind, direction) = what.split_once(',').unwrap_or((what, "sendrecv"));
-    let Some(direction) = direction_named(direction) else {
+    let Some(direction) = own_direction_named(direction) else {
         return Err(Fault::of_step(alloc, step));
     };
     let added = match kind {
@@ -94,9 +98,14 @@ fn add(alloc: Global, exchange: &mut Exchange, step: &str, what: &str) -> Result
 }
 
 /// Turns a section, as `0,inactive`.
-fn turn(alloc: Global, exchange: &mut Exchange, step: &str, said: &str) -> Result<(), Fault> {
+fn turn_session(
+    alloc: Global,
+    exchange: &mut Exchange,
+    step: &str,
+    said: &str,
+) -> Result<(), Fault> {
     let (mid, direction) = said.split_once(',').unwrap_or((said, ""));
-    let Some(direction) = direction_named(direction) else {
+    let Some(direction) = own_direction_named(direction) else {
         return Err(Fault::of_step(alloc, step));
     };
     let turned = exchange.set_direction(Mid::from(mid), direction);
@@ -104,7 +113,7 @@ fn turn(alloc: Global, exchange: &mut Exchange, step: &str, said: &str) -> Resul
 }
 
 /// Takes a step that is a word, or a file with an offer; what this side says then.
-fn take_word(
+fn take_session_word(
     rt: &HostRuntime,
     matches: &ArgMatches<'_>,
     exchange: &mut Exchange,
@@ -114,14 +123,14 @@ fn take_word(
     match step {
         "offer" => return Ok(Some(offer(rt.alloc(), exchange)?)),
         "rollback" => exchange.rollback(),
-        "restart" => exchange.restart_ice(restarted(rt.alloc(), matches, number)?),
+        "restart" => exchange.restart_ice(restarted_answer(rt.alloc(), matches, number)?),
         file => return Ok(Some(answer_to(rt, matches, exchange, number, file)?)),
     }
     Ok(None)
 }
 
 /// Takes the step with this number; what this side says then, as text, where it says something.
-pub(crate) fn take(
+pub(crate) fn take_session_step(
     rt: &HostRuntime,
     matches: &ArgMatches<'_>,
     exchange: &mut Exchange,
@@ -129,13 +138,13 @@ pub(crate) fn take(
     step: &str,
 ) -> Result<Option<String>, Fault> {
     if let Some(file) = step.strip_prefix("answer=") {
-        accept(rt, exchange, file)?;
+        accept_session_answer(rt, exchange, file)?;
     } else if let Some(what) = step.strip_prefix("add=") {
-        add(rt.alloc(), exchange, step, what)?;
+        add_offer(rt.alloc(), exchange, step, what)?;
     } else if let Some(said) = step.strip_prefix("direction=") {
-        turn(rt.alloc(), exchange, step, said)?;
+        turn_session(rt.alloc(), exchange, step, said)?;
     } else {
-        return take_word(rt, matches, exchange, number, step);
+        return take_session_word(rt, matches, exchange, number, step);
     }
     Ok(None)
 }

@@ -5,7 +5,10 @@ use std::alloc::{AllocError, Global};
 use str0m_signal::{CodecConfig, MediaLine, PayloadParams, SdpError, Text, sdp_parser};
 
 /// Adds rows to the others, each once.
-fn add_rows(rows: &mut Vec<PayloadParams>, more: &[PayloadParams]) -> Result<(), AllocError> {
+fn add_rows_against(
+    rows: &mut Vec<PayloadParams>,
+    more: &[PayloadParams],
+) -> Result<(), AllocError> {
     for row in more {
         if !rows.as_slice().contains(row) {
             rows.push(*row)?;
@@ -15,22 +18,22 @@ fn add_rows(rows: &mut Vec<PayloadParams>, more: &[PayloadParams]) -> Result<(),
 }
 
 /// The rows of the audio and video sections, each once.
-fn rows_of(alloc: Global, sections: &[MediaLine]) -> Result<Vec<PayloadParams>, AllocError> {
+fn rows_against(alloc: Global, sections: &[MediaLine]) -> Result<Vec<PayloadParams>, AllocError> {
     let mut rows = Vec::new(alloc);
     for section in sections {
         if section.typ.is_media() {
             let more = section.rtp_params()?;
-            add_rows(&mut rows, more.as_slice())?;
+            add_rows_against(&mut rows, more.as_slice())?;
         }
     }
     Ok(rows)
 }
 
 /// The rows of the side that has made the text of a file.
-pub(crate) fn side_of(alloc: Global, file: &str, text: &str) -> Result<CodecConfig, Fault> {
+pub(crate) fn side_against(alloc: Global, file: &str, text: &str) -> Result<CodecConfig, Fault> {
     match sdp_parser(alloc, text) {
         Ok((sdp, _)) => {
-            let rows = rows_of(alloc, sdp.media_lines.as_slice())?;
+            let rows = rows_against(alloc, sdp.media_lines.as_slice())?;
             Ok(CodecConfig::new_from_payload_params(alloc, rows))
         }
         Err(SdpError::Memory) => Err(Fault::Memory),

@@ -3,7 +3,7 @@
 use clap::{Arg, ArgAction, ArgMatches, Command};
 use std::alloc::{AllocError, Global};
 
-static FORMATS: [&str; 3] = ["text", "json", "sarif"];
+static COMMAND_FORMATS: [&str; 3] = ["text", "json", "sarif"];
 
 static LEVELS: [&str; 3] = ["error", "warning", "note"];
 
@@ -52,7 +52,7 @@ pub(crate) fn command<'a>(alloc: Global) -> Result<Command<'a>, AllocError> {
     let against_default = against_default(alloc)?;
     bare_command(alloc)?
         .arg(option(alloc, "format", "text", "how findings are written").value_parser(
-            FORMATS.as_slice(),
+            COMMAND_FORMATS.as_slice(),
         ))?
         .arg(option(
             alloc,

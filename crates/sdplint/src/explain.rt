@@ -6,7 +6,7 @@ use std::alloc::Global;
 use str0m_signal::Text;
 
 /// The entry of a code.
-fn entry_of(name: &str) -> Option<&'static Entry> {
+fn explained_entry(name: &str) -> Option<&'static Entry> {
     for table in tables() {
         if let Some(entry) = table.iter().find(|entry| entry.name == name) {
             return Some(entry);
@@ -17,7 +17,7 @@ fn entry_of(name: &str) -> Option<&'static Entry> {
 
 /// What a code means, where it comes from and what to do, with an example.
 pub(crate) fn explanation(alloc: Global, name: &str) -> Result<String, Fault> {
-    let Some(entry) = entry_of(name) else {
+    let Some(entry) = explained_entry(name) else {
         return Err(Fault::NoCode {
             name: Text::from_str(alloc, name)?,
         });

@@ -8,11 +8,11 @@ mod fault;
 mod output;
 mod records;
 
-use crate::against::side_of;
+use crate::against::side_against;
 use crate::command::{command, value};
 use crate::explain::explanation;
 use crate::fault::Fault;
-use crate::output::{Format, Output};
+use crate::output::{Output, OutputFormat};
 use clap::ArgMatches;
 use clap::error::ErrorKind;
 use lint::{Report, findings, rounds};
@@ -44,7 +44,7 @@ fn side(rt: &HostRuntime, matches: &ArgMatches<'_>) -> Result<Option<CodecConfig
         return Ok(None);
     };
     match fs::read_to_string(rt, file) {
-        Ok(text) => Ok(Some(side_of(rt.alloc(), file, text.as_str())?)),
+        Ok(text) => Ok(Some(side_against(rt.alloc(), file, text.as_str())?)),
         Err(error) => Err(Fault::of_side(rt.alloc(), file, error)),
     }
 }
@@ -102,7 +102,7 @@ fn are_coloured(rt: &HostRuntime) -> bool {
 
 /// Says what is found in all files; answers the exit status.
 fn lint(rt: &HostRuntime, matches: &ArgMatches<'_>) -> Result<u8, Fault> {
-    let format = Format::named(value(matches, "format"), are_coloured(rt));
+    let format = OutputFormat::named(value(matches, "format"), are_coloured(rt));
     let mut output = Output::new(rt.alloc(), format, value(matches, "level"));
     let side = side(rt, matches)?;
     if let Some(files) = matches.get_strs("file") {

@@ -8,23 +8,23 @@ use std::alloc::{AllocError, Global};
 
 /// How findings are written.
 #[derive(Clone, Copy)]
-pub(crate) enum Format {
+pub(crate) enum OutputFormat {
     Text,
     Coloured,
     Json,
     Sarif,
 }
 
-impl Format {
+impl OutputFormat {
     /// The format of a word of `--format`; that of text with colours or without.
-    pub(crate) fn named(word: &str, is_coloured: bool) -> Format {
+    pub(crate) fn named(word: &str, is_coloured: bool) -> OutputFormat {
         match word {
-            "json" => Format::Json,
-            "sarif" => Format::Sarif,
+            "json" => OutputFormat::Json,
+            "sarif" => OutputFormat::Sarif,
             _ => if is_coloured {
-                Format::Coloured
+                OutputFormat::Coloured
             } else {
-                Format::Text
+                OutputFormat::Text
             },
         }
     }
@@ -32,7 +32,7 @@ impl Format {
 
 /// How many findings of each severity are shown.
 #[derive(Clone, Copy)]
-struct Counts {
+struct SeverityCounts {
     errors: usize,
     warnings: usize,
     notes: usize,
@@ -42,9 +42,9 @@ struct Counts {
 #[derive(Drop)]
 pub(crate) struct Output {
     alloc: Global,
-    format: Format,
+    format: OutputFormat,
     level: Severity,
-    counts: Counts,
+    counts: SeverityCounts,
     text: String,
     values: Vec<Value>,
 }
@@ -59,9 +59,9 @@ fn severity(word: &str) -> Severity {
 }
 
 /// The colour of a severity on a terminal, and what ends it (ECMA-48, section 8.3.117): red, magenta and cyan.
-fn colour(format: Format, severity: Severity) -> (&'static str, &'static str) {
+fn severity_colour(format: OutputFormat, severity: Severity) -> (&'static str, &'static str) {
     match format {
-        Format::Coloured => match severity {
+        OutputFormat::Coloured => match severity {
             Severity::Error => ("\x1b[31m", "\x1b[0m"),
             Severity::Warning => ("\x1b[35m", "\x1b[0m"),
             Severity::Note => ("\x1b[36m", "\x1b[0m"),
@@ -71,7 +71,7 @@ fn colour(format: Format, severity: Severity) -> (&'static str, &'static str) {
 }
 
 /// Whether a finding of this severity is shown at a level.
-fn is_shown(severity: Severity, level: Severity) -> bool {
+fn is_severity_shown(severity: Severity, level: Severity) -> bool {
     match level {
         Severity::Error => matches!(severity, Severity::Error),
         Severity::Warning => !matches!(severity, Severity::Note),
@@ -80,14 +80,14 @@ fn is_shown(severity: Severity, level: Severity) -> bool {
 }
 
 /// A count with its noun, which takes an `s` where it isn't one.
-fn counted(alloc: Global, count: usize, noun: &str) -> Result<String, AllocError> {
+fn output_count(alloc: Global, count: usize, noun: &str) -> Result<String, AllocError> {
     let ending = if count == 1 { "" } else { "s" };
     format!(in alloc; "{count} {noun}{ending}")
 }
 
 impl Output {
-    pub(crate) fn new(alloc: Global, format: Format, level: &str) -> Output {
-        let counts = Counts {
+    pub(crate) fn new(alloc: Global, format: OutputFormat, level: &str) -> Output {
+        let counts = SeverityCounts {
             errors: 0,
             warnings: 0,
             notes: 0,
@@ -113,7 +113,7 @@ impl Output {
     fn add_line(&mut self, file: &str, finding: &Finding) -> Result<(), AllocError> {
         let (line, column) = (finding.line, finding.column);
         let severity = finding.code.severity();
-        let (begin, end) = colour(self.format, severity);
+        let (begin, end) = severity_colour(self.format, severity);
         let (severity, code) = (severity.word(), finding.code.entry().name);
         writeln!(
             self.text,
@@ -123,9 +123,9 @@ impl Output {
 
     fn add(&mut self, file: &str, finding: &Finding) -> Result<(), AllocError> {
         let value = match self.format {
-            Format::Text | Format::Coloured => return self.add_line(file, finding),
-            Format::Json => record(self.alloc, file, finding)?,
-            Format::Sarif => sarif_result(self.alloc, file, finding)?,
+            OutputFormat::Text | OutputFormat::Coloured => return self.add_line(file, finding),
+            OutputFormat::Json => record(self.alloc, file, finding)?,
+            OutputFormat::Sarif => sarif_result(self.alloc, file, finding)?,
         };
         self.values.push(value)?;
         Ok(())
@@ -137,7 +137,7 @@ impl Output {
         findings.sort_by_key(|finding| (finding.line, finding.column))?;
         for finding in &findings {
             let severity = finding.code.severity();
-            if is_shown(severity, self.level) {
+            if is_severity_shown(severity, self.level) {
                 self.count(severity);
                 self.add(file, finding)?;
             }
@@ -162,17 +162,17 @@ impl Output {
             values,
         } = self;
         match format {
-            Format::Text | Format::Coloured => {
-                let errors = counted(alloc, counts.errors, "error")?;
-                let warnings = counted(alloc, counts.warnings, "warning")?;
-                let notes = counted(alloc, counts.notes, "note")?;
+            OutputFormat::Text | OutputFormat::Coloured => {
+                let errors = output_count(alloc, counts.errors, "error")?;
+                let warnings = output_count(alloc, counts.warnings, "warning")?;
+                let notes = output_count(alloc, counts.notes, "note")?;
                 writeln!(text, "{errors}, {warnings}, {notes}")?;
             }
-            Format::Json => {
+            OutputFormat::Json => {
                 let list = Value::Array(values).to_string(alloc)?;
                 writeln!(text, "{list}")?;
             }
-            Format::Sarif => {
+            OutputFormat::Sarif => {
                 let log = log(alloc, values)?.to_string(alloc)?;
                 writeln!(text, "{log}")?;
             }

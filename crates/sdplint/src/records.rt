@@ -6,7 +6,7 @@ use serde_json::{Value, json};
 use std::alloc::{AllocError, Global};
 
 /// The characters that a path keeps in a URI (RFC 3986, section 3.3).
-fn escaped() -> AsciiSet {
+fn sarif_uri_escapes() -> AsciiSet {
     NON_ALPHANUMERIC
         .remove(b'/')
         .remove(b'.')
@@ -18,7 +18,7 @@ fn escaped() -> AsciiSet {
 /// The file as a URI, relative to where the program runs.
 fn uri(alloc: Global, file: &str) -> Result<String, AllocError> {
     let mut uri = String::new(alloc);
-    utf8_percent_encode(file, escaped()).append_to(&mut uri)?;
+    utf8_percent_encode(file, sarif_uri_escapes()).append_to(&mut uri)?;
     Ok(uri)
 }
 

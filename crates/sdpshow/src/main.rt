@@ -4,7 +4,7 @@
 #![tactic(auto)]
 
 use show::fault::Fault;
-use show::run::{refuse, run, usage};
+use show::run::{refuse_run, run, usage};
 use std::io::ErrorKind;
 use std::process::ExitCode;
 use std::{env, io};
@@ -28,7 +28,7 @@ fn main(rt: HostRuntime) -> ExitCode {
             &mut rt.stderr(),
         ),
         Err(error) => match error.kind() {
-            ErrorKind::OutOfMemory => refuse(&mut rt.stderr(), &Fault::OUT_OF_MEMORY),
+            ErrorKind::OutOfMemory => refuse_run(&mut rt.stderr(), &Fault::OUT_OF_MEMORY),
             _ => usage(&mut rt.stderr()),
         },
     };

@@ -11,9 +11,9 @@ use Rattle.str0m_signal.specs.session.Reader.{Described}
 use Rattle.str0m_signal.specs.session.ReaderAnswers.{Refuses}
 
 -- what was read whole, and is no text
-pub no_text : (held : Option (List ℕ)) (bytes : List ℕ) → IfSome held (λ known. bytes ≡ known) → (IsUtf8 bytes → ⊥) → IsNoText held
-no_text None bytes is none = tt
-no_text (Some known) bytes is none = subst (λ (b : List ℕ). IsUtf8 b → ⊥) is none
+pub fault_of_no_text : (held : Option (List ℕ)) (bytes : List ℕ) → IfSome held (λ known. bytes ≡ known) → (IsUtf8 bytes → ⊥) → IsNoText held
+fault_of_no_text None bytes is none = tt
+fault_of_no_text (Some known) bytes is none = subst (λ (b : List ℕ). IsUtf8 b → ⊥) is none
 
 -- what is wrong while bytes are read is wrong with the input
 pub of_reading : (held : Option (List ℕ)) (fault : Fault) → IsFaultOfReading fault → IsFaultOfInput held fault
@@ -22,22 +22,22 @@ of_reading held NotUtf8 is = absurd is
 of_reading held Unreadable is = tt
 of_reading held Unwritable is = absurd is
 
-pub of_input : (held : Option (List ℕ)) (fault : Fault) → IsFaultOfInput held fault → IsFaultOf held fault
-of_input held (Refused (ParseError message)) is = absurd is
-of_input held (Refused (Inconsistent message)) is = absurd is
-of_input held (Refused Memory) is = tt
-of_input held NotUtf8 is = is
-of_input held Unreadable is = tt
-of_input held Unwritable is = absurd is
+pub fault_of_input : (held : Option (List ℕ)) (fault : Fault) → IsFaultOfInput held fault → IsFaultOf held fault
+fault_of_input held (Refused (ParseError message)) is = absurd is
+fault_of_input held (Refused (Inconsistent message)) is = absurd is
+fault_of_input held (Refused Memory) is = tt
+fault_of_input held NotUtf8 is = is
+fault_of_input held Unreadable is = tt
+fault_of_input held Unwritable is = absurd is
 
-pub of_refusal : (held : Option (List ℕ)) (bytes : List ℕ) (refusal : SdpError) → IfSome held (λ known. bytes ≡ known)
+pub fault_of_refusal : (held : Option (List ℕ)) (bytes : List ℕ) (refusal : SdpError) → IfSome held (λ known. bytes ≡ known)
     → Refuses refusal (Described bytes) → IsFaultOf held (Refused refusal)
-of_refusal held bytes (ParseError message) is none = (bytes, is, none)
-of_refusal held bytes (Inconsistent message) is none = none
-of_refusal held bytes Memory is none = tt
+fault_of_refusal held bytes (ParseError message) is none = (bytes, is, none)
+fault_of_refusal held bytes (Inconsistent message) is none = none
+fault_of_refusal held bytes Memory is none = tt
 
 -- the only fault of writing, where what is read describes a session
-pub unwritten : {T : Type 0} (held : Option (List ℕ)) (result : Result T Fault) → IfErr result (λ fault. fault ≡ Unwritable)
+pub fault_of_unwritten : {T : Type 0} (held : Option (List ℕ)) (result : Result T Fault) → IfErr result (λ fault. fault ≡ Unwritable)
     → Describes held → IfErr result (IsFaultOf held)
-unwritten held (Ok x) is described = tt
-unwritten held (Err fault) is described = subst (IsFaultOf held) (sym is) described
+fault_of_unwritten held (Ok x) is described = tt
+fault_of_unwritten held (Err fault) is described = subst (IsFaultOf held) (sym is) described

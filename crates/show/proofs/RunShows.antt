@@ -6,7 +6,7 @@ use Rattle.std.proofs.Common.{ℕ, List}
 use Rattle.str0m_sdp.specs.declared.session.Sdp.{Sdp}
 use Rattle.str0m_signal.specs.session.Reader.{Described}
 
-pub described_by : (shown : Shown) (bytes printed : List ℕ) → Prints shown bytes printed → (sdp : Sdp) × Described bytes sdp
-described_by Text bytes printed is = (is.0, is.1)
-described_by Rows bytes printed is = (is.0, is.1)
-described_by Negotiation bytes printed is = (is.2.0, is.2.1)
+pub shown_described_by : (shown : Shown) (bytes printed : List ℕ) → Prints shown bytes printed → (sdp : Sdp) × Described bytes sdp
+shown_described_by Text bytes printed is = (is.0, is.1)
+shown_described_by Rows bytes printed is = (is.0, is.1)
+shown_described_by Negotiation bytes printed is = (is.2.0, is.2.1)

@@ -2,7 +2,7 @@
 use Rattle.show.specs.RowLines.{row_line}
 use Rattle.std.specs.Prelude.{◌≡◌, ℕ, ◌+◌, Bool, true, false, List, [], ◌∷◌, ◌++◌, Ok, Err, codes, decimal, flat_map}
 use Rattle.str0m_formats.specs.declared.row.payload_params.PayloadParams.{PayloadParams}
-use Rattle.str0m_formats.specs.round.NegotiationError.{cause_text}
+use Rattle.str0m_formats.specs.round.NegotiationError.{negotiation_cause_text}
 use Rattle.str0m_formats.specs.round.RoundsRuns.{Outcome}
 use Rattle.str0m_formats.specs.row.DefaultRows.{usual_rows}
 use Rattle.str0m_signal.specs.session.Negotiation.{NegotiatedText}
@@ -10,7 +10,7 @@ use Rattle.str0m_signal.specs.session.Negotiation.{NegotiatedText}
 -- what the round of a number came to
 abbrev pub outcome_line : ℕ → Outcome → List ℕ
 outcome_line n (Ok done) = codes "round " ++ (decimal n ++ codes " ok\n")
-outcome_line n (Err cause) = codes "round " ++ (decimal n ++ (codes " refused: " ++ (cause_text cause ++ codes "\n")))
+outcome_line n (Err cause) = codes "round " ++ (decimal n ++ (codes " refused: " ++ (negotiation_cause_text cause ++ codes "\n")))
 
 -- those of rounds one after another, the first of them of this number
 abbrev pub outcome_lines : ℕ → List Outcome → List ℕ

@@ -10,9 +10,9 @@ use Rattle.str0m_sdp.specs.section.Consistency.{mid_of}
 use Rattle.str0m_sdp.specs.section.SectionRows.{rows}
 
 -- a text, and `-` for one that is absent or empty
-abbrev pub or_dash : List ℕ → List ℕ
-or_dash [] = codes "-"
-or_dash (c ∷ text) = c ∷ text
+abbrev pub row_text_or_dash : List ℕ → List ℕ
+row_text_or_dash [] = codes "-"
+row_text_or_dash (c ∷ text) = c ∷ text
 
 -- a payload type
 abbrev pub type_text : Option ℕ → List ℕ
@@ -34,7 +34,7 @@ abbrev pub mid_text : MediaLine → List ℕ
 mid_text m = unwrap_or (first (filter_map mid_of m.attrs)) (codes "-")
 
 abbrev pub row_line : List ℕ → PayloadParams → List ℕ
-row_line mid row = row_fields mid row (or_dash (params_text row.spec.format))
+row_line mid row = row_fields mid row (row_text_or_dash (params_text row.spec.format))
 
 abbrev pub section_lines : MediaLine → List ℕ
 section_lines m = flat_map (row_line (mid_text m)) (rows m)

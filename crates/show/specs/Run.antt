@@ -9,15 +9,15 @@ use Rattle.str0m_sdp.specs.session.Session.{sdp_text}
 use Rattle.str0m_signal.specs.session.Reader.{Described}
 
 -- what the arguments ask for: one word alone, exactly so written
-abbrev pub asked_by : List ℕ → Option Shown
-asked_by word =
+abbrev pub run_asked_by : List ℕ → Option Shown
+run_asked_by word =
     if bytes_eq word (codes "text") then Some Text
     else if bytes_eq word (codes "rows") then Some Rows
     else if bytes_eq word (codes "negotiate") then Some Negotiation
     else None
 
 abbrev pub asked : List (List ℕ) → Option Shown
-asked (word ∷ []) = asked_by word
+asked (word ∷ []) = run_asked_by word
 asked _ = None
 
 -- the bytes describe a session, of which this is the text

@@ -1,5 +1,5 @@
 //! The lines of `sdpshow rows`.
-ghost use Rattle.show.specs.RowLines.{or_dash, type_text, mid_text, row_fields, row_line, section_lines, rows_text};
+ghost use Rattle.show.specs.RowLines.{row_text_or_dash, type_text, mid_text, row_fields, row_line, section_lines, rows_text};
 ghost use Rattle.std.specs.Prelude.{◌≡◌, ◌++◌, IfOk, OnOk, Some, string_bytes};
 
 use std::alloc::{AllocError, Global};
@@ -22,8 +22,8 @@ impl fmt::Display for TypeOrDash {
 }
 
 /// The text, and `-` for an empty one.
-fn or_dash(text: &str) -> &str
-    ensures { result.now ≡ or_dash text.now }
+fn row_text_or_dash(text: &str) -> &str
+    ensures { result.now ≡ row_text_or_dash text.now }
 {
     if text.is_empty() { "-" } else { text }
 }
@@ -56,7 +56,7 @@ pub(crate) fn row_line(alloc: Global, mid: &str, row: &PayloadParams) -> Result<
     ensures { IfOk result (λ line. string_bytes line ≡ row_line mid.now row.now) }
 {
     let format = row.spec().format.to_string(alloc)?;
-    let format = or_dash(format.as_str());
+    let format = row_text_or_dash(format.as_str());
     let line = RowLine { mid, row, format };
     line.to_string(alloc)
 }

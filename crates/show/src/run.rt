@@ -1,7 +1,7 @@
 //! The program over any reader and any two writers.
 ghost use Rattle.show.specs.Faults.{fault_line, usage_line, IsFaultOf, IsFaultOfInput, IsFaultOfReading};
 ghost use Rattle.show.specs.RowLines.{rows_text};
-ghost use Rattle.show.specs.Run.{asked, asked_by, Prints, PrintsBy, Shows, ShowsAsked, Describes};
+ghost use Rattle.show.specs.Run.{asked, run_asked_by, Prints, PrintsBy, Shows, ShowsAsked, Describes};
 ghost use Rattle.show.specs.declared.fault.Fault.TheVariants.{NotUtf8, Unwritable};
 ghost use Rattle.std.specs.Io.KnownBytes.{Appends, IsAtEnd};
 ghost use Rattle.std.specs.Prelude.{◌≡◌, ◌↔◌, ◌⊎◌, ℕ, List, None, IfErr, IfOk, IfSome, OnOk, OnErr, map, IsUtf8, string_bytes};
@@ -44,7 +44,7 @@ pub fn usage<F: Write>(faults: &mut F) -> Ending
 }
 
 /// Says in one line why a run fails. The status is 1.
-pub fn refuse<F: Write>(faults: &mut F, fault: &Fault) -> Ending
+pub fn refuse_run<F: Write>(faults: &mut F, fault: &Fault) -> Ending
     ensures status { result.status ≡ 1 }
     ensures said { OnOk result.said (Appends (F.contents faults.old) (F.contents faults.new) (fault_line fault.now)) }
 {
@@ -64,8 +64,8 @@ enum Shown {
 }
 
 /// What a word asks for: `text`, `rows` or `negotiate`, exactly so written.
-fn asked_by(word: &str) -> Option<Shown>
-    ensures { result ≡ asked_by word.now }
+fn run_asked_by(word: &str) -> Option<Shown>
+    ensures { result ≡ run_asked_by word.now }
 {
     match word {
         "text" => Some(Shown::Text),
@@ -80,7 +80,7 @@ fn asked(words: &[String]) -> Option<Shown>
     ensures { result ≡ asked (map string_bytes words.now) }
 {
     match words {
-        [word] => asked_by(word.as_str()),
+        [word] => run_asked_by(word.as_str()),
         _ => None,
     }
 }
@@ -102,7 +102,7 @@ fn whole_bytes<R: Read>(alloc: Global, input: &mut R) -> Result<Vec<u8>, Fault>
 }
 
 /// What was read, as a text: the only fault is that it is none.
-fn text_of(bytes: Vec<u8>) -> Result<String, Fault>
+fn input_text_of(bytes: Vec<u8>) -> Result<String, Fault>
     ensures text { IfOk result (λ text. string_bytes text ≡ bytes.items) }
     ensures fault { IfErr result (λ fault. (fault ≡ NotUtf8) × (IsUtf8 bytes.items → ⊥)) }
 {
@@ -113,13 +113,13 @@ fn text_of(bytes: Vec<u8>) -> Result<String, Fault>
 }
 
 /// All that the reader holds.
-#[tactic(auto, using(crate::proofs::Faults::of_reading, crate::proofs::Faults::no_text))]
+#[tactic(auto, using(crate::proofs::Faults::of_reading, crate::proofs::Faults::fault_of_no_text))]
 fn whole_text<R: Read>(alloc: Global, input: &mut R) -> Result<String, Fault>
     ensures whole { IfOk result (λ text. IfSome (R.remaining input.old) (λ held. string_bytes text ≡ held)) }
     ensures end { OnOk result (IsAtEnd (R.remaining input.new)) }
     ensures fault { IfErr result (IsFaultOfInput (R.remaining input.old)) }
 {
-    text_of(whole_bytes(alloc, input)?)
+    input_text_of(whole_bytes(alloc, input)?)
 }
 
 fn offer_text(alloc: Global, text: &str) -> Result<String, SdpError>
@@ -161,7 +161,7 @@ fn write_whole<W: Write>(output: &mut W, text: &str) -> Result<(), Fault>
 }
 
 /// Shows the description that the reader holds.
-#[tactic(auto, using(crate::proofs::Faults::of_input, crate::proofs::Faults::of_refusal))]
+#[tactic(auto, using(crate::proofs::Faults::fault_of_input, crate::proofs::Faults::fault_of_refusal))]
 fn show<R: Read, W: Write>(
     alloc: Global,
     shown: Shown,
@@ -230,6 +230,6 @@ pub fn run<R: Read, W: Write, F: Write>(
     };
     match show(alloc, shown, input, output) {
         Ok(()) => Ending::SHOWN,
-        Err(fault) => refuse(faults, &fault),
+        Err(fault) => refuse_run(faults, &fault),
     }
 }

@@ -53,10 +53,11 @@ pub use Rattle.std.specs.Str.{skip_leading_whitespace, drop_trailing_whitespace}
 pub use Rattle.std.specs.Str.Parse.{AllDigits, digits_value, IsNumeral}
 pub use Rattle.str0m_formats.specs.Prelude.{num, when, ◌<|>◌, ◌>>=◌, lacks, IsTheOnly, IsNum, IsNumber, receives, H265ProfileTierLevel}
 pub use Rattle.str0m_formats.specs.Prelude.{H266ProfileTierLevel, H264ProfileLevel, ProfileTierLevel}
-pub use Rattle.str0m_values.proofs.AddressWords.{lacks_both}
-pub use Rattle.str0m_values.proofs.CutLaws.{cut_at, cut_none, lacks_true, lacks_from}
-pub use Rattle.str0m_values.proofs.CutsBothWays.{bind_some, reads_none, some_is, reads_first, Reads, none_reads}
-pub use Rattle.str0m_values.proofs.CutsNumLaws.{num_found, num_only, num_reads, when_some, when_true, parsed_ok, parsed_err}
+pub use Rattle.str0m_values.proofs.AddressWords.{address_lacks_both}
+pub use Rattle.str0m_values.proofs.CutLaws.{cut_at, cut_none, lacks_cut_true, lacks_cut_from}
+pub use Rattle.str0m_values.proofs.CutsBothWays.{cuts_bind_some, cuts_reads_none, cuts_some_is, cuts_reads_first, Reads, cuts_none_reads}
+pub use Rattle.str0m_values.proofs.CutsNumLaws.{num_found, num_only, num_reads, cuts_when_some, num_when_true, cuts_parsed_ok}
+pub use Rattle.str0m_values.proofs.CutsNumLaws.{cuts_parsed_err}
 pub use Rattle.str0m_values.proofs.CutsOnlyLaws.{only_read}
-pub use Rattle.str0m_values.specs.CutsParts.{IsRest, Lacks, IsGiven, lay}
+pub use Rattle.str0m_values.specs.CutsParts.{IsRest, Lacks, IsGivenNumber, lay}
 pub use mathlib.Core.Path.{fun_ext}

@@ -1,7 +1,7 @@
 //! Codecs.
 ghost use Rattle.std.specs.Prelude.{◌≡◌, ◌↔◌, IsTrue, Some};
-ghost use Rattle.str0m_formats.specs.codec.Codec.{codec_text, content, static_entry, audio, video, events, media_kind, codec_of, IsReadAs, printed_and_read};
-ghost use Rattle.str0m_formats.specs.codec.CodecSpec.{is_at, static_codec};
+ghost use Rattle.str0m_formats.specs.codec.Codec.{codec_text, codec_content, static_entry, audio, video, events, media_kind, codec_of, IsReadAsCodec, codec_printed_and_read};
+ghost use Rattle.str0m_formats.specs.codec.CodecSpec.{is_spec_at, static_codec};
 
 use std::fmt;
 use str0m_values::{Frequency, MediaKind, Pt, Worded, case_alike, case_of};
@@ -69,7 +69,7 @@ const NAMED: [Codec; 15] = [
 impl Codec {
     /// Whether the codec carries audio: `Opus`, `PCMU`, `PCMA`, `G722`, `CN` or `AmrWb`.
     pub fn is_audio(self) -> bool
-        ensures { IsTrue result ↔ (content self ≡ audio) }
+        ensures { IsTrue result ↔ (codec_content self ≡ audio) }
     {
         matches!(
             self,
@@ -79,7 +79,7 @@ impl Codec {
 
     /// Whether the codec carries video: `H264`, `H265`, `H266`, `Vp8`, `Vp9` or `Av1`.
     pub fn is_video(self) -> bool
-        ensures { IsTrue result ↔ (content self ≡ video) }
+        ensures { IsTrue result ↔ (codec_content self ≡ video) }
     {
         matches!(
             self,
@@ -89,7 +89,7 @@ impl Codec {
 
     /// Whether the codec carries telephone events (RFC 4733).
     pub fn is_tele(self) -> bool
-        ensures { IsTrue result ↔ (content self ≡ events) }
+        ensures { IsTrue result ↔ (codec_content self ≡ events) }
     {
         matches!(self, Codec::Tele)
     }
@@ -97,7 +97,7 @@ impl Codec {
     /// The kind of the sections that the codec stands in: audio for what carries audio or telephone
     /// events, video for all else.
     pub fn kind(self) -> MediaKind
-        ensures { result ≡ media_kind (content self) }
+        ensures { result ≡ media_kind (codec_content self) }
     {
         if self.is_audio() || self.is_tele() {
             MediaKind::Audio
@@ -123,7 +123,7 @@ impl Codec {
     }
 
     fn has_static_type(self, pt: u8) -> bool
-        ensures { result ≡ is_at pt (static_entry self) }
+        ensures { result ≡ is_spec_at pt (static_entry self) }
     {
         match self.static_type() {
             Some((own, _)) => own == pt,
@@ -171,7 +171,7 @@ impl Worded for Codec {
 }
 
 #[tactic(auto, unfolding(crate::specs::codec::Codec::codec_of, str0m_values::specs::Words::case_alike))]
-fn same(name: &str) -> Codec
+fn codec_alike(name: &str) -> Codec
     ensures { result ≡ codec_of name.now }
 {
     case_alike(&NAMED, name).unwrap_or(Codec::Unknown)
@@ -183,21 +183,21 @@ fn named(name: &str) -> Codec
 {
     match case_of(&NAMED, name) {
         Some(codec) => codec,
-        None => same(name),
+        None => codec_alike(name),
     }
 }
 
 /// Reads a name without regard to the case of ASCII letters. A name that isn't known is `Unknown`,
 /// and so is that of `Null`.
 impl From<&str> for Codec {
-    ghost from_gives = { λ name codec. IsReadAs name.now codec };
+    ghost from_gives = { λ name codec. IsReadAsCodec name.now codec };
 
-    #[tactic(auto, using(crate::proofs::codec::CodecNames::read_as))]
+    #[tactic(auto, using(crate::proofs::codec::CodecNames::codec_read_as))]
     fn from(name: &str) -> Codec
-        ensures read { IsReadAs name.now result }
+        ensures read { IsReadAsCodec name.now result }
 
         // What a codec prints reads as that codec, and what `Null` prints as `Unknown`.
-        ensures printed { (codec : Codec) → name.now ≡ codec_text codec → result ≡ printed_and_read codec }
+        ensures printed { (codec : Codec) → name.now ≡ codec_text codec → result ≡ codec_printed_and_read codec }
     {
         named(name)
     }

@@ -1,7 +1,7 @@
 //! The attributes of sessions and of sections.
 ghost use Rattle.std.specs.Prelude.{◌≡◌, IfOk, Some, refl};
-ghost use Rattle.str0m_sdp.specs.attribute.Attribute.{session_attribute_text, media_attribute_text, direction_attribute, session_words, media_words, word_read};
-ghost use Rattle.str0m_sdp.specs.form.AttributeLine.{line_text};
+ghost use Rattle.str0m_sdp.specs.attribute.Attribute.{session_attribute_text, media_attribute_text, direction_attribute, session_words, media_words, attribute_word_read};
+ghost use Rattle.str0m_sdp.specs.form.AttributeLine.{form_line_text};
 
 use crate::attribute::msid::Msid;
 use crate::attribute::rtp_map::RtpMap;
@@ -180,7 +180,7 @@ pub enum MediaAttribute {
 impl SessionAttribute {
     /// The attribute that is this word alone, as `ice-lite`; none where no attribute is.
     pub fn from_word(text: &str) -> Option<SessionAttribute>
-        ensures { result ≡ word_read session_words text.now }
+        ensures { result ≡ attribute_word_read session_words text.now }
     {
         match text {
             label::EXTMAP_ALLOW_MIXED => Some(SessionAttribute::AllowMixedExts),
@@ -199,7 +199,7 @@ impl SessionAttribute {
 
     #[inline(always)]
     fn line(&self) -> Line<'_>
-        ensures { line_text result ≡ session_attribute_text self.now }
+        ensures { form_line_text result ≡ session_attribute_text self.now }
     {
         match self {
             SessionAttribute::Group { typ, mids } => Line::Structured(StructuredLine::Group(
@@ -226,7 +226,7 @@ impl SessionAttribute {
 impl MediaAttribute {
     /// The attribute that is this word alone, as `rtcp-mux`; none where no attribute is.
     pub fn from_word(text: &str) -> Option<MediaAttribute>
-        ensures { result ≡ word_read media_words text.now }
+        ensures { result ≡ attribute_word_read media_words text.now }
     {
         match text {
             label::RECV_ONLY => Some(MediaAttribute::RecvOnly),
@@ -250,7 +250,7 @@ impl MediaAttribute {
 
     #[inline(always)]
     fn line(&self) -> Line<'_>
-        ensures { line_text result ≡ media_attribute_text self.now }
+        ensures { form_line_text result ≡ media_attribute_text self.now }
     {
         match self {
             MediaAttribute::Rtcp(text) => Line::Text(label::RTCP, text),

@@ -25,27 +25,31 @@ pub use Rattle.std.specs.Prelude.{codes, is_some, IsTrue, ◌↔◌, IsErrAnd, c
 pub use Rattle.std.specs.Prelude.{unwrap_or}
 pub use Rattle.std.specs.Str.{bytes_eq, IsCharBoundary, IsUtf8, encode_utf8_all, chars}
 pub use Rattle.std.specs.Str.Parse.{digits_value, IsNumeral, AllDigits}
-pub use Rattle.str0m_formats.proofs.{read_as, read_only, printed_pairs, linked, parsed_printed, decimal_reads, IsSolidPair, joined_pair}
-pub use Rattle.str0m_formats.proofs.{decimal_solid, Pairs, pairs_read_is, pairs_read_only}
-pub use Rattle.str0m_formats.specs.codec.Codec.{printed_and_read, content, other, codec_text}
+pub use Rattle.str0m_formats.proofs.{codec_read_as, codec_read_only, printed_pairs, line_linked_texts, parsed_param_printed}
+pub use Rattle.str0m_formats.proofs.{param_decimal_reads, IsSolidPair}
+pub use Rattle.str0m_formats.proofs.{joined_pair}
+pub use Rattle.str0m_formats.proofs.{param_decimal_solid, Pairs, pairs_read_is, pairs_read_only}
+pub use Rattle.str0m_formats.specs.codec.Codec.{codec_printed_and_read, codec_content, other, codec_text}
 pub use Rattle.str0m_formats.specs.declared.codec.Codec.{Codec}
 pub use Rattle.str0m_formats.specs.declared.format.format_param.FormatParam.TheVariants.{Apt, BarePtList, BareRange, Red, TelephoneEvents}
 pub use Rattle.str0m_formats.specs.declared.format.format_param.FormatParam.TheVariants.{Unknown}
 pub use Rattle.str0m_formats.specs.declared.round.rounds.Round.{Round}
-pub use Rattle.str0m_formats.specs.format.FormatParam.{param_text, IsParsed, AreParsed}
-pub use Rattle.str0m_formats.specs.format.Pairs.{has_mark, AreRead, AreJoined, merged}
+pub use Rattle.str0m_formats.specs.format.FormatParam.{param_text, IsParsedParam, AreParsedParams}
+pub use Rattle.str0m_formats.specs.format.Pairs.{has_triple_mark, ArePairsRead, AreJoinedPairs, pairs_merged}
 pub use Rattle.str0m_formats.specs.format.PairsReading.{params_read}
-pub use Rattle.str0m_formats.specs.round.Claimed.{times}
+pub use Rattle.str0m_formats.specs.round.Claimed.{type_times}
 pub use Rattle.str0m_formats.specs.round.Narrowing.{telephone_max}
-pub use Rattle.str0m_formats.specs.row.PayloadParams.{types_of, AllSmall}
+pub use Rattle.str0m_formats.specs.row.PayloadParams.{types_of, AllTypesSmall}
 pub use Rattle.str0m_formats.specs.row.PlainRowBounds.{HoldsRowNumbers, IsBounded, IsByte}
-pub use Rattle.str0m_sdp.proofs.{values_printed, describes_read_back, pairs_line_read, values_read, format_line_printed, reads, fmtp_lines}
+pub use Rattle.str0m_sdp.proofs.{values_printed, section_describes_read_back, section_pairs_line_read, section_values_read}
+pub use Rattle.str0m_sdp.proofs.{format_line_printed, reads, fmtp_lines}
 pub use Rattle.str0m_sdp.proofs.{red_reads}
 pub use Rattle.str0m_sdp.specs.attribute.Bandwidth.{bandwidth_line}
-pub use Rattle.str0m_sdp.specs.attribute.Fmtp.{is_shown, shown_line}
+pub use Rattle.str0m_sdp.specs.attribute.Fmtp.{is_fmtp_shown, shown_fmtp_line}
 pub use Rattle.str0m_sdp.specs.attribute.MediaType.{media_type_text}
-pub use Rattle.str0m_sdp.specs.attribute.RtpMap.{map_of_spec, channels_text, rtp_map_text}
-pub use Rattle.str0m_sdp.specs.attribute.Simulcast.{name_text, id_text, layer_text, layers_text, sides_text, unless_munged}
+pub use Rattle.str0m_sdp.specs.attribute.RtpMap.{map_of_spec, rtp_map_channels_text, rtp_map_text}
+pub use Rattle.str0m_sdp.specs.attribute.Simulcast.{layer_name_text, simulcast_id_text, layer_text, layers_text, simulcast_sides_text}
+pub use Rattle.str0m_sdp.specs.attribute.Simulcast.{simulcast_unless_munged}
 pub use Rattle.str0m_sdp.specs.declared.attribute.MediaAttribute.TheVariants.{Fmtp, RtcpFb, RtpMap, Simulcast, Fingerprint, Setup, Mid}
 pub use Rattle.str0m_sdp.specs.declared.attribute.MediaAttribute.TheVariants.{Candidate, SsrcGroup, Unused}
 pub use Rattle.str0m_sdp.specs.declared.attribute.proto.Proto.TheVariants.{Sctp, Srtp}
@@ -55,34 +59,44 @@ pub use Rattle.str0m_sdp.specs.declared.label.TheConstants.{AUDIO, SCTP, SRTP, V
 pub use Rattle.str0m_sdp.specs.declared.session.Session.{Session}
 pub use Rattle.str0m_sdp.specs.declared.session.error.SdpError.{SdpError}
 pub use Rattle.str0m_sdp.specs.form.Printed.{attribute_line}
-pub use Rattle.str0m_sdp.specs.section.Consistency.{AgreesOnApt, NoneIff, IsMapped, NamesNoOther, apt_of, apt_among, apt_in, first_apt}
+pub use Rattle.str0m_sdp.specs.section.Consistency.{AgreesOnApt, NoSectionFaultIff, IsMapped, NamesNoOtherApt, section_apt_of}
+pub use Rattle.str0m_sdp.specs.section.Consistency.{section_apt_among, section_apt_in, first_section_apt}
 pub use Rattle.str0m_sdp.specs.section.Consistency.{maps}
-pub use Rattle.str0m_sdp.specs.section.MediaLine.{formats_text, m_line, media_line_text, pts_text, port_text}
+pub use Rattle.str0m_sdp.specs.section.MediaLine.{formats_text, m_line, media_line_text, m_line_pts_text, port_text}
 pub use Rattle.str0m_sdp.specs.section.RowAttributes.{row_attrs, feedback_line, feedback_attrs, fmtp_line, format_values, format_attrs}
 pub use Rattle.str0m_sdp.specs.section.RowAttributes.{rtx_lines, rtx_attrs, red_lines, red_attrs}
-pub use Rattle.str0m_sdp.specs.section.SectionRows.{KeepsToLine, IsInBounds, KeepsToLines}
+pub use Rattle.str0m_sdp.specs.section.SectionRows.{KeepsToRowLine, IsRowInBounds, KeepsToRowLines}
 pub use Rattle.str0m_sdp.specs.session.Session.{origin_line, session_text}
-pub use Rattle.str0m_signal.specs.Prelude.{codec_of, IsReadAs, FormatParam, PayloadParams, pair_texts, IsEventRange, AllDistinct, types}
+pub use Rattle.str0m_signal.specs.Prelude.{codec_of, IsReadAsCodec, FormatParam, PayloadParams, pair_texts, IsEventRange, AllTypesDistinct}
+pub use Rattle.str0m_signal.specs.Prelude.{types}
 pub use Rattle.str0m_signal.specs.Prelude.{IsPlain, media_attribute_text, session_attribute_text, media_words, session_words}
 pub use Rattle.str0m_signal.specs.Prelude.{bandwidth_text, is_media, setup_text, MediaAttribute, SessionAttribute, Bandwidth, MediaType}
 pub use Rattle.str0m_signal.specs.Prelude.{Proto, RestrictionId, SimulcastLayer, MediaLine, Sdp, line_end, Consistent, is_mid, is_setup}
-pub use Rattle.str0m_signal.specs.Prelude.{is_direction, is_of_type, made, HasBoundedRows, sdp_text, Parted, IsCandidateText, before, cut}
+pub use Rattle.str0m_signal.specs.Prelude.{is_direction, is_of_type, made, HasBoundedRows, sdp_text, PartedAddress, IsCandidateText, before}
+pub use Rattle.str0m_signal.specs.Prelude.{cut}
 pub use Rattle.str0m_signal.specs.Prelude.{is_rest, lacks, num, strip, when, ◌<|>◌, ◌>>=◌, IsTheOnly, FirstFit, IsNum, IsPt, IsRest, IsWord}
-pub use Rattle.str0m_signal.specs.Prelude.{Lacks, IsWithout, code, beginning_of, IsLongestBeginning}
-pub use Rattle.str0m_values.proofs.AddressWords.{lacks_both}
+pub use Rattle.str0m_signal.specs.Prelude.{Lacks, IsWithout, code, text_beginning_of, IsLongestShortText}
+pub use Rattle.str0m_values.proofs.AddressWords.{address_lacks_both}
 pub use Rattle.str0m_values.proofs.CandidateLaws.{candidate_both}
-pub use Rattle.str0m_values.proofs.CandidateParts.{num_both}
-pub use Rattle.str0m_values.proofs.CutLaws.{before_front, cut_at, cut_found, cut_none, cut_none_lacks, Lacks-append, lacks_from, lacks_true}
-pub use Rattle.str0m_values.proofs.CutLaws.{strip_at, strip_found, before_lacks, strip_none}
-pub use Rattle.str0m_values.proofs.CutsBothWays.{bind_some, if_some, or_some, reads_first, some_is, Sound, sound_or, reads_either, Reads}
-pub use Rattle.str0m_values.proofs.CutsBothWays.{one_value, none_reads, reads_none}
-pub use Rattle.str0m_values.proofs.CutsNumLaws.{digits_lack, num_found, num_reads, number_lacks, parsed_whole, rest_true, when_some}
-pub use Rattle.str0m_values.proofs.CutsNumLaws.{when_true}
-pub use Rattle.str0m_values.proofs.FingerprintPairs.{glyph_value}
+pub use Rattle.str0m_values.proofs.CandidateParts.{candidate_num_both}
+pub use Rattle.str0m_values.proofs.CutLaws.{cut_before_front, cut_at, cut_found, cut_none, cut_none_lacks, LacksCut-append, lacks_cut_from}
+pub use Rattle.str0m_values.proofs.CutLaws.{lacks_cut_true}
+pub use Rattle.str0m_values.proofs.CutLaws.{strip_at, strip_found, cut_before_lacks, strip_none}
+pub use Rattle.str0m_values.proofs.CutsBothWays.{cuts_bind_some, cuts_if_some, cuts_or_some, cuts_reads_first, cuts_some_is, IsSoundCut}
+pub use Rattle.str0m_values.proofs.CutsBothWays.{sound_cut_or, cuts_reads_either, Reads}
+pub use Rattle.str0m_values.proofs.CutsBothWays.{cuts_one_value, cuts_none_reads, cuts_reads_none}
+pub use Rattle.str0m_values.proofs.CutsNumLaws.{digits_lack, num_found, num_reads, number_lacks, cuts_parsed_whole, num_rest_true}
+pub use Rattle.str0m_values.proofs.CutsNumLaws.{cuts_when_some}
+pub use Rattle.str0m_values.proofs.CutsNumLaws.{num_when_true}
+pub use Rattle.str0m_values.proofs.FingerprintPairs.{hash_glyph_value}
 pub use Rattle.str0m_values.proofs.IdentifierBeginnings.{beginning_is, beginning_only}
 pub use Rattle.str0m_values.proofs.WordsOfCases.{reads_words}
-pub use Rattle.str0m_values.specs.Address.{IsOctet, IsHexGroup, IsOneGroup, IsEnd, AreGroups, AreAnyGroups, IsIpText, octet_pairs, ip_text}
-pub use Rattle.str0m_values.specs.Candidate.{candidate_text, IsSocket, IsRelated, AreIceNames, IsSocketInRange, IsPrintable, socket_text}
+pub use Rattle.str0m_values.specs.Address.{IsOctet, IsHexGroup, IsOneAddressGroup, IsAddressEnd, AreAddressGroups, AreAnyAddressGroups}
+pub use Rattle.str0m_values.specs.Address.{IsIpText, octet_pairs}
+pub use Rattle.str0m_values.specs.Address.{ip_text}
+pub use Rattle.str0m_values.specs.Candidate.{candidate_text, IsCandidateSocket, IsRelatedAddress, AreIceNames, IsCandidateSocketInRange}
+pub use Rattle.str0m_values.specs.Candidate.{IsPrintable}
+pub use Rattle.str0m_values.specs.Candidate.{socket_text}
 pub use Rattle.str0m_values.specs.Candidate.{related_text, extras_text}
 pub use Rattle.str0m_values.specs.Cuts.{front}
 pub use Rattle.str0m_values.specs.Fingerprint.{hex_pair, pairs_text, fingerprint_text}

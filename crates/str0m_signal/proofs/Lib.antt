@@ -1,9 +1,9 @@
 pub mod Common
 -- What crates above name of the laws of rooms, which are private as their code is.
-pub use Rattle.str0m_signal.proofs.form.FormTableLaws.{tail_is}
-pub use Rattle.str0m_signal.proofs.line.LinesLaws.{attribute_both, line_here, without_suffix}
-pub use Rattle.str0m_signal.proofs.line.LinesPrinted.{joined-append}
-pub use Rattle.str0m_signal.proofs.line.PartLaws.{cut_shorter}
+pub use Rattle.str0m_signal.proofs.form.FormTableLaws.{form_tail_is}
+pub use Rattle.str0m_signal.proofs.line.LinesLaws.{attribute_both, line_here, line_without_suffix}
+pub use Rattle.str0m_signal.proofs.line.LinesPrinted.{lines_joined-append}
+pub use Rattle.str0m_signal.proofs.line.PartLaws.{part_cut_shorter}
 pub use Rattle.str0m_signal.proofs.session.ReaderAnswerLaws.{first_line_one}
 pub use Rattle.str0m_signal.proofs.session.ReaderLineNumbers.{line_feeds, line_number}
 pub use Rattle.str0m_signal.proofs.session.ReaderRestLaws.{reading_leaves}

@@ -42,13 +42,13 @@ pub cut_none_lacks : (c : ℕ) (text : List ℕ) → cut c text ≡ None → Lac
 cut_none_lacks c [] e = tt
 cut_none_lacks c (x ∷ xs) e = grind (arith, cases_eq, none-some, eq-eqb, cut_none_lacks c xs, before_cut_none, ne_eqb)
 
-pub Lacks-by_index : (c : ℕ) (text : List ℕ) → ((i : ℕ) → i < length text → get_or text i 0 ≢ c) → Lacks c text
-Lacks-by_index c [] h = tt
-Lacks-by_index c (x ∷ xs) h = (h 0 (omega arith), Lacks-by_index c xs (λ i lt. h (suc i) (omega arith)))
+pub LacksCut-by_index : (c : ℕ) (text : List ℕ) → ((i : ℕ) → i < length text → get_or text i 0 ≢ c) → Lacks c text
+LacksCut-by_index c [] h = tt
+LacksCut-by_index c (x ∷ xs) h = (h 0 (omega arith), LacksCut-by_index c xs (λ i lt. h (suc i) (omega arith)))
 
 pub cut_from_split : (c : ℕ) (text : List ℕ) (r : Option (Bor (List ℕ) × Bor (List ℕ))) → IsSplitOnceResult c text r → c < 128
     → parts r ≡ cut c text
-cut_from_split c text r h lt = grind (arith, cut_none, Lacks-by_index, split_parts, cut_at)
+cut_from_split c text r h lt = grind (arith, cut_none, LacksCut-by_index, split_parts, cut_at)
 
 -- ---- prefixes
 
@@ -75,23 +75,23 @@ strip_from_prefix p text r h = grind (arith, strip_none, strip_at)
 
 -- ---- a character that stands nowhere
 
-pub Lacks-append : (c : ℕ) (xs ys : List ℕ) → Lacks c (xs ++ ys) → Lacks c xs
-Lacks-append c [] ys h = tt
-Lacks-append c (x ∷ xs) ys h = (h.0, Lacks-append c xs ys h.1)
+pub LacksCut-append : (c : ℕ) (xs ys : List ℕ) → Lacks c (xs ++ ys) → Lacks c xs
+LacksCut-append c [] ys h = tt
+LacksCut-append c (x ∷ xs) ys h = (h.0, LacksCut-append c xs ys h.1)
 
-pub lacks_true : (c : ℕ) (text : List ℕ) → Lacks c text → lacks c text ≡ true
-lacks_true c [] h = refl
-lacks_true c (x ∷ xs) h = rw (ne_eqb x c h.0) (lacks_true c xs h.1)
+pub lacks_cut_true : (c : ℕ) (text : List ℕ) → Lacks c text → lacks c text ≡ true
+lacks_cut_true c [] h = refl
+lacks_cut_true c (x ∷ xs) h = rw (ne_eqb x c h.0) (lacks_cut_true c xs h.1)
 
-pub lacks_from : (c : ℕ) (text : List ℕ) → lacks c text ≡ true → Lacks c text
-lacks_from c [] e = tt
-lacks_from c (x ∷ xs) e = grind (arith, and_parts, both_ways, not-true, eq-eqb, lacks_from c xs)
+pub lacks_cut_from : (c : ℕ) (text : List ℕ) → lacks c text ≡ true → Lacks c text
+lacks_cut_from c [] e = tt
+lacks_cut_from c (x ∷ xs) e = grind (arith, and_parts, both_ways, not-true, eq-eqb, lacks_cut_from c xs)
 
 pub has_cut : (c : ℕ) (text : List ℕ) (r : Option (Bor (List ℕ) × Bor (List ℕ))) → parts r ≡ cut c text → is_some r ≡ not (lacks c text)
-has_cut c text None e = rw (lacks_true c text (cut_none_lacks c text (sym e))) refl
+has_cut c text None e = rw (lacks_cut_true c text (cut_none_lacks c text (sym e))) refl
 has_cut c text (Some x) e =
     let found = cut_found c text x.0.now x.1.now (sym e) in
-    rw (false_from_ne_true (lacks c text) (λ t. at_cut c x.0.now x.1.now (rw found.0 at (lacks_from c text t)))) refl
+    rw (false_from_ne_true (lacks c text) (λ t. at_cut c x.0.now x.1.now (rw found.0 at (lacks_cut_from c text t)))) refl
   where
     at_cut : (c : ℕ) (a b : List ℕ) → Lacks c (a ++ (c ∷ b)) → ⊥
     at_cut c [] b h = h.0 refl
@@ -100,19 +100,19 @@ has_cut c text (Some x) e =
 -- ---- before a cut
 
 -- what lacks c goes whole before the cut
-pub before_front : (c : ℕ) (a b : List ℕ) → Lacks c a → before c (a ++ b) ≡ a ++ before c b
-before_front c [] b h = refl
-before_front c (x ∷ xs) b h = grind (arith, ne_eqb, before_front c xs b h.1)
+pub cut_before_front : (c : ℕ) (a b : List ℕ) → Lacks c a → before c (a ++ b) ≡ a ++ before c b
+cut_before_front c [] b h = refl
+cut_before_front c (x ∷ xs) b h = grind (arith, ne_eqb, cut_before_front c xs b h.1)
 
-pub before_lacks : (c : ℕ) (text : List ℕ) → Lacks c (before c text)
-before_lacks c text = go (cut c text) refl
+pub cut_before_lacks : (c : ℕ) (text : List ℕ) → Lacks c (before c text)
+cut_before_lacks c text = go (cut c text) refl
   where
     go : (o : Option (List ℕ × List ℕ)) → cut c text ≡ o → Lacks c (front text o)
     go None e = cut_none_lacks c text e
     go (Some p) e = (cut_found c text p.0 p.1 e).1
 
-before_rest : (c : ℕ) (text : List ℕ) → (rest : List ℕ) × (text ≡ before c text ++ rest)
-before_rest c text = go (cut c text) refl
+cut_before_rest : (c : ℕ) (text : List ℕ) → (rest : List ℕ) × (text ≡ before c text ++ rest)
+cut_before_rest c text = go (cut c text) refl
   where
     go : (o : Option (List ℕ × List ℕ)) → cut c text ≡ o → (rest : List ℕ) × (text ≡ front text o ++ rest)
     go None e = ([], sym (append-nil text))
@@ -120,14 +120,14 @@ before_rest c text = go (cut c text) refl
 
 -- after what goes before stands the rest
 pub strip_before : (c : ℕ) (text : List ℕ) → strip (before c text) text ≡ Some (drop (length (before c text)) text)
-strip_before c text = let rest = before_rest c text in go (before c text) text rest.0 rest.1
+strip_before c text = let rest = cut_before_rest c text in go (before c text) text rest.0 rest.1
   where
     go : (p text rest : List ℕ) → text ≡ p ++ rest → strip p text ≡ Some (drop (length p) text)
     go p text rest e = rw e (strip_at p rest ∙ ap (λ (t : List ℕ). Some t) (sym (drop-append_seam p rest)))
 
 -- it ends between two characters
-pub before_ends : (c : ℕ) (text : List ℕ) → IsUtf8 text → IsUtf8 (before c text) → IsCharBoundary text (length (before c text))
-before_ends c text whole part = let rest = before_rest c text in go (before c text) text rest.0 rest.1 whole part
+pub cut_before_ends : (c : ℕ) (text : List ℕ) → IsUtf8 text → IsUtf8 (before c text) → IsCharBoundary text (length (before c text))
+cut_before_ends c text whole part = let rest = cut_before_rest c text in go (before c text) text rest.0 rest.1 whole part
   where
     go : (p text rest : List ℕ) → text ≡ p ++ rest → IsUtf8 text → IsUtf8 p → IsCharBoundary text (length p)
     go p text rest e whole part =

@@ -2,7 +2,7 @@
 use Rattle.str0m_values.proofs.Common.{◌≡◌, ℕ, zero, suc, ◌<◌, ◌≤◌, ◌+◌, ◌-◌, List, [], ◌∷◌, length, take, drop, Some, None, refl, sym, ap}
 use Rattle.str0m_values.proofs.Common.{arith, AllDigits, digits_value, without_leading_plus, eq-eqb, ne_eqb, numerals_by_value, add-one}
 use Rattle.str0m_values.proofs.Common.{slice_range, tells_digits, digits_value_short, length-take}
-use Rattle.str0m_values.proofs.CutLaws.{cut_none, Lacks-by_index}
+use Rattle.str0m_values.proofs.CutLaws.{cut_none, LacksCut-by_index}
 use Rattle.str0m_values.proofs.CutsNumLaws.{num_reads}
 use Rattle.str0m_values.specs.Cuts.{LacksAt, IsFirstAt, IsWrittenAs, cut, before_cut, num}
 
@@ -20,7 +20,7 @@ cut_first c text i h =
     rw (add-one i, from_start) (cut_at_first c text i h)
 
 pub cut_nowhere : (c : ℕ) (text : List ℕ) → LacksAt c text (length text) → None ≡ cut c text
-cut_nowhere c text h = sym (cut_none c text (Lacks-by_index c text h))
+cut_nowhere c text h = sym (cut_none c text (LacksCut-by_index c text h))
 
 -- eighteen digits and one more fit 64 bits
 pub eighteen_digits : (digits : List ℕ) (i : ℕ) → AllDigits 10 (take i digits) → i ≤ 18
@@ -34,8 +34,8 @@ eighteen_digits digits i h le =
       length-take i digits,
     )
 
-written_signless : (digits : List ℕ) (n : ℕ) → IsWrittenAs digits n → without_leading_plus digits ≡ digits
-written_signless digits n h = grind arith
+cuts_written_signless : (digits : List ℕ) (n : ℕ) → IsWrittenAs digits n → without_leading_plus digits ≡ digits
+cuts_written_signless digits n h = grind arith
 
-pub written_fits : (limit : ℕ) (text : List ℕ) (n : ℕ) → IsWrittenAs text n → n ≤ limit → Some n ≡ num limit text
-written_fits limit text n h le = grind (arith, written_signless, num_reads)
+pub cuts_written_fits : (limit : ℕ) (text : List ℕ) (n : ℕ) → IsWrittenAs text n → n ≤ limit → Some n ≡ num limit text
+cuts_written_fits limit text n h le = grind (arith, cuts_written_signless, num_reads)

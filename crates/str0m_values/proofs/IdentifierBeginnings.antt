@@ -4,28 +4,35 @@ use Rattle.str0m_values.proofs.Common.{◌≡◌, ◌⊎◌, ℕ, zero, suc, ◌
 use Rattle.str0m_values.proofs.Common.{ap, ◌∙◌, inl, inr, arith, take-append-drop, length-take-le, IsCharBoundary, ltb-true, leb-true}
 use Rattle.str0m_values.proofs.Common.{cases_Bool, cases_lt, take-append_seam, ◌+◌, ◌∷◌, length-append, is_char_start, leb-false}
 use Rattle.str0m_values.proofs.Common.{append-nil}
-use Rattle.str0m_values.specs.ShortText.{IsLongestBeginning, beginning_of}
+use Rattle.str0m_values.specs.ShortText.{IsLongestShortText, text_beginning_of}
 
 -- where a character ends at i or before it, the last such place
-record IsLastSeam (text : List ℕ) (i at : ℕ) : Type 0 where
+record IsLastIdentifierSeam (text : List ℕ) (i at : ℕ) : Type 0 where
   bound : at ≤ i
   seam : (at ≡ 0) ⊎ IsCharBoundary text at
   last : (j : ℕ) → at < j → j ≤ i → IsCharBoundary text j → ⊥
 
-starts : (b : ℕ) → is_char_start b ≡ true → 128 ≤ b → 192 ≤ b
-starts b e high = grind (arith, ltb-true, leb-true)
+character_starts : (b : ℕ) → is_char_start b ≡ true → 128 ≤ b → 192 ≤ b
+character_starts b e high = grind (arith, ltb-true, leb-true)
 
-no_start_inside : (b : ℕ) → is_char_start b ≡ false → (128 ≤ b → 192 ≤ b) → ⊥
-no_start_inside b e h = grind arith
+identifier_no_start_inside : (b : ℕ) → is_char_start b ≡ false → (128 ≤ b → 192 ≤ b) → ⊥
+identifier_no_start_inside b e h = grind arith
 
-floor_is : (text : List ℕ) (i : ℕ) → i < length text → IsLastSeam text i (floor_char_boundary text i)
+identifier_floor_is : (text : List ℕ) (i : ℕ) → i < length text → IsLastIdentifierSeam text i (floor_char_boundary text i)
 unfolding floor_char_boundary
-floor_is text zero within = record { bound = omega arith; seam = inl refl; last = λ j above below is. absurd (omega arith) }
-floor_is text (suc i) within = grind (arith, cases_Bool, starts, floor_is text i, cases_lt, no_start_inside)
+identifier_floor_is text zero within = record { bound = omega arith; seam = inl refl; last = λ j above below is. absurd (omega arith) }
+identifier_floor_is text (suc i) within = grind (
+  arith,
+  cases_Bool,
+  character_starts,
+  identifier_floor_is text i,
+  cases_lt,
+  identifier_no_start_inside,
+)
 
 -- the function gives a longest beginning
-pub beginning_is : (room : ℕ) (text : List ℕ) → IsLongestBeginning room text (beginning_of room text)
-unfolding beginning_of
+pub beginning_is : (room : ℕ) (text : List ℕ) → IsLongestShortText room text (text_beginning_of room text)
+unfolding text_beginning_of
 beginning_is room text =
     elim (cases_Bool (leb (length text) room)) [
       | inl whole ↦
@@ -38,7 +45,7 @@ beginning_is room text =
           })
       | inr long ↦
           let within : room < length text = leb-false (length text) room long in
-          let at = floor_is text room within in
+          let at = identifier_floor_is text room within in
           let len : length (take (floor_char_boundary text room) text) ≡ floor_char_boundary text room =
           length-take-le (floor_char_boundary text room) text (omega (arith, at.bound)) in
           rw long (record {
@@ -49,15 +56,16 @@ beginning_is room text =
           })
     ]
 
-no_longer : (room : ℕ) (text a b : List ℕ) → IsLongestBeginning room text a → IsLongestBeginning room text b → length a < length b → ⊥
-no_longer room text a b h k below = grind arith
+beginning_no_longer : (room : ℕ) (text a b : List ℕ) → IsLongestShortText room text a → IsLongestShortText room text b → length a < length b
+    → ⊥
+beginning_no_longer room text a b h k below = grind arith
 
-one_beginning : (room : ℕ) (text a b : List ℕ) → IsLongestBeginning room text a → IsLongestBeginning room text b → a ≡ b
+one_beginning : (room : ℕ) (text a b : List ℕ) → IsLongestShortText room text a → IsLongestShortText room text b → a ≡ b
 one_beginning room text a b h k =
     let same : length a ≡ length b = elim (cases_lt (length a) (length b)) [
-      | inl below ↦ absurd (no_longer room text a b h k below)
+      | inl below ↦ absurd (beginning_no_longer room text a b h k below)
       | inr rest ↦ elim (cases_lt (length b) (length a)) [
-        | inl above ↦ absurd (no_longer room text b a k h above)
+        | inl above ↦ absurd (beginning_no_longer room text b a k h above)
         | inr more ↦ omega arith
       ]
     ] in
@@ -67,8 +75,8 @@ one_beginning room text a b h k =
     ∙ take-append_seam b k.begins.0
 
 -- two longest beginnings are one
-pub beginning_only : (room : ℕ) (text kept : List ℕ) → IsLongestBeginning room text kept → kept ≡ beginning_of room text
-beginning_only room text kept h = one_beginning room text kept (beginning_of room text) h (beginning_is room text)
+pub beginning_only : (room : ℕ) (text kept : List ℕ) → IsLongestShortText room text kept → kept ≡ text_beginning_of room text
+beginning_only room text kept h = one_beginning room text kept (text_beginning_of room text) h (beginning_is room text)
 
 -- ---- a text that has room is its own longest beginning
 
@@ -77,5 +85,5 @@ shorter : (text kept rest : List ℕ) → text ≡ kept ++ rest → (length kept
 shorter text kept [] e whole = sym (e ∙ append-nil kept)
 shorter text kept (x ∷ xs) e whole = grind (arith, length-append)
 
-pub whole_where_room : (room : ℕ) (text kept : List ℕ) → IsLongestBeginning room text kept → length text ≤ room → kept ≡ text
-whole_where_room room text kept h fits = grind (arith, shorter)
+pub identifier_whole_where_room : (room : ℕ) (text kept : List ℕ) → IsLongestShortText room text kept → length text ≤ room → kept ≡ text
+identifier_whole_where_room room text kept h fits = grind (arith, shorter)

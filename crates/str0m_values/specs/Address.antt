@@ -10,16 +10,16 @@ use Rattle.str0m_values.specs.declared.address.SocketAddr.{SocketAddr}
 -- ---- parts with a character between them
 
 -- the texts with c between them
-abbrev pub joined_by : ℕ → List (List ℕ) → List ℕ
-joined_by c [] = []
-joined_by c (text ∷ []) = text
-joined_by c (text ∷ more ∷ texts) = text ++ (c ∷ joined_by c (more ∷ texts))
+abbrev pub address_joined_by : ℕ → List (List ℕ) → List ℕ
+address_joined_by c [] = []
+address_joined_by c (text ∷ []) = text
+address_joined_by c (text ∷ more ∷ texts) = text ++ (c ∷ address_joined_by c (more ∷ texts))
 
 -- one or more parts with c between them, each with its value by F
-abbrev pub Parted : {B : Type 0} → ℕ → (List ℕ → B → Type 0) → List ℕ → List B → Type 0
-Parted c F text [] = ⊥
-Parted c F text (x ∷ []) = F text x
-Parted c F text (x ∷ y ∷ ys) = (part : List ℕ) × (rest : List ℕ) × (text ≡ part ++ (c ∷ rest)) × F part x × Parted c F rest (y ∷ ys)
+abbrev pub PartedAddress : {B : Type 0} → ℕ → (List ℕ → B → Type 0) → List ℕ → List B → Type 0
+PartedAddress c F text [] = ⊥
+PartedAddress c F text (x ∷ []) = F text x
+PartedAddress c F text (x ∷ y ∷ ys) = (part : List ℕ) × (rest : List ℕ) × (text ≡ part ++ (c ∷ rest)) × F part x × PartedAddress c F rest (y ∷ ys)
 
 -- ---- what a text stands for
 
@@ -29,7 +29,7 @@ IsOctet text n = (text ≡ decimal n) × (n < 2 ^ 8)
 
 -- four of them parted by dots
 abbrev pub IsV4Text : List ℕ → List ℕ → Type 0
-IsV4Text text octets = Parted 46 IsOctet text octets × (length octets ≡ 4)
+IsV4Text text octets = PartedAddress 46 IsOctet text octets × (length octets ≡ 4)
 
 -- one to four hex digits
 pub record IsHexGroup (text : List ℕ) (n : ℕ) : Type 0 where
@@ -38,8 +38,8 @@ pub record IsHexGroup (text : List ℕ) (n : ℕ) : Type 0 where
   pub short : length text ≤ 4
 
 -- one group
-abbrev pub IsOneGroup : List ℕ → List ℕ → Type 0
-IsOneGroup text groups = (n : ℕ) × IsHexGroup text n × (groups ≡ n ∷ [])
+abbrev pub IsOneAddressGroup : List ℕ → List ℕ → Type 0
+IsOneAddressGroup text groups = (n : ℕ) × IsHexGroup text n × (groups ≡ n ∷ [])
 
 -- each two octets as a group
 abbrev pub octet_pairs : List ℕ → List ℕ
@@ -51,35 +51,35 @@ abbrev pub IsV4Tail : List ℕ → List ℕ → Type 0
 IsV4Tail text groups = (octets : List ℕ) × IsV4Text text octets × (groups ≡ octet_pairs octets)
 
 -- what ends an address
-abbrev pub IsEnd : List ℕ → List ℕ → Type 0
-IsEnd text groups = IsOneGroup text groups ⊎ IsV4Tail text groups
+abbrev pub IsAddressEnd : List ℕ → List ℕ → Type 0
+IsAddressEnd text groups = IsOneAddressGroup text groups ⊎ IsV4Tail text groups
 
 -- groups parted by colons, the last of them as Last says
-abbrev pub AreGroups : (List ℕ → List ℕ → Type 0) → List ℕ → List ℕ → Type 0
-AreGroups Last text [] = ⊥
-AreGroups Last text (n ∷ groups) =
+abbrev pub AreAddressGroups : (List ℕ → List ℕ → Type 0) → List ℕ → List ℕ → Type 0
+AreAddressGroups Last text [] = ⊥
+AreAddressGroups Last text (n ∷ groups) =
     Last text (n ∷ groups)
-    ⊎ ((group : List ℕ) × (rest : List ℕ) × (text ≡ group ++ (codes ":" ++ rest)) × IsHexGroup group n × AreGroups Last rest groups)
+    ⊎ ((group : List ℕ) × (rest : List ℕ) × (text ≡ group ++ (codes ":" ++ rest)) × IsHexGroup group n × AreAddressGroups Last rest groups)
 
 -- the same, or nothing
-abbrev pub AreAnyGroups : (List ℕ → List ℕ → Type 0) → List ℕ → List ℕ → Type 0
-AreAnyGroups Last text groups = ((text ≡ []) × (groups ≡ [])) ⊎ AreGroups Last text groups
+abbrev pub AreAnyAddressGroups : (List ℕ → List ℕ → Type 0) → List ℕ → List ℕ → Type 0
+AreAnyAddressGroups Last text groups = ((text ≡ []) × (groups ≡ [])) ⊎ AreAddressGroups Last text groups
 
 -- `::` in place of one or more groups, which are zero
-pub record IsShortened (text groups : List ℕ) : Type 0 where
+pub record IsShortenedAddress (text groups : List ℕ) : Type 0 where
   pub front_text : List ℕ
   pub back_text : List ℕ
   pub front : List ℕ
   pub back : List ℕ
   pub zeros : ℕ
   pub joined : text ≡ front_text ++ (codes "::" ++ back_text)
-  pub front_is : AreAnyGroups IsOneGroup front_text front
-  pub back_is : AreAnyGroups IsEnd back_text back
+  pub front_is : AreAnyAddressGroups IsOneAddressGroup front_text front
+  pub back_is : AreAnyAddressGroups IsAddressEnd back_text back
   pub some : 0 < zeros
   pub groups_are : groups ≡ front ++ (replicate zeros 0 ++ back)
 
 abbrev pub IsV6Text : List ℕ → List ℕ → Type 0
-IsV6Text text groups = (AreGroups IsEnd text groups ⊎ IsShortened text groups) × (length groups ≡ 8)
+IsV6Text text groups = (AreAddressGroups IsAddressEnd text groups ⊎ IsShortenedAddress text groups) × (length groups ≡ 8)
 
 -- the text stands for the address
 abbrev pub IsIpText : List ℕ → IpAddr → Type 0
@@ -90,35 +90,35 @@ IsIpText text (V6 groups) = IsV6Text text groups
 
 -- octets in decimal
 abbrev pub v4_text : List ℕ → List ℕ
-v4_text octets = joined_by 46 (map decimal octets)
+v4_text octets = address_joined_by 46 (map decimal octets)
 
 -- groups in lower-case hex without leading zeros
 abbrev pub groups_text : List ℕ → List ℕ
-groups_text groups = joined_by 58 (map hex groups)
+groups_text groups = address_joined_by 58 (map hex groups)
 
 -- how many zero groups stand at the front
-abbrev pub zeros_at_front : List ℕ → ℕ
-zeros_at_front groups = prefix_len (λ n. n == 0) groups
+abbrev pub address_zeros_at_front : List ℕ → ℕ
+address_zeros_at_front groups = prefix_len (λ n. n == 0) groups
 
 -- the length of the longest run of zero groups
-abbrev pub longest_run : List ℕ → ℕ
-longest_run [] = 0
-longest_run (n ∷ groups) = max (zeros_at_front (n ∷ groups)) (longest_run groups)
+abbrev pub address_longest_run : List ℕ → ℕ
+address_longest_run [] = 0
+address_longest_run (n ∷ groups) = max (address_zeros_at_front (n ∷ groups)) (address_longest_run groups)
 
 -- the first place from which so many zero groups stand
-abbrev pub first_run : ℕ → List ℕ → ℕ
-first_run len [] = 0
-first_run len (n ∷ groups) = if zeros_at_front (n ∷ groups) == len then 0 else first_run len groups + 1
+abbrev pub address_first_run : ℕ → List ℕ → ℕ
+address_first_run len [] = 0
+address_first_run len (n ∷ groups) = if address_zeros_at_front (n ∷ groups) == len then 0 else address_first_run len groups + 1
 
 -- `::` in place of len groups from start on
-abbrev pub shortened : ℕ → ℕ → List ℕ → List ℕ
-shortened start len groups = groups_text (take start groups) ++ (codes "::" ++ groups_text (drop (start + len) groups))
+abbrev pub shortened_address : ℕ → ℕ → List ℕ → List ℕ
+shortened_address start len groups = groups_text (take start groups) ++ (codes "::" ++ groups_text (drop (start + len) groups))
 
 -- groups with `::` in place of the longest run of two or more zero groups, and of such runs the first
 unfoldable pub v6_text : List ℕ → List ℕ
 v6_text groups =
-    let len = longest_run groups in
-    if nat_lt 1 len then shortened (first_run len groups) len groups else groups_text groups
+    let len = address_longest_run groups in
+    if nat_lt 1 len then shortened_address (address_first_run len groups) len groups else groups_text groups
 
 -- what is printed of an address
 abbrev pub ip_text : IpAddr → List ℕ
@@ -134,6 +134,6 @@ abbrev pub address_text : SocketAddr → List ℕ
 address_text addr = host_text addr.ip (decimal addr.port)
 
 -- what the types keep: four octets, or eight groups of 16 bits
-abbrev pub IsInRange : IpAddr → Type 0
-IsInRange (V4 octets) = (length octets ≡ 4) × AllByRecursion (λ n. n < 2 ^ 8) octets
-IsInRange (V6 groups) = (length groups ≡ 8) × AllByRecursion (λ n. n < 2 ^ 16) groups
+abbrev pub IsAddressInRange : IpAddr → Type 0
+IsAddressInRange (V4 octets) = (length octets ≡ 4) × AllByRecursion (λ n. n < 2 ^ 8) octets
+IsAddressInRange (V6 groups) = (length groups ≡ 8) × AllByRecursion (λ n. n < 2 ^ 16) groups

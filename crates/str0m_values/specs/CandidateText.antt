@@ -1,16 +1,16 @@
 -- A candidate whose texts lie in the text that was read, and its parts, without where they lie.
 use Rattle.std.specs.Prelude.{option_map}
-use Rattle.str0m_values.specs.CandidateReading.{Lead, Extras, candidate_of}
+use Rattle.str0m_values.specs.CandidateReading.{CandidateLead, CandidateExtras, candidate_of}
 use Rattle.str0m_values.specs.declared.candidate.Candidate.{Candidate}
 use Rattle.str0m_values.specs.declared.candidate_text.Extras.{Extras as FoundExtras}
 use Rattle.str0m_values.specs.declared.candidate_text.Found.{Found}
 use Rattle.str0m_values.specs.declared.candidate_text.Lead.{Lead as FoundLead}
 
-abbrev pub seen_lead : FoundLead → Lead
-seen_lead lead = record { foundation = lead.foundation.now; component_id = lead.component_id; proto = lead.proto; prio = lead.prio }
+abbrev pub seen_candidate_lead : FoundLead → CandidateLead
+seen_candidate_lead lead = record { foundation = lead.foundation.now; component_id = lead.component_id; proto = lead.proto; prio = lead.prio }
 
-abbrev pub seen_extras : FoundExtras → Extras
-seen_extras extras = record { raddr = extras.raddr; tcptype = extras.tcptype; ufrag = option_map (λ t. t.now) extras.ufrag }
+abbrev pub seen_candidate_extras : FoundExtras → CandidateExtras
+seen_candidate_extras extras = record { raddr = extras.raddr; tcptype = extras.tcptype; ufrag = option_map (λ t. t.now) extras.ufrag }
 
 abbrev pub seen_candidate : Found → Candidate
-seen_candidate found = candidate_of (seen_lead found.lead) found.addr found.kind (seen_extras found.extras)
+seen_candidate found = candidate_of (seen_candidate_lead found.lead) found.addr found.kind (seen_candidate_extras found.extras)

@@ -31,16 +31,16 @@ abbrev pub IsNum : ℕ → List ℕ → ℕ → Type 0
 IsNum limit text n = IsNumber 10 limit text n
 
 -- a number, or the default where there is no text
-abbrev pub IsGiven : ℕ → ℕ → Option (List ℕ) → ℕ → Type 0
-IsGiven limit default None n = n ≡ default
-IsGiven limit default (Some text) n = IsNum limit text n
+abbrev pub IsGivenNumber : ℕ → ℕ → Option (List ℕ) → ℕ → Type 0
+IsGivenNumber limit default None n = n ≡ default
+IsGivenNumber limit default (Some text) n = IsNum limit text n
 
 -- a text without where it lies in memory
 abbrev pub lay : Option (Bor (List ℕ)) → Option (List ℕ)
 lay text = option_map (λ t. t.now) text
 
 abbrev pub IsNumOr : ℕ → ℕ → Option (Bor (List ℕ)) → ℕ → Type 0
-IsNumOr limit default text n = IsGiven limit default (lay text) n
+IsNumOr limit default text n = IsGivenNumber limit default (lay text) n
 
 -- a payload type
 abbrev pub IsPt : List ℕ → ℕ → Type 0

@@ -25,11 +25,11 @@ receives RecvOnly = true
 receives Inactive = false
 
 -- the same flow as the other side says it
-abbrev pub inverted : Direction → Direction
-inverted SendRecv = SendRecv
-inverted SendOnly = RecvOnly
-inverted RecvOnly = SendOnly
-inverted Inactive = Inactive
+abbrev pub inverted_direction : Direction → Direction
+inverted_direction SendRecv = SendRecv
+inverted_direction SendOnly = RecvOnly
+inverted_direction RecvOnly = SendOnly
+inverted_direction Inactive = Inactive
 
 -- an answer sends where the offer receives and its own side sends, and there alone; it receives likewise (RFC 3264, section 6.1)
 pub record AnswersDirection (offered own answered : Direction) : Type 0 where

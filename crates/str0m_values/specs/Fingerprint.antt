@@ -32,39 +32,39 @@ pub record IsNamed (text name rest : List ℕ) : Type 0 where
   pub word : Lacks 32 name
 
 -- what stands between the `:`s
-abbrev pub pieces_of : List ℕ → List (List ℕ)
-pieces_of text = slice_split (λ b. b == 58) text
+abbrev pub hash_pieces : List ℕ → List (List ℕ)
+hash_pieces text = slice_split (λ b. b == 58) text
 
 -- the piece is the byte, in hexadecimal as std reads it
 abbrev pub IsHexByte : List ℕ → ℕ → Type 0
 IsHexByte piece byte = IsNumber 16 255 piece byte
 
 -- the two characters are hex digits that write the byte
-abbrev pub IsWrittenBy : ℕ → ℕ → ℕ → Type 0
-IsWrittenBy high low byte = (digit_value high < 16) × (digit_value low < 16) × (byte ≡ digit_value high * 16 + digit_value low)
+abbrev pub IsFingerprintWrittenBy : ℕ → ℕ → ℕ → Type 0
+IsFingerprintWrittenBy high low byte = (digit_value high < 16) × (digit_value low < 16) × (byte ≡ digit_value high * 16 + digit_value low)
 
 -- the text is read as this fingerprint
 abbrev pub IsFingerprint : List ℕ → Fingerprint → Type 0
-IsFingerprint text f = (rest : List ℕ) × IsNamed text f.hash_func rest × AllZip IsHexByte (pieces_of rest) f.bytes
+IsFingerprint text f = (rest : List ℕ) × IsNamed text f.hash_func rest × AllZip IsHexByte (hash_pieces rest) f.bytes
 
 -- some piece of the text is no byte
-abbrev pub HasBadPiece : List ℕ → Type 0
-HasBadPiece text = Any (λ piece. (byte : ℕ) → ¬ (IsHexByte piece byte)) (pieces_of text)
+abbrev pub HasBadHashPiece : List ℕ → Type 0
+HasBadHashPiece text = Any (λ piece. (byte : ℕ) → ¬ (IsHexByte piece byte)) (hash_pieces text)
 
 -- some piece after the first space is no byte
 abbrev pub HasBadByte : List ℕ → Type 0
-HasBadByte text = (name : List ℕ) × (rest : List ℕ) × IsNamed text name rest × HasBadPiece rest
+HasBadByte text = (name : List ℕ) × (rest : List ℕ) × IsNamed text name rest × HasBadHashPiece rest
 
 -- the answer is this fingerprint, memory aside
-abbrev pub Gives : Fingerprint → Result Fingerprint FingerprintError → Type 0
-Gives f (Ok g) = g ≡ f
-Gives f (Err e) = e ≡ Memory
+abbrev pub GivesFingerprint : Fingerprint → Result Fingerprint FingerprintError → Type 0
+GivesFingerprint f (Ok g) = g ≡ f
+GivesFingerprint f (Err e) = e ≡ Memory
 
 -- what the bytes of a text are read as, or why they aren't
 abbrev pub IsBytesReading : List ℕ → Result (List ℕ) FingerprintError → Type 0
-IsBytesReading text (Ok bytes) = AllZip IsHexByte (pieces_of text) bytes
+IsBytesReading text (Ok bytes) = AllZip IsHexByte (hash_pieces text) bytes
 IsBytesReading text (Err NoSpace) = ⊥
-IsBytesReading text (Err BadByte) = HasBadPiece text
+IsBytesReading text (Err BadByte) = HasBadHashPiece text
 IsBytesReading text (Err Memory) = ⊤
 
 -- what a text is read as, or why it isn't; memory is asked for only after a space
@@ -77,7 +77,7 @@ IsFingerprintReading text (Err Memory) = ¬ (Lacks 32 text)
 -- ---- printed and read
 
 -- what is needed for the printed text to read as the fingerprint: a name that holds no space, and a byte
-pub record CanBeReadBack (f : Fingerprint) : Type 0 where
+pub record CanFingerprintBeReadBack (f : Fingerprint) : Type 0 where
   pub word : Lacks 32 f.hash_func
   pub some : 0 < length f.bytes
   pub bytes : All (λ byte. byte < 256) f.bytes
@@ -85,7 +85,7 @@ pub record CanBeReadBack (f : Fingerprint) : Type 0 where
 -- ---- preferred
 
 -- the place of a hash function in the order of preference
-abbrev pub preference_of : List ℕ → ℕ
-preference_of name =
+abbrev pub hash_preference_of : List ℕ → ℕ
+hash_preference_of name =
     if str_eq_ignore_ascii_case name (codes "sha-256") then 0
     else (if str_eq_ignore_ascii_case name (codes "sha-1") then 1 else 2)

@@ -10,11 +10,11 @@ use Rattle.str0m_values.specs.declared.h264.H264ProfileLevel.{H264ProfileLevel}
 -- ---- profiles
 
 -- a profile, the first byte, which bits of the second byte count, and what those are
-abbrev pub Pattern : Type 0
-Pattern = H264Profile × ℕ × ℕ × ℕ
+abbrev pub H264Pattern : Type 0
+H264Pattern = H264Profile × ℕ × ℕ × ℕ
 
-abbrev pub patterns : List Pattern
-patterns =
+abbrev pub h264_patterns : List H264Pattern
+h264_patterns =
     (ConstrainedBaseline, 0x42, 0b0100_1111, 0b0100_0000)
     ∷ (ConstrainedBaseline, 0x4D, 0b1000_1111, 0b1000_0000)
     ∷ (ConstrainedBaseline, 0x58, 0b1100_1111, 0b1100_0000)
@@ -27,12 +27,12 @@ patterns =
     ∷ []
 
 -- the first byte is that of the pattern, and so are those bits of the second that count
-abbrev pub fits : ℕ → ℕ → Pattern → Bool
-fits idc iop pattern = pattern.1 == idc && bit_and iop pattern.2 == pattern.3
+abbrev pub fits_h264_pattern : ℕ → ℕ → H264Pattern → Bool
+fits_h264_pattern idc iop pattern = pattern.1 == idc && bit_and iop pattern.2 == pattern.3
 
 -- the profile of the first pattern that fits
 abbrev pub profile_of : ℕ → ℕ → Option H264Profile
-profile_of idc iop = option_map (λ pattern. pattern.0) (find (fits idc iop) patterns)
+profile_of idc iop = option_map (λ pattern. pattern.0) (find (fits_h264_pattern idc iop) h264_patterns)
 
 -- ---- levels
 
@@ -63,13 +63,13 @@ abbrev pub level_ordinal : H264Level → ℕ
 level_ordinal level = (h264_level_entry level).1
 
 -- 11 names 1b in place of 1.1 where this bit of the second byte is set in these profiles
-abbrev pub marks_1b : ℕ → ℕ → Bool
-marks_1b idc iop = (idc == 0x42 || idc == 0x4D || idc == 0x58) && bit_and iop 0x10 == 0x10
+abbrev pub marks_h264_level_1b : ℕ → ℕ → Bool
+marks_h264_level_1b idc iop = (idc == 0x42 || idc == 0x4D || idc == 0x58) && bit_and iop 0x10 == 0x10
 
 -- the three bytes name the level
 abbrev pub is_level : ℕ → ℕ → ℕ → H264Level → Bool
-is_level idc iop third level.L1B = third == 11 && marks_1b idc iop
-is_level idc iop third level.L1_1 = third == 11 && not (marks_1b idc iop)
+is_level idc iop third level.L1B = third == 11 && marks_h264_level_1b idc iop
+is_level idc iop third level.L1_1 = third == 11 && not (marks_h264_level_1b idc iop)
 is_level idc iop third level = third == level_idc level
 
 abbrev pub levels : List H264Level
@@ -101,10 +101,10 @@ named (Some id) = profile_level_of id
 -- ---- the lower of two levels (RFC 6184, section 8.2.2)
 
 -- of two profile-level-ids with what they name: the other one where both name a level and its level is lower, else the own one
-abbrev pub lower_of : Option ℕ → Option ℕ → Option H264ProfileLevel → Option H264ProfileLevel → Option ℕ
-lower_of own other (Some ours) (Some theirs) =
+abbrev pub lower_level_of : Option ℕ → Option ℕ → Option H264ProfileLevel → Option H264ProfileLevel → Option ℕ
+lower_level_of own other (Some ours) (Some theirs) =
     if nat_lt (level_ordinal theirs.level) (level_ordinal ours.level) then other else own
-lower_of own other _ _ = own
+lower_level_of own other _ _ = own
 
 abbrev pub lower_level : Option ℕ → Option ℕ → Option ℕ
-lower_level own other = lower_of own other (named own) (named other)
+lower_level own other = lower_level_of own other (named own) (named other)

@@ -1,6 +1,6 @@
 -- Profiles, tiers and levels of H265 (RFC 7798, section 7.1), in one table each.
 use Rattle.std.specs.Prelude.{ℕ}
-use Rattle.str0m_values.specs.ProfileTierLevel.{Tables}
+use Rattle.str0m_values.specs.ProfileTierLevel.{ProfileTables}
 use Rattle.str0m_values.specs.declared.h265.H265Level.{H265Level}
 use Rattle.str0m_values.specs.declared.h265.H265Level.TheVariants as level
 use Rattle.str0m_values.specs.declared.h265.H265Profile.{H265Profile}
@@ -55,8 +55,8 @@ abbrev pub level_ordinal : H265Level → ℕ
 level_ordinal level = (h265_level_entry level).1
 
 -- the numbers that an absent part stands for, and those of the fallback
-abbrev pub defaults : ℕ × ℕ × ℕ
-defaults = (1, 0, 93)
+abbrev pub h265_defaults : ℕ × ℕ × ℕ
+h265_defaults = (1, 0, 93)
 
-abbrev pub h265_tables : Tables H265Profile H265Tier H265Level
-h265_tables = record { profile_id = profile_id; tier_flag = tier_flag; level_id = level_id; profiles = H265_PROFILES; tiers = H265_TIERS; levels = H265_LEVELS; defaults = defaults }
+abbrev pub h265_tables : ProfileTables H265Profile H265Tier H265Level
+h265_tables = record { profile_id = profile_id; tier_flag = tier_flag; level_id = level_id; profiles = H265_PROFILES; tiers = H265_TIERS; levels = H265_LEVELS; defaults = h265_defaults }

@@ -1,6 +1,6 @@
 -- Profiles, tiers and levels of H266 (RFC 9328, section 7.2), in one table each.
 use Rattle.std.specs.Prelude.{ℕ}
-use Rattle.str0m_values.specs.ProfileTierLevel.{Tables}
+use Rattle.str0m_values.specs.ProfileTierLevel.{ProfileTables}
 use Rattle.str0m_values.specs.declared.h266.H266Level.{H266Level}
 use Rattle.str0m_values.specs.declared.h266.H266Level.TheVariants as level
 use Rattle.str0m_values.specs.declared.h266.H266Profile.{H266Profile}
@@ -51,8 +51,8 @@ abbrev pub level_ordinal : H266Level → ℕ
 level_ordinal level = (h266_level_entry level).1
 
 -- the numbers that an absent part stands for, and those of the fallback
-abbrev pub defaults : ℕ × ℕ × ℕ
-defaults = (1, 0, 51)
+abbrev pub h266_defaults : ℕ × ℕ × ℕ
+h266_defaults = (1, 0, 51)
 
-abbrev pub h266_tables : Tables H266Profile H266Tier H266Level
-h266_tables = record { profile_id = profile_id; tier_flag = tier_flag; level_id = level_id; profiles = H266_PROFILES; tiers = H266_TIERS; levels = H266_LEVELS; defaults = defaults }
+abbrev pub h266_tables : ProfileTables H266Profile H266Tier H266Level
+h266_tables = record { profile_id = profile_id; tier_flag = tier_flag; level_id = level_id; profiles = H266_PROFILES; tiers = H266_TIERS; levels = H266_LEVELS; defaults = h266_defaults }

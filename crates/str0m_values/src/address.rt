@@ -16,7 +16,7 @@ pub enum IpAddr {
 }
 
 impl IpAddr {
-    ghost use Rattle.str0m_values.specs.Address.{IsIpText, IsInRange, ip_text};
+    ghost use Rattle.str0m_values.specs.Address.{IsIpText, IsAddressInRange, ip_text};
     ghost use Rattle.str0m_values.specs.AddressReading.{ip_read};
 
     /// The address that a text stands for, as the readers of lines compute it.
@@ -37,7 +37,7 @@ impl IpAddr {
     /// (RFC 4291, section 2.2).
     pub fn from_text(text: &str) -> Option<IpAddr>
         ensures read { IsTheOnly (IsIpText text.now) result }
-        ensures printed { (a : IpAddr) → IsInRange a → text.now ≡ ip_text a → result ≡ Some a }
+        ensures printed { (a : IpAddr) → IsAddressInRange a → text.now ≡ ip_text a → result ≡ Some a }
     {
         IpAddr::parsed(text)
     }

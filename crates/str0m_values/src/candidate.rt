@@ -156,10 +156,11 @@ impl fmt::Display for Candidate {
     ghost output = { λ c. Some (candidate_text c) };
 
     fn fmt<W: fmt::Write>(&self, f: &mut fmt::Formatter<W>) -> fmt::Result {
-        CandidateParts(self).fmt(f)?;
-        Related(self.raddr).fmt(f)?;
-        OpenedBy(self.tcptype).fmt(f)?;
-        Fragment(&self.ufrag).fmt(f)
+        let parts = CandidateParts(self);
+        let related = Related(self.raddr);
+        let opened_by = OpenedBy(self.tcptype);
+        let fragment = Fragment(&self.ufrag);
+        write!(f, "{parts}{related}{opened_by}{fragment}")
     }
 }
 
@@ -173,15 +174,15 @@ impl fmt::Display for Related {
     ghost output = { λ it. Some (related_text it.0) };
 
     fn fmt<W: fmt::Write>(&self, f: &mut fmt::Formatter<W>) -> fmt::Result {
-        let Some(addr) = self.0 else {
+        let Some(SocketAddr { ip, port }) = self.0 else {
             return Ok(());
         };
-        LabelledSocket {
-            ip_label: candidate_label::RELATED_ADDRESS,
-            port_label: candidate_label::RELATED_PORT,
-            addr,
-        }
-        .fmt(f)
+        write!(
+            f,
+            "{}{ip}{}{port}",
+            candidate_label::RELATED_ADDRESS,
+            candidate_label::RELATED_PORT
+        )
     }
 }
 
@@ -237,83 +238,20 @@ impl<'a> fmt::Display for CandidateParts<'a> {
         ++ (codes " " ++ (decimal parts.0.now.prio ++ (socket_text (codes " ") (codes " ") parts.0.now.addr ++ (candidate_label.TYPE.now ++ kind_text parts.0.now.kind)))))))))) };
 
     fn fmt<W: fmt::Write>(&self, f: &mut fmt::Formatter<W>) -> fmt::Result {
-        let candidate = self.0;
-        CandidateName(candidate).fmt(f)?;
-        let (proto, prio) = (candidate.proto, candidate.prio);
-        Transport { proto, prio }.fmt(f)?;
-        let (ip_label, port_label) = (" ", " ");
-        let addr = candidate.addr;
-        LabelledSocket {
-            ip_label,
-            port_label,
-            addr,
-        }
-        .fmt(f)?;
-        f.write_str(candidate_label::TYPE)?;
-        candidate.kind.fmt(f)
-    }
-}
-
-/// The foundation and the component of a candidate, after its label.
-#[derive(Drop)]
-struct CandidateName<'a>(&'a Candidate);
-
-impl<'a> fmt::Display for CandidateName<'a> {
-    ghost use Rattle.std.specs.Fmt.{decimal};
-    ghost use Rattle.std.specs.Prelude.{codes, ◌++◌};
-
-    ghost output = { λ name. Some (candidate_label.CANDIDATE.now ++ (name.0.now.foundation ++ (codes " " ++ decimal name.0.now.component_id))) };
-
-    fn fmt<W: fmt::Write>(&self, f: &mut fmt::Formatter<W>) -> fmt::Result {
-        let candidate = self.0;
-        f.write_str(candidate_label::CANDIDATE)?;
-        f.write_str(candidate.foundation.as_str())?;
-        f.write_str(" ")?;
-        f.write(candidate.component_id)
-    }
-}
-
-/// A transport and a priority, each after a space.
-#[derive(Drop)]
-struct Transport {
-    proto: Protocol,
-    prio: u32,
-}
-
-impl fmt::Display for Transport {
-    ghost use Rattle.std.specs.Fmt.{decimal};
-    ghost use Rattle.std.specs.Prelude.{codes, ◌++◌};
-    ghost use Rattle.str0m_values.specs.Protocol.{protocol_text};
-
-    ghost output = { λ it. Some (codes " " ++ (protocol_text it.proto ++ (codes " " ++ decimal it.prio))) };
-
-    fn fmt<W: fmt::Write>(&self, f: &mut fmt::Formatter<W>) -> fmt::Result {
-        let Transport { proto, prio } = self;
-        f.write_str(" ")?;
-        proto.fmt(f)?;
-        f.write_str(" ")?;
-        f.write(*prio)
-    }
-}
-
-/// An address and a port, each after its label.
-#[derive(Drop)]
-struct LabelledSocket {
-    ip_label: &'static str,
-    port_label: &'static str,
-    addr: SocketAddr,
-}
-
-impl fmt::Display for LabelledSocket {
-    ghost use Rattle.str0m_values.specs.Candidate.{socket_text};
-
-    ghost output = { λ socket. Some (socket_text socket.ip_label.now socket.port_label.now socket.addr) };
-
-    fn fmt<W: fmt::Write>(&self, f: &mut fmt::Formatter<W>) -> fmt::Result {
-        let SocketAddr { ip, port } = self.addr;
-        f.write_str(self.ip_label)?;
-        ip.fmt(f)?;
-        f.write_str(self.port_label)?;
-        f.write(port)
+        let Candidate {
+            foundation,
+            component_id,
+            proto,
+            prio,
+            addr: SocketAddr { ip, port },
+            kind,
+            ..
+        } = self.0;
+        write!(
+            f,
+            "{}{foundation} {component_id} {proto} {prio} {ip} {port}{}{kind}",
+            candidate_label::CANDIDATE,
+            candidate_label::TYPE
+        )
     }
 }

@@ -1,10 +1,10 @@
 //! The text of a candidate, for the readers of lines.
 ghost use Rattle.std.specs.Prelude.{◌≡◌, IfOk, Some, option_map, codes};
 ghost use Rattle.str0m_values.specs.Candidate.{IsCandidateText, IsPrintable, candidate_text};
-ghost use Rattle.str0m_values.specs.CandidateReading.{protocol_read, candidate_kind_read, socket_read, related_read, tcp_part_read, ice_names_read, lead_read, last_read, extras_read, candidate_read};
-ghost use Rattle.str0m_values.specs.CandidateText.{seen_lead, seen_extras, seen_candidate};
+ghost use Rattle.str0m_values.specs.CandidateReading.{candidate_protocol_read, candidate_kind_read, candidate_socket_read, candidate_related_read, tcp_part_read, ice_names_read, candidate_lead_read, candidate_last_read, candidate_extras_read, candidate_read};
+ghost use Rattle.str0m_values.specs.CandidateText.{seen_candidate_lead, seen_candidate_extras, seen_candidate};
 ghost use Rattle.str0m_values.specs.Cuts.{IsTheOnly, num};
-ghost use Rattle.str0m_values.specs.LabelReading.{part_read};
+ghost use Rattle.str0m_values.specs.LabelReading.{labelled_part_read};
 ghost use Rattle.str0m_values.specs.declared.candidate.Candidate.{Candidate};
 ghost use Rattle.str0m_values.specs.declared.candidate_label.TheConstants as candidate_label;
 
@@ -13,7 +13,7 @@ use crate::candidate::Candidate;
 use crate::candidate_kind::CandidateKind;
 use crate::candidate_label;
 use crate::cuts::{num_u16, num_u32, strip};
-use crate::labels::{labelled, optional};
+use crate::labels::{labelled, optional_labelled};
 use crate::protocol::{Protocol, TcpType};
 use crate::text::Text;
 use std::alloc::{AllocError, Global};
@@ -45,29 +45,33 @@ struct Found<'a> {
 }
 
 fn component(text: &str) -> Option<(u16, &str)>
-    ensures { option_map (λ x. (x.0, x.1.now)) result ≡ part_read (codes " ") (num 65535) text.now }
+    ensures { option_map (λ x. (x.0, x.1.now)) result ≡ labelled_part_read (codes " ") (num 65535) text.now }
 {
     let (word, rest) = labelled(text, " ")?;
     Some((num_u16(word)?, rest))
 }
 
-fn protocol(text: &str) -> Option<(Protocol, &str)>
-    ensures { option_map (λ x. (x.0, x.1.now)) result ≡ part_read (codes " ") protocol_read text.now }
+fn candidate_protocol(text: &str) -> Option<(Protocol, &str)>
+    ensures { option_map (λ x. (x.0, x.1.now)) result ≡ labelled_part_read (codes " ") candidate_protocol_read text.now }
 {
     let (word, rest) = labelled(text, " ")?;
     Some((Protocol::from_word(word)?, rest))
 }
 
 fn priority(text: &str) -> Option<(u32, &str)>
-    ensures { option_map (λ x. (x.0, x.1.now)) result ≡ part_read (codes " ") (num 4294967295) text.now }
+    ensures { option_map (λ x. (x.0, x.1.now)) result ≡ labelled_part_read (codes " ") (num 4294967295) text.now }
 {
     let (word, rest) = labelled(text, " ")?;
     Some((num_u32(word)?, rest))
 }
 
 /// An address and a port, each after its label.
-fn socket<'a>(text: &'a str, ip_label: &str, port_label: &str) -> Option<(SocketAddr, &'a str)>
-    ensures { option_map (λ x. (x.0, x.1.now)) result ≡ socket_read ip_label.now port_label.now text.now }
+fn read_candidate_socket<'a>(
+    text: &'a str,
+    ip_label: &str,
+    port_label: &str,
+) -> Option<(SocketAddr, &'a str)>
+    ensures { option_map (λ x. (x.0, x.1.now)) result ≡ candidate_socket_read ip_label.now port_label.now text.now }
 {
     let (word, rest) = labelled(text, ip_label)?;
     let ip = IpAddr::parsed(word)?;
@@ -77,17 +81,17 @@ fn socket<'a>(text: &'a str, ip_label: &str, port_label: &str) -> Option<(Socket
 }
 
 fn kind(text: &str) -> Option<(CandidateKind, &str)>
-    ensures { option_map (λ x. (x.0, x.1.now)) result ≡ part_read candidate_label.TYPE.now candidate_kind_read text.now }
+    ensures { option_map (λ x. (x.0, x.1.now)) result ≡ labelled_part_read candidate_label.TYPE.now candidate_kind_read text.now }
 {
     let (word, rest) = labelled(text, candidate_label::TYPE)?;
     Some((CandidateKind::from_word(word)?, rest))
 }
 
-fn related(text: &str) -> Option<(Option<SocketAddr>, &str)>
-    ensures { option_map (λ x. (x.0, x.1.now)) result ≡ related_read text.now }
+fn related_address(text: &str) -> Option<(Option<SocketAddr>, &str)>
+    ensures { option_map (λ x. (x.0, x.1.now)) result ≡ candidate_related_read text.now }
 {
     if strip(text, candidate_label::RELATED_ADDRESS).is_some() {
-        let (addr, rest) = socket(
+        let (addr, rest) = read_candidate_socket(
             text,
             candidate_label::RELATED_ADDRESS,
             candidate_label::RELATED_PORT,
@@ -101,7 +105,7 @@ fn related(text: &str) -> Option<(Option<SocketAddr>, &str)>
 fn tcp_type(text: &str) -> Option<(Option<TcpType>, &str)>
     ensures { option_map (λ x. (x.0, x.1.now)) result ≡ tcp_part_read text.now }
 {
-    let (word, rest) = optional(text, candidate_label::TCP_TYPE)?;
+    let (word, rest) = optional_labelled(text, candidate_label::TCP_TYPE)?;
     match word {
         None => Some((None, rest)),
         Some(word) => Some((Some(TcpType::from_word(word)?), rest)),
@@ -112,21 +116,21 @@ fn tcp_type(text: &str) -> Option<(Option<TcpType>, &str)>
 fn names(text: &str) -> Option<(Option<&str>, &str)>
     ensures { option_map (λ x. (option_map (λ w. w.now) x.0, x.1.now)) result ≡ ice_names_read text.now }
 {
-    let (network, rest) = optional(text, candidate_label::NETWORK_ID)?;
-    let (ufrag, rest) = optional(rest, candidate_label::UFRAG)?;
+    let (network, rest) = optional_labelled(text, candidate_label::NETWORK_ID)?;
+    let (ufrag, rest) = optional_labelled(rest, candidate_label::UFRAG)?;
     if network.is_some() || ufrag.is_none() {
         return Some((ufrag, rest));
     }
-    let (_, rest) = optional(rest, candidate_label::NETWORK_ID)?;
+    let (_, rest) = optional_labelled(rest, candidate_label::NETWORK_ID)?;
     Some((ufrag, rest))
 }
 
 fn before_address(text: &str) -> Option<(Lead<'_>, &str)>
-    ensures { option_map (λ x. (seen_lead x.0, x.1.now)) result ≡ lead_read text.now }
+    ensures { option_map (λ x. (seen_candidate_lead x.0, x.1.now)) result ≡ candidate_lead_read text.now }
 {
     let (foundation, rest) = labelled(text, candidate_label::CANDIDATE)?;
     let (component_id, rest) = component(rest)?;
-    let (proto, rest) = protocol(rest)?;
+    let (proto, rest) = candidate_protocol(rest)?;
     let (prio, rest) = priority(rest)?;
     Some((
         Lead {
@@ -140,12 +144,12 @@ fn before_address(text: &str) -> Option<(Lead<'_>, &str)>
 }
 
 /// The username fragment of the last parts, where nothing stands after them.
-fn last(text: &str) -> Option<Option<&str>>
-    ensures { option_map (λ x. option_map (λ w. w.now) x) result ≡ last_read text.now }
+fn last_ufrag(text: &str) -> Option<Option<&str>>
+    ensures { option_map (λ x. option_map (λ w. w.now) x) result ≡ candidate_last_read text.now }
 {
-    let (_, rest) = optional(text, candidate_label::GENERATION)?;
+    let (_, rest) = optional_labelled(text, candidate_label::GENERATION)?;
     let (ufrag, rest) = names(rest)?;
-    let (_, rest) = optional(rest, candidate_label::NETWORK_COST)?;
+    let (_, rest) = optional_labelled(rest, candidate_label::NETWORK_COST)?;
     if !rest.is_empty() {
         return None;
     }
@@ -153,11 +157,11 @@ fn last(text: &str) -> Option<Option<&str>>
 }
 
 fn behind_kind(text: &str) -> Option<Extras<'_>>
-    ensures { option_map seen_extras result ≡ extras_read text.now }
+    ensures { option_map seen_candidate_extras result ≡ candidate_extras_read text.now }
 {
-    let (raddr, rest) = related(text)?;
+    let (raddr, rest) = related_address(text)?;
     let (tcptype, rest) = tcp_type(rest)?;
-    let ufrag = last(rest)?;
+    let ufrag = last_ufrag(rest)?;
     Some(Extras {
         raddr,
         tcptype,
@@ -166,11 +170,11 @@ fn behind_kind(text: &str) -> Option<Extras<'_>>
 }
 
 /// The candidate of a text, without a copy of its texts.
-fn find(text: &str) -> Option<Found<'_>>
+fn find_candidate(text: &str) -> Option<Found<'_>>
     ensures { option_map seen_candidate result ≡ candidate_read text.now }
 {
     let (lead, rest) = before_address(text)?;
-    let (addr, rest) = socket(rest, " ", " ")?;
+    let (addr, rest) = read_candidate_socket(rest, " ", " ")?;
     let (kind, rest) = kind(rest)?;
     let extras = behind_kind(rest)?;
     Some(Found {
@@ -182,10 +186,10 @@ fn find(text: &str) -> Option<Found<'_>>
 }
 
 /// The candidate of a text, with copies of the texts that it keeps.
-fn keep(alloc: Global, text: &str) -> Result<Option<Candidate>, AllocError>
+fn keep_candidate(alloc: Global, text: &str) -> Result<Option<Candidate>, AllocError>
     ensures { IfOk result (λ found. found ≡ candidate_read text.now) }
 {
-    let Some(found) = find(text) else {
+    let Some(found) = find_candidate(text) else {
         return Ok(None);
     };
     let (lead, extras) = (found.lead, found.extras);
@@ -220,5 +224,5 @@ pub fn candidate(alloc: Global, text: &str) -> Result<Option<Candidate>, AllocEr
     // As the readers of lines compute it.
     ensures computed { IfOk result (λ found. found ≡ candidate_read text.now) }
 {
-    keep(alloc, text)
+    keep_candidate(alloc, text)
 }

@@ -10,11 +10,11 @@ use crate::separator::Separator;
 
 /// How many bytes at the front of a text are gone over one by one: most fields end there, and calling a search of std
 /// takes longer than to go over these.
-const NEAR: usize = 20;
+const NEAR_CUT: usize = 20;
 
 /// Where the byte first stands among the first `limit` bytes.
 #[inline(always)]
-fn near(bytes: &[u8], wanted: u8, limit: usize) -> Option<usize>
+fn near_cut(bytes: &[u8], wanted: u8, limit: usize) -> Option<usize>
     ensures { MatchOption result (length bytes.now ≤ limit → LacksAt wanted bytes.now (length bytes.now)) (IsFirstAt wanted bytes.now) }
 {
     for i in 0..bytes.len().min(limit) {
@@ -31,9 +31,9 @@ pub fn cut(text: &str, at: Separator) -> Option<(&str, &str)>
     ensures { parts result ≡ cut (code at) text.now }
 {
     let wanted = at.character();
-    match near(text.as_bytes(), wanted as u8, NEAR) {
+    match near_cut(text.as_bytes(), wanted as u8, NEAR_CUT) {
         Some(place) => Some((&text[..place], &text[place + 1..])),
-        None => if text.len() <= NEAR {
+        None => if text.len() <= NEAR_CUT {
             None
         } else {
             text.split_once(wanted)

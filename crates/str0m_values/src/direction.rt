@@ -1,6 +1,6 @@
 //! The ways in which media flow.
 ghost use Rattle.std.specs.Prelude.{◌≡◌, Some};
-ghost use Rattle.str0m_values.specs.Direction.{AnswersDirection, direction_text, inverted, receives, sends};
+ghost use Rattle.str0m_values.specs.Direction.{AnswersDirection, direction_text, inverted_direction, receives, sends};
 
 use crate::direction_label;
 use crate::words::Worded;
@@ -57,7 +57,7 @@ impl Direction {
     /// The same flow as the other side says it: `sendonly` for `recvonly` and the other way round; the
     /// other two directions stay (RFC 3264, section 6.1).
     pub fn invert(self) -> Direction
-        ensures inverse { result ≡ inverted self }
+        ensures inverse { result ≡ inverted_direction self }
 
         // One side receives what the other one sends.
         ensures sending { sends result ≡ receives self }

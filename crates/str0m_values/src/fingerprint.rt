@@ -3,7 +3,7 @@ ghost use Rattle.std.specs.Fmt.{digit_glyph};
 ghost use Rattle.std.specs.List.{AllZip};
 ghost use Rattle.std.specs.Prelude.{◌≡◌, ◌<◌, ◌∷◌, ◌↔◌, IfOk, IfSome, IsErr, IsErrOf, IsTrue, Some, true, flat_map};
 ghost use Rattle.str0m_values.specs.CutsParts.{Lacks};
-ghost use Rattle.str0m_values.specs.Fingerprint.{IsFingerprint, IsHexByte, IsWrittenBy, HasBadByte, IsBytesReading, IsFingerprintReading, Gives, CanBeReadBack, fingerprint_text, hex_pair, pairs_text, pieces_of, preference_of};
+ghost use Rattle.str0m_values.specs.Fingerprint.{IsFingerprint, IsHexByte, IsFingerprintWrittenBy, HasBadByte, IsBytesReading, IsFingerprintReading, GivesFingerprint, CanFingerprintBeReadBack, fingerprint_text, hex_pair, pairs_text, hash_pieces, hash_preference_of};
 ghost use Rattle.str0m_values.specs.declared.fingerprint.Fingerprint.{Fingerprint};
 ghost use Rattle.str0m_values.specs.declared.fingerprint.FingerprintError.TheVariants.{NoSpace, BadByte, Memory};
 
@@ -64,19 +64,19 @@ impl Fingerprint {
     /// there is no room for the name or the bytes.
     pub fn from_str(alloc: Global, text: &str) -> Result<Fingerprint, FingerprintError>
         ensures reads { IfOk result (IsFingerprint text.now) }
-        ensures only { (f : Fingerprint) → IsFingerprint text.now f → Gives f result }
+        ensures only { (f : Fingerprint) → IsFingerprint text.now f → GivesFingerprint f result }
         ensures no_space { IsErrOf result NoSpace ↔ Lacks 32 text.now }
         ensures bad_byte { IsErrOf result BadByte → HasBadByte text.now }
         ensures refuses { HasBadByte text.now → IsErr result }
 
         // What is printed reads as itself.
-        ensures itself { (f : Fingerprint) → CanBeReadBack f → text.now ≡ fingerprint_text f → Gives f result }
+        ensures itself { (f : Fingerprint) → CanFingerprintBeReadBack f → text.now ≡ fingerprint_text f → GivesFingerprint f result }
 
         // Equal fingerprints hash alike.
         ensures alike { (f g : Fingerprint) → IsTrue (⟦<Fingerprint as PartialEq>⟧.eq f g) →
             ⟦<Fingerprint as Hash>⟧.hash_input f ≡ ⟦<Fingerprint as Hash>⟧.hash_input g }
     {
-        read(alloc, text)
+        read_fingerprint(alloc, text)
     }
 
     /// A copy that equals its source. The only error is that memory was refused.
@@ -89,7 +89,7 @@ impl Fingerprint {
     /// Where the hash stands in the order of preference: 0 for `sha-256`, 1 for `sha-1`, without
     /// regard to ASCII case, and 2 for all others. A least one is preferred (RFC 8122, section 5.1).
     pub fn hash_preference(&self) -> u8
-        ensures { result ≡ preference_of self.now.hash_func }
+        ensures { result ≡ hash_preference_of self.now.hash_func }
     {
         let name = self.hash_func.as_str();
         if is_same_text(name, "sha-256") {
@@ -102,7 +102,7 @@ impl Fingerprint {
     }
 }
 
-fn read(alloc: Global, text: &str) -> Result<Fingerprint, FingerprintError>
+fn read_fingerprint(alloc: Global, text: &str) -> Result<Fingerprint, FingerprintError>
     ensures { IsFingerprintReading text.now result }
 {
     let Some((name, rest)) = cut(text, Separator::Space) else {
@@ -116,16 +116,16 @@ fn read(alloc: Global, text: &str) -> Result<Fingerprint, FingerprintError>
 fn read_bytes(alloc: Global, text: &str) -> Result<Items<u8>, FingerprintError>
     ensures { IsBytesReading text.now result }
 {
-    match read_pairs(alloc, text.as_bytes())? {
+    match read_hash_pairs(alloc, text.as_bytes())? {
         Some(bytes) => Ok(bytes),
-        None => read_pieces(alloc, text),
+        None => read_hash_pieces(alloc, text),
     }
 }
 
 /// The byte that two hex digits write.
 #[inline(always)]
 fn pair_byte(high: u8, low: u8) -> Option<u8>
-    ensures { IfSome result (IsWrittenBy high low) }
+    ensures { IfSome result (IsFingerprintWrittenBy high low) }
 {
     let high = (high as char).to_digit(16)?;
     let low = (low as char).to_digit(16)?;
@@ -134,8 +134,8 @@ fn pair_byte(high: u8, low: u8) -> Option<u8>
 
 /// The bytes of a text that is two hex digits for each, as nearly all are: these are read in place. `None` where it is
 /// another text, which may hold bytes nevertheless.
-fn read_pairs(alloc: Global, text: &[u8]) -> Result<Option<Items<u8>>, AllocError>
-    ensures { IfOk result (λ found. IfSome found (AllZip IsHexByte (pieces_of text.now))) }
+fn read_hash_pairs(alloc: Global, text: &[u8]) -> Result<Option<Items<u8>>, AllocError>
+    ensures { IfOk result (λ found. IfSome found (AllZip IsHexByte (hash_pieces text.now))) }
 {
     if text.len() % 3 != 2 {
         return Ok(None);
@@ -159,7 +159,7 @@ fn read_pairs(alloc: Global, text: &[u8]) -> Result<Option<Items<u8>>, AllocErro
 }
 
 /// The bytes of the pieces, each as std reads it.
-fn read_pieces(alloc: Global, text: &str) -> Result<Items<u8>, FingerprintError>
+fn read_hash_pieces(alloc: Global, text: &str) -> Result<Items<u8>, FingerprintError>
     ensures { IsBytesReading text.now result }
 {
     let mut bytes = Items::empty(alloc);

@@ -3,7 +3,7 @@ ghost use Rattle.std.specs.List.{range_with_len};
 ghost use Rattle.std.specs.Ordering.{nat_cmp};
 ghost use Rattle.std.specs.Prelude.{◌≡◌, ◌≤◌, ℕ, count_by, map};
 ghost use Rattle.std.specs.Result.{result_ok};
-ghost use Rattle.str0m_values.specs.H264.{fits, level_of, level_ordinal, levels, lower_level, marks_1b, named, patterns, profile_level_of, profile_level_of_bytes, profile_of};
+ghost use Rattle.str0m_values.specs.H264.{fits_h264_pattern, level_of, level_ordinal, levels, lower_level, marks_h264_level_1b, named, h264_patterns, profile_level_of, profile_level_of_bytes, profile_of};
 
 use self::H264Profile::{
     Baseline, ConstrainedBaseline, ConstrainedHigh, High, Main, PredictiveHigh444,
@@ -131,7 +131,7 @@ fn profile_level_of_bytes(idc: u8, iop: u8, level_idc: u8) -> Option<H264Profile
 }
 
 /// A profile, the first byte, which bits of the second byte count, and what those are.
-const PATTERNS: [(H264Profile, u8, u8, u8); 9] = [
+const H264_PATTERNS: [(H264Profile, u8, u8, u8); 9] = [
     (ConstrainedBaseline, 0x42, 0b0100_1111, 0b0100_0000),
     (ConstrainedBaseline, 0x4d, 0b1000_1111, 0b1000_0000),
     (ConstrainedBaseline, 0x58, 0b1100_1111, 0b1100_0000),
@@ -147,9 +147,9 @@ fn profile_of(idc: u8, iop: u8) -> Option<H264Profile>
     ensures first { result ≡ profile_of idc iop }
 
     // No two bytes fit two patterns.
-    ensures one { (idc iop : ℕ) → count_by (fits idc iop) patterns ≤ 1 }
+    ensures one { (idc iop : ℕ) → count_by (fits_h264_pattern idc iop) h264_patterns ≤ 1 }
 {
-    PATTERNS
+    H264_PATTERNS
         .iter()
         .find(|(_, first, mask, bits)| *first == idc && iop & *mask == *bits)
         .map(|(profile, _, _, _)| *profile)
@@ -160,7 +160,7 @@ fn level_of(idc: u8, iop: u8, level_idc: u8) -> Option<H264Level>
 {
     match level_idc {
         10 => Some(H264Level::L1),
-        11 if is_1b(idc, iop) => Some(H264Level::L1B),
+        11 if is_h264_level_1b(idc, iop) => Some(H264Level::L1B),
         11 => Some(H264Level::L1_1),
         12 => Some(H264Level::L1_2),
         13 => Some(H264Level::L1_3),
@@ -181,8 +181,8 @@ fn level_of(idc: u8, iop: u8, level_idc: u8) -> Option<H264Level>
 }
 
 /// Whether 11 names level 1b, in place of 1.1.
-fn is_1b(idc: u8, iop: u8) -> bool
-    ensures { result ≡ marks_1b idc iop }
+fn is_h264_level_1b(idc: u8, iop: u8) -> bool
+    ensures { result ≡ marks_h264_level_1b idc iop }
 {
     (idc == 0x42 || idc == 0x4d || idc == 0x58) && iop & 0x10 == 0x10
 }

@@ -2,10 +2,10 @@
 ghost use Rattle.std.specs.Ordering.{nat_cmp};
 ghost use Rattle.std.specs.Prelude.{◌≡◌, None, Some, nat_lt};
 ghost use Rattle.str0m_values.specs.Cuts.{IsTheOnly};
-ghost use Rattle.str0m_values.specs.H265.{profile_id, tier_flag, level_id, level_ordinal, defaults};
+ghost use Rattle.str0m_values.specs.H265.{profile_id, tier_flag, level_id, level_ordinal, h265_defaults};
 ghost use Rattle.str0m_values.specs.ProfileTierLevel.{HasNumbers, HasNumbersOfTexts};
 
-use crate::profile_tier_level::{Leveled, Numbered, ProfileTierLevel, value_in};
+use crate::profile_tier_level::{Leveled, Numbered, ProfileTierLevel, profile_table_value};
 
 /// A profile of H265: which of its tools a stream may use (RFC 7798, section 7.1).
 #[derive(Clone, Copy, Debug, PartialEq, Eq, Hash)]
@@ -83,7 +83,7 @@ impl Numbered for H265Profile {
     }
 
     fn of_number(number: u8) -> Option<H265Profile> {
-        value_in(&H265_PROFILES, number)
+        profile_table_value(&H265_PROFILES, number)
     }
 }
 
@@ -107,7 +107,7 @@ impl Numbered for H265Tier {
     }
 
     fn of_number(number: u8) -> Option<H265Tier> {
-        value_in(&H265_TIERS, number)
+        profile_table_value(&H265_TIERS, number)
     }
 }
 
@@ -158,7 +158,7 @@ impl Numbered for H265Level {
     }
 
     fn of_number(number: u8) -> Option<H265Level> {
-        value_in(&H265_LEVELS, number)
+        profile_table_value(&H265_LEVELS, number)
     }
 }
 
@@ -188,8 +188,8 @@ impl H265ProfileTierLevel {
         tier: Option<&str>,
         level: Option<&str>,
     ) -> Option<H265ProfileTierLevel>
-        ensures triple { IsTheOnly (HasNumbersOfTexts profile_id tier_flag level_id defaults profile.entry tier.entry level.entry) result }
-        ensures fallback { HasNumbers profile_id tier_flag level_id defaults.0 defaults.1 defaults.2 H265_FALLBACK }
+        ensures triple { IsTheOnly (HasNumbersOfTexts profile_id tier_flag level_id h265_defaults profile.entry tier.entry level.entry) result }
+        ensures fallback { HasNumbers profile_id tier_flag level_id h265_defaults.0 h265_defaults.1 h265_defaults.2 H265_FALLBACK }
         ensures absent { profile.entry ≡ None → tier.entry ≡ None → level.entry ≡ None → result ≡ Some H265_FALLBACK }
     {
         ProfileTierLevel::of_texts(profile, tier, level, H265ProfileTierLevel::FALLBACK)

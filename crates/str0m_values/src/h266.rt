@@ -2,10 +2,10 @@
 ghost use Rattle.std.specs.Ordering.{nat_cmp};
 ghost use Rattle.std.specs.Prelude.{◌≡◌, None, Some, nat_lt};
 ghost use Rattle.str0m_values.specs.Cuts.{IsTheOnly};
-ghost use Rattle.str0m_values.specs.H266.{profile_id, tier_flag, level_id, level_ordinal, defaults};
+ghost use Rattle.str0m_values.specs.H266.{profile_id, tier_flag, level_id, level_ordinal, h266_defaults};
 ghost use Rattle.str0m_values.specs.ProfileTierLevel.{HasNumbers, HasNumbersOfTexts};
 
-use crate::profile_tier_level::{Leveled, Numbered, ProfileTierLevel, value_in};
+use crate::profile_tier_level::{Leveled, Numbered, ProfileTierLevel, profile_table_value};
 
 /// A profile of H266: which of its tools a stream may use (RFC 9328, section 7.2).
 #[derive(Clone, Copy, Debug, PartialEq, Eq, Hash)]
@@ -74,7 +74,7 @@ impl Numbered for H266Profile {
     }
 
     fn of_number(number: u8) -> Option<H266Profile> {
-        value_in(&H266_PROFILES, number)
+        profile_table_value(&H266_PROFILES, number)
     }
 }
 
@@ -98,7 +98,7 @@ impl Numbered for H266Tier {
     }
 
     fn of_number(number: u8) -> Option<H266Tier> {
-        value_in(&H266_TIERS, number)
+        profile_table_value(&H266_TIERS, number)
     }
 }
 
@@ -150,7 +150,7 @@ impl Numbered for H266Level {
     }
 
     fn of_number(number: u8) -> Option<H266Level> {
-        value_in(&H266_LEVELS, number)
+        profile_table_value(&H266_LEVELS, number)
     }
 }
 
@@ -180,8 +180,8 @@ impl H266ProfileTierLevel {
         tier: Option<&str>,
         level: Option<&str>,
     ) -> Option<H266ProfileTierLevel>
-        ensures triple { IsTheOnly (HasNumbersOfTexts profile_id tier_flag level_id defaults profile.entry tier.entry level.entry) result }
-        ensures fallback { HasNumbers profile_id tier_flag level_id defaults.0 defaults.1 defaults.2 H266_FALLBACK }
+        ensures triple { IsTheOnly (HasNumbersOfTexts profile_id tier_flag level_id h266_defaults profile.entry tier.entry level.entry) result }
+        ensures fallback { HasNumbers profile_id tier_flag level_id h266_defaults.0 h266_defaults.1 h266_defaults.2 H266_FALLBACK }
         ensures absent { profile.entry ≡ None → tier.entry ≡ None → level.entry ≡ None → result ≡ Some H266_FALLBACK }
     {
         ProfileTierLevel::of_texts(profile, tier, level, H266ProfileTierLevel::FALLBACK)

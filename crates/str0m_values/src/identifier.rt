@@ -1,6 +1,6 @@
 //! The names of media sections, and of the streams in them.
 ghost use Rattle.std.specs.Prelude.{◌≡◌, ◌≤◌, List, ℕ, Some, length, IsUtf8};
-ghost use Rattle.str0m_values.specs.ShortText.{IsLongestBeginning};
+ghost use Rattle.str0m_values.specs.ShortText.{IsLongestShortText};
 
 use crate::short_text::ShortText;
 use std::fmt;
@@ -32,7 +32,7 @@ impl Mid {
 
 impl<'a> From<&'a str> for Mid {
     ghost from_gives = { λ text m.
-        IsLongestBeginning 16 text.now m × (length text.now ≤ 16 → m ≡ text.now) };
+        IsLongestShortText 16 text.now m × (length text.now ≤ 16 → m ≡ text.now) };
 
     fn from(text: &'a str) -> Mid {
         Mid(ShortText::beginning(text))
@@ -73,7 +73,7 @@ impl Rid {
 
 impl<'a> From<&'a str> for Rid {
     ghost from_gives = { λ text r.
-        IsLongestBeginning 16 text.now r × (length text.now ≤ 16 → r ≡ text.now) };
+        IsLongestShortText 16 text.now r × (length text.now ≤ 16 → r ≡ text.now) };
 
     fn from(text: &'a str) -> Rid {
         Rid(ShortText::beginning(text))

@@ -1,7 +1,7 @@
 //! Words after labels.
 ghost use Rattle.std.specs.Prelude.{◌≡◌, option_map};
 ghost use Rattle.str0m_values.specs.Cuts.{parts};
-ghost use Rattle.str0m_values.specs.LabelReading.{front_word_read, labelled_read, optional_read};
+ghost use Rattle.str0m_values.specs.LabelReading.{front_word_read, labelled_read, optional_label_read};
 
 use crate::cuts::{before, strip};
 use crate::separator::Separator;
@@ -25,8 +25,11 @@ pub(crate) fn labelled<'a>(text: &'a str, label: &str) -> Option<(&'a str, &'a s
 }
 
 /// The word after a label, or nothing where the label doesn't stand, and what stands after it.
-pub(crate) fn optional<'a>(text: &'a str, label: &str) -> Option<(Option<&'a str>, &'a str)>
-    ensures { option_map (λ x. (option_map (λ w. w.now) x.0, x.1.now)) result ≡ optional_read label.now text.now }
+pub(crate) fn optional_labelled<'a>(
+    text: &'a str,
+    label: &str,
+) -> Option<(Option<&'a str>, &'a str)>
+    ensures { option_map (λ x. (option_map (λ w. w.now) x.0, x.1.now)) result ≡ optional_label_read label.now text.now }
 {
     match strip(text, label) {
         None => Some((None, text)),

@@ -1,7 +1,7 @@
 //! What H265 and H266 say of a stream: a profile, a tier and a level.
 ghost use Rattle.std.specs.Prelude.{◌≡◌, ℕ};
 ghost use Rattle.str0m_values.specs.Cuts.{IsTheOnly};
-ghost use Rattle.str0m_values.specs.ProfileTierLevel.{HasNumbers, HasNumbersOfTexts, value_in};
+ghost use Rattle.str0m_values.specs.ProfileTierLevel.{HasNumbers, HasNumbersOfTexts, profile_table_value};
 
 use crate::cuts::num_u8_or;
 
@@ -20,8 +20,8 @@ pub trait Numbered: Copy {
 }
 
 /// The value that a number stands for, in a table of values and their numbers.
-pub(crate) fn value_in<T: Copy>(rows: &[(T, u8)], number: u8) -> Option<T>
-    ensures { result ≡ value_in rows.now number }
+pub(crate) fn profile_table_value<T: Copy>(rows: &[(T, u8)], number: u8) -> Option<T>
+    ensures { result ≡ profile_table_value rows.now number }
 {
     match rows.iter().find(|row| row.1 == number) {
         Some(row) => Some(row.0),

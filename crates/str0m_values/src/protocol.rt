@@ -1,6 +1,6 @@
 //! The transports that carry a candidate.
 ghost use Rattle.std.specs.Prelude.{◌≡◌, Some};
-ghost use Rattle.str0m_values.specs.CandidateReading.{protocol_read, tcp_type_read};
+ghost use Rattle.str0m_values.specs.CandidateReading.{candidate_protocol_read, tcp_type_read};
 ghost use Rattle.str0m_values.specs.Protocol.{protocol_text, tcp_type_text};
 
 use crate::words::{Worded, case_alike};
@@ -42,7 +42,7 @@ impl Worded for Protocol {
 impl Protocol {
     /// The protocol of a word, without regard to ASCII case.
     pub(crate) fn from_word(word: &str) -> Option<Protocol>
-        ensures { result ≡ protocol_read word.now }
+        ensures { result ≡ candidate_protocol_read word.now }
     {
         case_alike(&PROTOCOLS, word)
     }

@@ -4,7 +4,7 @@ ghost use Rattle.std.specs.Cmp.Lexicographic.{pointwise};
 ghost use Rattle.std.specs.Cmp.Rules.{comparing, hashing};
 ghost use Rattle.std.specs.Hash as fed;
 ghost use Rattle.std.specs.Prelude.{◌≡◌, ◌==◌, ◌-◌, ◌≤◌, List, ℕ, Some, length, take, drop, replicate, IsUtf8};
-ghost use Rattle.str0m_values.specs.ShortText.{IsLongestBeginning};
+ghost use Rattle.str0m_values.specs.ShortText.{IsLongestShortText};
 
 use std::hash::{Hash, Hasher};
 use std::marker::Model;
@@ -20,7 +20,7 @@ pub(crate) struct ShortText {
 impl Model for ShortText {
     ghost use Rattle.std.specs.Prelude.{List, drop, length, replicate, take, ℕ, ◌-◌, ◌≡◌, ◌≤◌};
     ghost use Rattle.std.specs.Str.{IsUtf8};
-    ghost use Rattle.str0m_values.specs.ShortText.{cells_of, cells_of-take, length-cells};
+    ghost use Rattle.str0m_values.specs.ShortText.{short_text_cells_of, short_text_cells_of-take, length-short_text_cells};
 
     ghost Value = { List ℕ };
 
@@ -28,18 +28,18 @@ impl Model for ShortText {
 
     ghost invariant = { λ s. (s.len ≤ 16) × (length s.bytes ≡ 16) × (drop s.len s.bytes ≡ replicate (16 - s.len) 0) × ∥ IsUtf8 (take s.len s.bytes) ∥₁ };
 
-    ghost inverse = { λ t. record { bytes = cells_of t; len = length t } };
+    ghost inverse = { λ t. record { bytes = short_text_cells_of t; len = length t } };
 
     ghost inverse_ok = { λ s h i. record {
-      bytes = cells_of-take s.bytes s.len h.0 h.1 h.2 i;
-      len = length-cells s.bytes s.len h.0 h.1 i;
+      bytes = short_text_cells_of-take s.bytes s.len h.0 h.1 h.2 i;
+      len = length-short_text_cells s.bytes s.len h.0 h.1 i;
     } };
 }
 
 impl ShortText {
     /// The longest beginning of the text that fits and ends between characters.
     pub(crate) fn beginning(text: &str) -> ShortText
-        ensures { IsLongestBeginning 16 text.now result }
+        ensures { IsLongestShortText 16 text.now result }
     {
         let len = text.floor_char_boundary(16);
         let mut bytes = [0; 16];

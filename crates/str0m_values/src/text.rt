@@ -14,12 +14,12 @@ use std::ops::{AsDeref, DerefStr};
 
 /// The most bytes that are kept in place: with their number they take as much room as a `String`. Most texts of a description
 /// have fewer.
-const IN_PLACE: usize = 16;
+const TEXT_IN_PLACE: usize = 16;
 
 /// Where the bytes of a text lie: in place, or in memory of their own.
 #[derive(Drop)]
 enum Letters {
-    Short(ArrayString<IN_PLACE>),
+    Short(ArrayString<TEXT_IN_PLACE>),
     Long(String),
 }
 

@@ -1,10 +1,11 @@
 //! Answers of locked rows, put into one section and into several.
 
-use crate::texts::OFFER;
+use crate::texts::{OFFER_TEXT, read};
+use exchange::repeated;
 use std::alloc::{AllocError, Global};
 use std::test::Fail;
 use str0m_signal::{
-    CodecConfig, MediaKind, MediaLine, MediaType, Sdp, SdpAnswer, SdpError, is_writable,
+    CodecConfig, MediaKind, MediaLine, MediaType, Sdp, SdpAnswer, SdpError, Text, is_writable,
     locked_rows, negotiate_text, sdp_parser, section_of,
 };
 use uses::answer_section;
@@ -12,9 +13,9 @@ use uses::answer_section;
 #[test]
 fn an_answer_lists_the_row_that_is_locked(rt: HostRuntime) -> Result<(), Fail> {
     let mut config = CodecConfig::new_with_defaults(rt.alloc())?;
-    let (own, _) = sdp_parser(rt.alloc(), OFFER)?;
-    let answer = answer_section(&mut config, OFFER, own, 0)?.ok_or("an answer")?;
-    assert_eq!(rt; answer.as_str(), OFFER);
+    let (own, _) = sdp_parser(rt.alloc(), OFFER_TEXT)?;
+    let answer = answer_section(&mut config, OFFER_TEXT, own, 0)?.ok_or("an answer")?;
+    assert_eq!(rt; answer.as_str(), OFFER_TEXT);
     Ok(())
 }
 
@@ -49,7 +50,7 @@ fn is_first_answered(
 /// A section that is not there is not answered.
 #[test]
 fn each_section_is_answered_with_rows_of_its_kind(rt: HostRuntime) -> Result<(), Fail> {
-    assert!(rt; is_first_answered(rt.alloc(), OFFER, 1, None)?);
+    assert!(rt; is_first_answered(rt.alloc(), OFFER_TEXT, 1, None)?);
     let mut config = CodecConfig::new_with_defaults(rt.alloc())?;
     for at in 0_usize..2 {
         let found = is_answered(
@@ -65,7 +66,7 @@ fn each_section_is_answered_with_rows_of_its_kind(rt: HostRuntime) -> Result<(),
 }
 
 /// The section with the locked rows of its kind; as it is where it carries no media.
-fn answered(config: &CodecConfig, own: &MediaLine) -> Result<MediaLine, AllocError> {
+fn section_answered(config: &CodecConfig, own: &MediaLine) -> Result<MediaLine, AllocError> {
     let rows = match own.typ {
         MediaType::Audio => locked_rows(config, MediaKind::Audio)?,
         MediaType::Video => locked_rows(config, MediaKind::Video)?,
@@ -77,7 +78,7 @@ fn answered(config: &CodecConfig, own: &MediaLine) -> Result<MediaLine, AllocErr
 /// Each section of `own` with the locked rows of its kind.
 fn answer_all(config: &CodecConfig, own: &mut Sdp) -> Result<(), AllocError> {
     for section in own.media_lines.0.iter_mut() {
-        *section = answered(config, section)?;
+        *section = section_answered(config, section)?;
     }
     Ok(())
 }
@@ -107,5 +108,26 @@ fn an_answer_of_two_sections_has_the_rows_of_both(rt: HostRuntime) -> Result<(),
     assert!(rt; is_writable(&answer, 0)?);
     assert!(rt; is_writable(&answer, 1)?);
     assert!(rt; is_answer_printed(answer, TWO_SECTIONS)?);
+    Ok(())
+}
+
+/// Two header extensions, one port for RTP and RTCP, and a line that no answer repeats.
+const EXTENSIONS: &str =
+    "v=0\r\no=- 7 2 IN IP4 127.0.0.1\r\ns=-\r\nt=0 0\r\nm=audio 9 UDP/TLS/RTP/SAVPF 0\r\na=mid:0\r\na=sendrecv\r\na=rtcp-mux\r\na=extmap:1 urn:one\r\na=extmap:2 urn:two\r\n";
+
+/// How many lines of the first section are repeated where this extension is known; none where there is no section.
+fn repeated_count(alloc: Global, text: &str, uri: &str) -> Result<usize, SdpError> {
+    let offer = read(alloc, text)?;
+    let known = [Text::from_str(alloc, uri)?];
+    match offer.media_lines.as_slice().first() {
+        Some(section) => Ok(repeated(alloc, &known, section)?.len()),
+        None => Ok(0),
+    }
+}
+
+#[test]
+fn lines_that_both_sides_know_are_repeated(rt: HostRuntime) -> Result<(), Fail> {
+    assert_eq!(rt; repeated_count(rt.alloc(), EXTENSIONS, "urn:two")?, 2);
+    assert_eq!(rt; repeated_count(rt.alloc(), EXTENSIONS, "urn:three")?, 1);
     Ok(())
 }

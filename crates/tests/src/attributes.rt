@@ -1,6 +1,6 @@
 //! Attributes that print no line, though a description holds them.
 
-use crate::texts::prints;
+use crate::texts::prints_text;
 use std::alloc::{AllocError, Global};
 use std::test::Fail;
 use str0m_signal::{
@@ -19,7 +19,7 @@ fn layers(alloc: Global, name: &str) -> Result<SimulcastGroups, AllocError> {
 }
 
 /// A simulcast that sends these layers, and receives none.
-fn simulcast(alloc: Global, send: SimulcastGroups, is_munged: bool) -> MediaAttribute {
+fn simulcast_attribute(alloc: Global, send: SimulcastGroups, is_munged: bool) -> MediaAttribute {
     MediaAttribute::Simulcast(Simulcast {
         send,
         recv: SimulcastGroups(Items::empty(alloc)),
@@ -28,7 +28,7 @@ fn simulcast(alloc: Global, send: SimulcastGroups, is_munged: bool) -> MediaAttr
 }
 
 /// An extension with the number 2.
-fn extension(alloc: Global, serialized: bool) -> Result<MediaAttribute, AllocError> {
+fn extension_attribute(alloc: Global, serialized: bool) -> Result<MediaAttribute, AllocError> {
     Ok(MediaAttribute::ExtMap {
         id: 2,
         ext: Extension::new(alloc, "urn:x", serialized)?,
@@ -43,23 +43,23 @@ fn group_without_sources(alloc: Global) -> Result<MediaAttribute, AllocError> {
 }
 
 /// The attribute of this name in the table below; another, which prints a line, where there is none.
-fn made(alloc: Global, name: &str) -> Result<MediaAttribute, AllocError> {
+fn made_attribute(alloc: Global, name: &str) -> Result<MediaAttribute, AllocError> {
     match name {
         "group without sources" => group_without_sources(alloc),
         "simulcast without layers" => {
             let none = SimulcastGroups(Items::empty(alloc));
-            Ok(simulcast(alloc, none, false))
+            Ok(simulcast_attribute(alloc, none, false))
         }
-        "munged simulcast" => Ok(simulcast(alloc, layers(alloc, "hi")?, true)),
-        "simulcast" => Ok(simulcast(alloc, layers(alloc, "hi")?, false)),
-        "extension that is not listed" => extension(alloc, false),
-        "extension" => extension(alloc, true),
+        "munged simulcast" => Ok(simulcast_attribute(alloc, layers(alloc, "hi")?, true)),
+        "simulcast" => Ok(simulcast_attribute(alloc, layers(alloc, "hi")?, false)),
+        "extension that is not listed" => extension_attribute(alloc, false),
+        "extension" => extension_attribute(alloc, true),
         _ => Ok(MediaAttribute::SendRecv),
     }
 }
 
 /// Attributes, and what each prints.
-static LINES: [(&str, &str); 6] = [
+static ATTRIBUTE_LINES: [(&str, &str); 6] = [
     ("group without sources", ""),
     ("simulcast without layers", ""),
     ("munged simulcast", ""),
@@ -68,15 +68,15 @@ static LINES: [(&str, &str); 6] = [
     ("extension", "a=extmap:2 urn:x\r\n"),
 ];
 
-fn is_printed(alloc: Global, name: &str, line: &str) -> Result<bool, AllocError> {
-    let attribute = made(alloc, name)?;
-    prints(alloc, &attribute, line)
+fn is_attribute_printed(alloc: Global, name: &str, line: &str) -> Result<bool, AllocError> {
+    let attribute = made_attribute(alloc, name)?;
+    prints_text(alloc, &attribute, line)
 }
 
 #[test]
 fn attributes_that_no_line_says_print_nothing(rt: HostRuntime) -> Result<(), Fail> {
-    for (name, line) in &LINES {
-        assert!(rt; is_printed(rt.alloc(), name, line)?, "{name}");
+    for (name, line) in &ATTRIBUTE_LINES {
+        assert!(rt; is_attribute_printed(rt.alloc(), name, line)?, "{name}");
     }
     Ok(())
 }

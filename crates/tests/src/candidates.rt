@@ -7,10 +7,10 @@ use str0m_values::candidate_text::candidate;
 use str0m_values::{Candidate, CandidateKind, IpAddr, Protocol, SocketAddr, TcpType, Text};
 
 /// The text of a relayed candidate over TCP with every optional part.
-const RELAYED: &str =
+const RELAYED_CANDIDATE: &str =
     "candidate:f 2 tcp 7 ::1 9 typ relay raddr ::1 rport 9 tcptype active ufrag u";
 
-fn loopback() -> SocketAddr {
+fn candidate_loopback() -> SocketAddr {
     SocketAddr {
         ip: IpAddr::V6([0, 0, 0, 0, 0, 0, 0, 1]),
         port: 9,
@@ -18,23 +18,23 @@ fn loopback() -> SocketAddr {
 }
 
 /// The candidate of that text, made of its parts.
-fn relayed(alloc: Global) -> Result<Candidate, AllocError> {
+fn relayed_candidate(alloc: Global) -> Result<Candidate, AllocError> {
     Ok(Candidate::from_parts(
         Text::from_str(alloc, "f")?,
         2,
         Protocol::Tcp,
         7,
-        loopback(),
+        candidate_loopback(),
         CandidateKind::Relayed,
-        Some(loopback()),
+        Some(candidate_loopback()),
         Some(TcpType::Active),
         Some(Text::from_str(alloc, "u")?),
     ))
 }
 
 /// Whether that text is read as this candidate.
-fn is_read(alloc: Global, made: &Candidate) -> Result<bool, AllocError> {
-    let read = candidate(alloc, RELAYED)?;
+fn is_candidate_read(alloc: Global, made: &Candidate) -> Result<bool, AllocError> {
+    let read = candidate(alloc, RELAYED_CANDIDATE)?;
     match &read {
         Some(read) => Ok(*made == *read),
         None => Ok(false),
@@ -48,21 +48,21 @@ fn is_candidate_copied(candidate: &Candidate) -> Result<bool, AllocError> {
 
 fn is_candidate_printed(alloc: Global, candidate: &Candidate) -> Result<bool, AllocError> {
     let line = candidate.to_sdp_string(alloc)?;
-    Ok(line.as_str() == RELAYED)
+    Ok(line.as_str() == RELAYED_CANDIDATE)
 }
 
 /// Every part of it is printed.
 #[test]
 fn a_candidate_of_its_parts_is_the_one_that_is_read(rt: HostRuntime) -> Result<(), Fail> {
-    let made = relayed(rt.alloc())?;
-    assert!(rt; is_read(rt.alloc(), &made)?);
+    let made = relayed_candidate(rt.alloc())?;
+    assert!(rt; is_candidate_read(rt.alloc(), &made)?);
     assert!(rt; is_candidate_copied(&made)?);
     assert!(rt; is_candidate_printed(rt.alloc(), &made)?);
     Ok(())
 }
 
 /// Texts as they are trickled, and the component of the candidate, where there is one.
-static TRICKLED: [(&str, Option<u16>); 9] = [
+static TRICKLED_CANDIDATES: [(&str, Option<u16>); 9] = [
     (
         "candidate:1 1 udp 2122260223 192.0.2.1 5000 typ host",
         Some(1),
@@ -95,7 +95,7 @@ fn component_of(alloc: Global, text: &str) -> Option<u16> {
 
 #[test]
 fn candidates_are_read_as_browsers_trickle_them(rt: HostRuntime) -> Result<(), Fail> {
-    for (text, component) in &TRICKLED {
+    for (text, component) in &TRICKLED_CANDIDATES {
         assert_eq!(rt; component_of(rt.alloc(), text), *component, "{text:?}");
     }
     Ok(())

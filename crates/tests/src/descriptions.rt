@@ -1,6 +1,6 @@
 //! Descriptions, and offers and answers (RFC 3264) of them: what they hold and print, copies and equality.
 
-use crate::texts::{OPUS, read};
+use crate::texts::{OPUS_TEXT, read};
 use std::alloc::{AllocError, Global};
 use std::test::Fail;
 use str0m_signal::{
@@ -11,8 +11,8 @@ use str0m_signal::{
 const BARE_HEADER: &str = "v=0\r\no=- 1 1 IN IP4 127.0.0.1\r\ns=-\r\nt=0 0\r\n";
 
 /// Opus' text, a line that fits nowhere, and the text again.
-fn twice(alloc: Global) -> Result<String, AllocError> {
-    format!(in alloc; "{OPUS}x\r\n{OPUS}")
+fn described_twice(alloc: Global) -> Result<String, AllocError> {
+    format!(in alloc; "{OPUS_TEXT}x\r\n{OPUS_TEXT}")
 }
 
 /// Whether the offer holds this description, and equals the one that is made of it.
@@ -43,7 +43,7 @@ fn is_answer_read(alloc: Global, text: &str) -> Result<bool, SdpError> {
 
 /// Whether an offer and an answer hold what is read of their text.
 fn are_both_read(alloc: Global) -> Result<bool, SdpError> {
-    let text = twice(alloc)?;
+    let text = described_twice(alloc)?;
     Ok(is_offer_read(alloc, text.as_str())? && is_answer_read(alloc, text.as_str())?)
 }
 
@@ -60,12 +60,12 @@ fn shown_by_answer(alloc: Global, answer: &SdpAnswer) -> Result<Option<String>, 
 }
 
 fn offer_shown(alloc: Global) -> Result<Option<String>, SdpError> {
-    let offer = SdpOffer::from_sdp_string(alloc, OPUS)?;
+    let offer = SdpOffer::from_sdp_string(alloc, OPUS_TEXT)?;
     Ok(shown_by_offer(alloc, &offer)?)
 }
 
 fn answer_shown(alloc: Global) -> Result<Option<String>, SdpError> {
-    let answer = SdpAnswer::from_sdp_string(alloc, OPUS)?;
+    let answer = SdpAnswer::from_sdp_string(alloc, OPUS_TEXT)?;
     Ok(shown_by_answer(alloc, &answer)?)
 }
 
@@ -84,7 +84,7 @@ fn offers_and_answers_hold_and_print_what_was_read(rt: HostRuntime) -> Result<()
     Ok(())
 }
 
-fn is_copied(sdp: &Sdp) -> Result<bool, AllocError> {
+fn is_description_copied(sdp: &Sdp) -> Result<bool, AllocError> {
     let copy = sdp.clone()?;
     Ok(copy == *sdp)
 }
@@ -100,19 +100,22 @@ fn are_sections_copied(sections: &Items<MediaLine>) -> Result<bool, AllocError> 
 }
 
 /// Whether copies of the whole, of its session and of its sections equal these.
-fn all_copied(sdp: &Sdp) -> Result<bool, AllocError> {
-    let (whole, session) = (is_copied(sdp)?, is_session_copied(&sdp.session)?);
+fn are_description_parts_copied(sdp: &Sdp) -> Result<bool, AllocError> {
+    let (whole, session) = (
+        is_description_copied(sdp)?,
+        is_session_copied(&sdp.session)?,
+    );
     Ok(whole && session && are_sections_copied(&sdp.media_lines)?)
 }
 
 /// Whether the text is read as another description.
-fn is_another(alloc: Global, text: &str, sdp: &Sdp) -> Result<bool, SdpError> {
+fn is_another_description(alloc: Global, text: &str, sdp: &Sdp) -> Result<bool, SdpError> {
     let other = read(alloc, text)?;
     Ok(other != *sdp)
 }
 
 /// Adds an attribute to the first section.
-fn add_active(sections: &mut [MediaLine]) -> Result<(), AllocError> {
+fn add_active_to_description(sections: &mut [MediaLine]) -> Result<(), AllocError> {
     match sections.first_mut() {
         Some(section) => section.attrs.push(MediaAttribute::Setup(Setup::Active)),
         None => Ok(()),
@@ -122,16 +125,16 @@ fn add_active(sections: &mut [MediaLine]) -> Result<(), AllocError> {
 /// Whether the description differs from one that says more of its first section.
 fn differs_by_an_attribute(sdp: &Sdp) -> Result<bool, AllocError> {
     let mut other = sdp.clone()?;
-    add_active(other.media_lines.0.as_mut_slice())?;
+    add_active_to_description(other.media_lines.0.as_mut_slice())?;
     Ok(other != *sdp)
 }
 
 /// A copy equals its source, and each part of a description tells it from another.
 #[test]
 fn descriptions_differ_by_their_parts(rt: HostRuntime) -> Result<(), Fail> {
-    let sdp = read(rt.alloc(), OPUS)?;
-    assert!(rt; all_copied(&sdp)?);
-    assert!(rt; is_another(rt.alloc(), BARE_HEADER, &sdp)?);
+    let sdp = read(rt.alloc(), OPUS_TEXT)?;
+    assert!(rt; are_description_parts_copied(&sdp)?);
+    assert!(rt; is_another_description(rt.alloc(), BARE_HEADER, &sdp)?);
     assert!(rt; differs_by_an_attribute(&sdp)?);
     Ok(())
 }

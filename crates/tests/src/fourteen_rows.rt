@@ -1,7 +1,7 @@
 //! Fourteen rows, of three types each, against remote rows that demand each payload type in turn. So many rows never exhaust
 //! the types, and a type of a locked row never gets a second role (docs/ROUNDS.md).
 
-use crate::rows::{DIRECTIONS, opus};
+use crate::rows::{DIRECTIONS, row_of_opus};
 use std::alloc::{AllocError, Global};
 use std::test::Fail;
 use str0m_formats::{CodecConfig, NegotiationError, PayloadParams};
@@ -12,7 +12,7 @@ use str0m_values::{Direction, Pt};
 fn row(channels: u8, first: u8, step: u8) -> PayloadParams {
     let pt = first.wrapping_add(channels.wrapping_mul(step));
     let (resend, red) = (pt.wrapping_add(1), pt.wrapping_add(2));
-    opus(channels, (pt % 128, Some(resend % 128), Some(red % 128)))
+    row_of_opus(channels, (pt % 128, Some(resend % 128), Some(red % 128)))
 }
 
 /// Fourteen rows at 83 to 124, each of its own spec.
@@ -24,35 +24,39 @@ fn fourteen(alloc: Global) -> Result<CodecConfig, AllocError> {
     Ok(CodecConfig::new_from_payload_params(alloc, rows))
 }
 
-fn types(row: &PayloadParams) -> [Option<Pt>; 3] {
+fn types_of_row(row: &PayloadParams) -> [Option<Pt>; 3] {
     [Some(row.pt()), row.resend(), row.red()]
 }
 
 /// In how many roles the type stands.
-fn roles(rows: &[PayloadParams], pt: Pt) -> usize {
+fn roles_in_rows(rows: &[PayloadParams], pt: Pt) -> usize {
     let mut count: usize = 0;
     for row in rows {
-        let of_row = types(row).iter().filter(|it| **it == Some(pt)).count();
+        let of_row = types_of_row(row)
+            .iter()
+            .filter(|it| **it == Some(pt))
+            .count();
         count = count.saturating_add(of_row);
     }
     count
 }
 
 /// Whether each type of the row stands in one role alone.
-fn is_alone(rows: &[PayloadParams], row: &PayloadParams) -> bool {
-    types(row).iter().all(|it| match it {
+fn is_row_alone(rows: &[PayloadParams], row: &PayloadParams) -> bool {
+    types_of_row(row).iter().all(|it| match it {
         None => true,
-        Some(pt) => roles(rows, *pt) == 1,
+        Some(pt) => roles_in_rows(rows, *pt) == 1,
     })
 }
 
 /// Runs a round: it is accepted, and then no type of a locked row has a second role; or the remote receives, and a type is
 /// claimed twice.
-fn is_held(config: &mut CodecConfig, remote: PayloadParams, direction: Direction) -> bool {
+fn is_row_held(config: &mut CodecConfig, remote: PayloadParams, direction: Direction) -> bool {
     match config.update_params(&[remote], direction) {
         Ok(()) => {
             let rows = config.params();
-            rows.iter().all(|row| !row.locked() || is_alone(rows, row))
+            rows.iter()
+                .all(|row| !row.locked() || is_row_alone(rows, row))
         }
         Err(NegotiationError::ClaimedTwice(_)) => direction.sdp_is_receiving(),
         Err(_) => false,
@@ -61,11 +65,16 @@ fn is_held(config: &mut CodecConfig, remote: PayloadParams, direction: Direction
 
 /// Fourteen rounds one after another, each of which demands three types for one of the rows. In the end all rows are locked,
 /// but where the remote receives and two rounds demanded one type.
-fn are_held(alloc: Global, first: u8, step: u8, direction: Direction) -> Result<bool, AllocError> {
+fn are_fourteen_held(
+    alloc: Global,
+    first: u8,
+    step: u8,
+    direction: Direction,
+) -> Result<bool, AllocError> {
     let mut config = fourteen(alloc)?;
     let mut all = true;
     for channels in 1_u8..15 {
-        all = is_held(&mut config, row(channels, first, step), direction) && all;
+        all = is_row_held(&mut config, row(channels, first, step), direction) && all;
     }
     let are_locked = config.params().iter().all(|row| row.locked());
     Ok(all && (are_locked || (step < 3 && direction.sdp_is_receiving())))
@@ -73,10 +82,10 @@ fn are_held(alloc: Global, first: u8, step: u8, direction: Direction) -> Result<
 
 /// 128 rounds one after another, each for the next of the rows, whose types begin at each of the 128 in turn: the first that isn't
 /// held.
-fn first_not_held(config: &mut CodecConfig, direction: Direction) -> Option<u8> {
+fn first_row_not_held(config: &mut CodecConfig, direction: Direction) -> Option<u8> {
     for first in 0_u8..128 {
         let channels = first % 14 + 1;
-        if !is_held(config, row(channels, first, 0), direction) {
+        if !is_row_held(config, row(channels, first, 0), direction) {
             return Some(first);
         }
     }
@@ -87,7 +96,7 @@ fn first_not_held(config: &mut CodecConfig, direction: Direction) -> Option<u8> 
 /// remote row whose types no locked row has.
 fn meet_every_type(alloc: Global, direction: Direction) -> Result<(Option<u8>, bool), AllocError> {
     let mut config = fourteen(alloc)?;
-    let not_held = first_not_held(&mut config, direction);
+    let not_held = first_row_not_held(&mut config, direction);
     let are_locked = config.params().iter().all(|row| row.locked());
     Ok((not_held, are_locked))
 }
@@ -96,7 +105,7 @@ fn meet_every_type(alloc: Global, direction: Direction) -> Result<(Option<u8>, b
 /// aren't held begin.
 fn first_exhausted(alloc: Global, direction: Direction) -> Result<Option<u8>, AllocError> {
     for first in 0_u8..128 {
-        if !are_held(alloc, first, first % 4, direction)? {
+        if !are_fourteen_held(alloc, first, first % 4, direction)? {
             return Ok(Some(first));
         }
     }

@@ -6,13 +6,13 @@ use str0m_values::{Extension, Mid, Rid, Text};
 
 /// What a text is made of, what that begins with, and how the text shows itself. One of more than sixteen bytes lies elsewhere
 /// than a shorter one.
-static TEXTS: [(&str, &str, &str); 2] = [
+static NAME_TEXTS: [(&str, &str, &str); 2] = [
     ("BUNDLE", "BUN", "\"BUNDLE\""),
     ("webrtc-datachannel", "webrtc", "\"webrtc-datachannel\""),
 ];
 
 /// Whether the text shows itself so.
-fn is_shown_so(alloc: Global, text: &Text, wanted: &str) -> Result<bool, AllocError> {
+fn is_text_shown_so(alloc: Global, text: &Text, wanted: &str) -> Result<bool, AllocError> {
     let shown = format!(in alloc; "{text:?}")?;
     Ok(shown.as_str() == wanted)
 }
@@ -23,16 +23,20 @@ fn is_text_held(text: &Option<Text>, held: &str) -> bool {
 }
 
 /// Whether a text that is made of this str begins so, shows itself so, and is the str again.
-fn is_as_str(alloc: Global, held: &str, begin: &str, shown: &str) -> Result<bool, AllocError> {
+fn is_text_as_str(alloc: Global, held: &str, begin: &str, shown: &str) -> Result<bool, AllocError> {
     let text = Text::from_str(alloc, held)?;
-    let is_so = text.starts_with(begin) && is_shown_so(alloc, &text, shown)?;
+    let is_so = text.starts_with(begin) && is_text_shown_so(alloc, &text, shown)?;
     Ok(is_so && is_text_held(&Some(text), held))
 }
 
 const MID_URI: &str = "urn:ietf:params:rtp-hdrext:sdes:mid";
 
 /// Whether the extension is the one that is made of that URI.
-fn is_made(alloc: Global, read: &Extension, serialized: bool) -> Result<bool, AllocError> {
+fn is_extension_made(
+    alloc: Global,
+    read: &Extension,
+    serialized: bool,
+) -> Result<bool, AllocError> {
     let made = Extension::new(alloc, MID_URI, serialized)?;
     Ok(*read == made)
 }
@@ -46,14 +50,14 @@ fn is_extension_copied(read: &Extension) -> Result<bool, AllocError> {
 fn extension_equals(alloc: Global) -> Result<(bool, bool, bool), AllocError> {
     let read = Extension::from_sdp_uri(alloc, MID_URI)?;
     let copy = is_extension_copied(&read)?;
-    let own = is_made(alloc, &read, false)?;
-    Ok((copy, own, is_made(alloc, &read, true)?))
+    let own = is_extension_made(alloc, &read, false)?;
+    Ok((copy, own, is_extension_made(alloc, &read, true)?))
 }
 
 #[test]
 fn texts_and_names_compare_by_what_they_keep(rt: HostRuntime) -> Result<(), Fail> {
-    for (held, begin, shown) in &TEXTS {
-        assert!(rt; is_as_str(rt.alloc(), held, begin, shown)?, "{held}");
+    for (held, begin, shown) in &NAME_TEXTS {
+        assert!(rt; is_text_as_str(rt.alloc(), held, begin, shown)?, "{held}");
     }
     assert!(rt; Mid::from("0123456789abcdefg") == Mid::from("0123456789abcdef"));
     assert!(rt; Mid::from("0") != Mid::from("00"));

@@ -1,8 +1,8 @@
 //! Rounds with whole texts, one and another after it. Expected values were worked out by hand from the rules of
 //! docs/SECTIONS.md and docs/ROUNDS.md.
 
-use crate::rows::{is_opus_at_109, locked_count};
-use crate::texts::{CALL, OFFER, OPUS, prints, read};
+use crate::rows::{is_opus_at_109, locked_row_count};
+use crate::texts::{CALL_TEXT, OFFER_TEXT, OPUS_TEXT, prints_text, read};
 use exchange::negotiated_names;
 use std::alloc::{AllocError, Global};
 use std::test::Fail;
@@ -11,22 +11,26 @@ use str0m_signal::{
 };
 use uses::{agreed_codecs, negotiate_again};
 
-fn are_plain(rows: &[PayloadParams]) -> bool {
+fn are_negotiated_rows_plain(rows: &[PayloadParams]) -> bool {
     rows.iter().all(|row| row.is_plain())
 }
 
 /// How many rounds the text of Opus has, how many rows they lock, and whether they leave all rows plain.
 fn opus_negotiated(alloc: Global) -> Result<(usize, usize, bool), SdpError> {
     let mut config = CodecConfig::new_with_defaults(alloc)?;
-    let outcomes = negotiate_text(&mut config, OPUS)?;
+    let outcomes = negotiate_text(&mut config, OPUS_TEXT)?;
     let rows = config.params();
-    Ok((outcomes.len(), locked_count(rows), are_plain(rows)))
+    Ok((
+        outcomes.len(),
+        locked_row_count(rows),
+        are_negotiated_rows_plain(rows),
+    ))
 }
 
 /// How many rounds the text of a call has.
 fn count_of_call(alloc: Global) -> Result<usize, SdpError> {
     let mut config = CodecConfig::new_with_defaults(alloc)?;
-    let outcomes = negotiate_text(&mut config, CALL)?;
+    let outcomes = negotiate_text(&mut config, CALL_TEXT)?;
     Ok(outcomes.len())
 }
 
@@ -38,24 +42,24 @@ fn are_audio_and_video(names: &[Option<Mid>]) -> bool {
 }
 
 /// Whether each outcome of the call has the name of its section.
-fn are_named(alloc: Global) -> Result<bool, SdpError> {
-    let call = read(alloc, CALL)?;
+fn are_outcomes_named(alloc: Global) -> Result<bool, SdpError> {
+    let call = read(alloc, CALL_TEXT)?;
     let names = negotiated_names(alloc, &call)?;
     Ok(are_audio_and_video(names.as_slice()) && names.len() == count_of_call(alloc)?)
 }
 
 /// Whether the codec of both sides is agreed on, and no other.
-fn is_agreed(alloc: Global) -> Result<bool, SdpError> {
-    let audio = agreed_codecs(alloc, OFFER, MediaKind::Audio)?;
-    let video = agreed_codecs(alloc, OFFER, MediaKind::Video)?;
+fn is_codec_agreed(alloc: Global) -> Result<bool, SdpError> {
+    let audio = agreed_codecs(alloc, OFFER_TEXT, MediaKind::Audio)?;
+    let video = agreed_codecs(alloc, OFFER_TEXT, MediaKind::Video)?;
     Ok(is_opus_at_109(audio.as_slice()) && video.is_empty())
 }
 
 #[test]
 fn a_text_is_a_round_for_each_section(rt: HostRuntime) -> Result<(), Fail> {
     assert_eq!(rt; opus_negotiated(rt.alloc())?, (1, 1, true));
-    assert!(rt; are_named(rt.alloc())?);
-    assert!(rt; is_agreed(rt.alloc())?);
+    assert!(rt; are_outcomes_named(rt.alloc())?);
+    assert!(rt; is_codec_agreed(rt.alloc())?);
     Ok(())
 }
 
@@ -66,15 +70,19 @@ const LATER_OFFER: &str =
 /// The default rows, after a round with the offer.
 fn negotiated(alloc: Global) -> Result<CodecConfig, Fail> {
     let mut config = CodecConfig::new_with_defaults(alloc)?;
-    negotiate_again(&mut config, OFFER)?;
+    negotiate_again(&mut config, OFFER_TEXT)?;
     Ok(config)
 }
 
 /// Whether negotiating with the later offer is refused so.
-fn is_refused(alloc: Global, config: &mut CodecConfig, cause: &str) -> Result<bool, AllocError> {
+fn is_later_offer_refused(
+    alloc: Global,
+    config: &mut CodecConfig,
+    cause: &str,
+) -> Result<bool, AllocError> {
     match &negotiate_again(config, LATER_OFFER) {
         Ok(()) => Ok(false),
-        Err(error) => prints(alloc, error, cause),
+        Err(error) => prints_text(alloc, error, cause),
     }
 }
 
@@ -82,7 +90,7 @@ fn is_refused(alloc: Global, config: &mut CodecConfig, cause: &str) -> Result<bo
 fn a_locked_type_is_not_given_to_another_codec(rt: HostRuntime) -> Result<(), Fail> {
     let mut config = negotiated(rt.alloc())?;
     let cause = "round refused: payload type 109 is claimed twice";
-    assert!(rt; is_refused(rt.alloc(), &mut config, cause)?);
+    assert!(rt; is_later_offer_refused(rt.alloc(), &mut config, cause)?);
     let rows = locked_rows(&config, MediaKind::Audio)?;
     assert!(rt; is_opus_at_109(rows.as_slice()), "{rows:?}");
     Ok(())

@@ -5,7 +5,7 @@ use str0m_values::{
     H266ProfileTierLevel, H266Tier,
 };
 
-fn are_in_order() -> bool {
+fn are_levels_in_order() -> bool {
     H264Level::L1B < H264Level::L1_1
         && H265Level::L5_2 < H265Level::L6
         && H266Level::L6_2 < H266Level::L6_3
@@ -38,7 +38,7 @@ fn is_h266_made_of_its_parts() -> bool {
 /// Main10, High and level 6.2 of H265 (RFC 7798, section 7.1), and of H266 (RFC 9328, section 7.2), each asked alone.
 #[test]
 fn triples_are_made_of_parts_that_have_numbers(rt: HostRuntime) {
-    assert!(rt; are_in_order());
+    assert!(rt; are_levels_in_order());
     assert!(rt; is_h265_made_of_its_parts());
     assert!(rt; is_h266_made_of_its_parts());
     let h265 = (H265Profile::Main10.to_id(), H265Tier::High.to_id());

@@ -4,14 +4,15 @@ use show::run::run;
 use std::alloc::{AllocError, Global};
 use std::io::Read;
 
-pub(crate) const USAGE: &str = "usage: sdpshow text|rows|negotiate\n";
+pub(crate) const PROGRAM_USAGE: &str = "usage: sdpshow text|rows|negotiate\n";
 
-pub(crate) const HEADER: &str = "v=0\r\no=- 7 2 IN IP4 127.0.0.1\r\ns=-\r\nt=0 0\r\n";
+pub(crate) const PROGRAM_HEADER: &str = "v=0\r\no=- 7 2 IN IP4 127.0.0.1\r\ns=-\r\nt=0 0\r\n";
 
 /// The header, printed.
-pub(crate) const PRINTED: &str = "v=0\r\no=str0m-0.25.0 7 2 IN IP4 0.0.0.0\r\ns=-\r\nt=0 0\r\n";
+pub(crate) const PROGRAM_HEADER_PRINTED: &str =
+    "v=0\r\no=str0m-0.25.0 7 2 IN IP4 0.0.0.0\r\ns=-\r\nt=0 0\r\n";
 
-pub(crate) fn arguments(alloc: Global, words: &[&str]) -> Result<Vec<String>, AllocError> {
+pub(crate) fn program_arguments(alloc: Global, words: &[&str]) -> Result<Vec<String>, AllocError> {
     let mut all = Vec::new(alloc);
     for word in words {
         all.push(String::from_str(alloc, word)?)?;
@@ -21,7 +22,7 @@ pub(crate) fn arguments(alloc: Global, words: &[&str]) -> Result<Vec<String>, Al
 
 /// What a run ends with.
 #[derive(Debug, Drop)]
-pub(crate) struct Ran {
+pub(crate) struct ProgramRan {
     pub(crate) status: u8,
     /// Whether the line that goes with the status could be written.
     pub(crate) could_say: bool,
@@ -29,7 +30,7 @@ pub(crate) struct Ran {
     pub(crate) said: Vec<u8>,
 }
 
-impl Ran {
+impl ProgramRan {
     /// Whether the run ended with this status, and wrote and said just this.
     pub(crate) fn is(&self, status: u8, written: &str, said: &str) -> bool {
         self.status == status
@@ -40,16 +41,16 @@ impl Ran {
 }
 
 /// Runs the program into memory.
-pub(crate) fn run_over<R: Read>(
+pub(crate) fn run_program_over<R: Read>(
     alloc: Global,
     words: &[&str],
     input: &mut R,
-) -> Result<Ran, AllocError> {
-    let words = arguments(alloc, words)?;
+) -> Result<ProgramRan, AllocError> {
+    let words = program_arguments(alloc, words)?;
     let mut written = Vec::new(alloc);
     let mut said = Vec::new(alloc);
     let ending = run(alloc, words.as_slice(), input, &mut written, &mut said);
-    Ok(Ran {
+    Ok(ProgramRan {
         status: ending.status,
         could_say: ending.said.is_ok(),
         written,

@@ -1,6 +1,9 @@
 //! Runs of the program where input or output fails.
 
-use crate::program::{HEADER, PRINTED, Ran, USAGE, arguments, run_over};
+use crate::program::{
+    PROGRAM_HEADER, PROGRAM_HEADER_PRINTED, PROGRAM_USAGE, ProgramRan, program_arguments,
+    run_program_over,
+};
 use show::run::run;
 use std::alloc::{AllocError, Global};
 use std::io;
@@ -55,7 +58,7 @@ impl Write for Full {
 }
 
 /// A writer with so much room.
-fn with_room(alloc: Global, room: usize, hands_on: bool) -> Full {
+fn output_with_room(alloc: Global, room: usize, hands_on: bool) -> Full {
     Full {
         room,
         hands_on,
@@ -64,7 +67,7 @@ fn with_room(alloc: Global, room: usize, hands_on: bool) -> Full {
 }
 
 /// An argument, what is read before an error of which kind, the status, and what is said.
-static UNREADABLE: [(&str, &str, ErrorKind, u8, &str); 4] = [
+static UNREADABLE_RUNS: [(&str, &str, ErrorKind, u8, &str); 4] = [
     (
         "text",
         "",
@@ -74,7 +77,7 @@ static UNREADABLE: [(&str, &str, ErrorKind, u8, &str); 4] = [
     ),
     (
         "text",
-        HEADER,
+        PROGRAM_HEADER,
         ErrorKind::BrokenPipe,
         1,
         "cannot read input\n",
@@ -86,18 +89,18 @@ static UNREADABLE: [(&str, &str, ErrorKind, u8, &str); 4] = [
         1,
         "SDP: out of memory\n",
     ),
-    ("show", "", ErrorKind::PermissionDenied, 2, USAGE),
+    ("show", "", ErrorKind::PermissionDenied, 2, PROGRAM_USAGE),
 ];
 
 /// Arguments are compared before anything is read, and input that ends in an error is not shown.
 #[test]
 fn input_that_cannot_be_read(rt: HostRuntime) -> Result<(), Fail> {
-    for (word, bytes, kind, status, said) in &UNREADABLE {
+    for (word, bytes, kind, status, said) in &UNREADABLE_RUNS {
         let mut input = Broken {
             bytes: bytes.as_bytes(),
             kind: *kind,
         };
-        let ran = run_over(rt.alloc(), &[word], &mut input)?;
+        let ran = run_program_over(rt.alloc(), &[word], &mut input)?;
         assert!(rt; ran.is(*status, "", said), "{said:?}: {ran:?}");
         assert_eq!(rt;
             input.bytes.len() == bytes.len(),
@@ -109,15 +112,15 @@ fn input_that_cannot_be_read(rt: HostRuntime) -> Result<(), Fail> {
 }
 
 /// Runs the program over the header, with so much room for faults.
-fn run_into(
+fn run_program_into(
     alloc: Global,
     word: &str,
     mut output: Full,
     faults_room: usize,
-) -> Result<Ran, AllocError> {
-    let words = arguments(alloc, &[word])?;
-    let mut input = HEADER.as_bytes();
-    let mut faults = with_room(alloc, faults_room, true);
+) -> Result<ProgramRan, AllocError> {
+    let words = program_arguments(alloc, &[word])?;
+    let mut input = PROGRAM_HEADER.as_bytes();
+    let mut faults = output_with_room(alloc, faults_room, true);
     let ending = run(
         alloc,
         words.as_slice(),
@@ -125,7 +128,7 @@ fn run_into(
         &mut output,
         &mut faults,
     );
-    Ok(Ran {
+    Ok(ProgramRan {
         status: ending.status,
         could_say: ending.said.is_ok(),
         written: output.taken,
@@ -135,34 +138,36 @@ fn run_into(
 
 /// Whether the run ended with this status and said just this, and wrote a beginning of what the header prints: all of it where
 /// that is so, and else less.
-fn is_whole_or_told(ran: &Ran, is_whole: bool, status: u8, said: &str) -> bool {
+fn is_whole_or_told(ran: &ProgramRan, is_whole: bool, status: u8, said: &str) -> bool {
     ran.status == status
         && ran.could_say == (status == 0 || !said.is_empty())
         && ran.said.as_slice() == said.as_bytes()
-        && PRINTED.as_bytes().starts_with(ran.written.as_slice())
-        && is_whole == (ran.written.len() == PRINTED.len())
+        && PROGRAM_HEADER_PRINTED
+            .as_bytes()
+            .starts_with(ran.written.as_slice())
+        && is_whole == (ran.written.len() == PROGRAM_HEADER_PRINTED.len())
 }
 
 /// An argument, the room for output, whether it is handed on, the room for faults, the status, and what is said.
-static UNWRITABLE: [(&str, usize, bool, usize, u8, &str); 9] = [
-    ("text", PRINTED.len(), true, 100, 0, ""),
-    ("text", PRINTED.len(), true, 0, 0, ""),
+static UNWRITABLE_RUNS: [(&str, usize, bool, usize, u8, &str); 9] = [
+    ("text", PROGRAM_HEADER_PRINTED.len(), true, 100, 0, ""),
+    ("text", PROGRAM_HEADER_PRINTED.len(), true, 0, 0, ""),
     (
         "text",
-        PRINTED.len() - 1,
+        PROGRAM_HEADER_PRINTED.len() - 1,
         true,
         100,
         1,
         "cannot write output\n",
     ),
-    ("text", PRINTED.len() - 1, true, 0, 1, ""),
+    ("text", PROGRAM_HEADER_PRINTED.len() - 1, true, 0, 1, ""),
     ("text", 0, true, 100, 1, "cannot write output\n"),
     ("text", 0, true, 0, 1, ""),
-    ("show", 0, true, 100, 2, USAGE),
+    ("show", 0, true, 100, 2, PROGRAM_USAGE),
     ("show", 0, true, 0, 2, ""),
     (
         "text",
-        PRINTED.len(),
+        PROGRAM_HEADER_PRINTED.len(),
         false,
         100,
         1,
@@ -174,9 +179,9 @@ static UNWRITABLE: [(&str, usize, bool, usize, u8, &str); 9] = [
 /// the status as it is. What is written whole, and isn't handed on, is a fault.
 #[test]
 fn output_that_cannot_be_written(rt: HostRuntime) -> Result<(), Fail> {
-    for (word, room, hands_on, faults_room, status, said) in &UNWRITABLE {
-        let output = with_room(rt.alloc(), *room, *hands_on);
-        let ran = run_into(rt.alloc(), word, output, *faults_room)?;
+    for (word, room, hands_on, faults_room, status, said) in &UNWRITABLE_RUNS {
+        let output = output_with_room(rt.alloc(), *room, *hands_on);
+        let ran = run_program_into(rt.alloc(), word, output, *faults_room)?;
         let is_whole = *status == 0 || !*hands_on;
         assert!(rt;
             is_whole_or_told(&ran, is_whole, *status, said),

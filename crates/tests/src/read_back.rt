@@ -1,6 +1,6 @@
 //! What is printed and read again: whether it is the same, and what a text would lose.
 
-use crate::texts::{CALL, FOUR_SECTIONS, OFFER, OPUS, OWN_OFFER, read};
+use crate::texts::{CALL_TEXT, FOUR_SECTIONS_TEXT, OFFER_TEXT, OPUS_TEXT, OWN_OFFER_TEXT, read};
 use exchange::is_read_back;
 use std::alloc::{AllocError, Global};
 use std::test::Fail;
@@ -8,16 +8,16 @@ use str0m_signal::{Sdp, SdpError, SdpOffer};
 use uses::checked;
 
 /// Whether the text is read as this offer.
-fn is_read_as(alloc: Global, text: &str, offer: &SdpOffer) -> Result<bool, SdpError> {
+fn is_read_back_as(alloc: Global, text: &str, offer: &SdpOffer) -> Result<bool, SdpError> {
     let again = SdpOffer::from_sdp_string(alloc, text)?;
     Ok(again == *offer)
 }
 
 /// Whether an offer that is printed and read is itself.
-fn is_itself(alloc: Global) -> Result<bool, SdpError> {
-    let offer = SdpOffer::from_sdp_string(alloc, OPUS)?;
+fn is_itself_read_back(alloc: Global) -> Result<bool, SdpError> {
+    let offer = SdpOffer::from_sdp_string(alloc, OPUS_TEXT)?;
     let text = offer.to_sdp_string()?;
-    is_read_as(alloc, text.as_str(), &offer)
+    is_read_back_as(alloc, text.as_str(), &offer)
 }
 
 /// Whether what a description prints is read back, and whether it is with a letter behind it.
@@ -30,10 +30,10 @@ fn printed_back(alloc: Global, said: &Sdp) -> Result<(bool, bool), AllocError> {
 
 #[test]
 fn what_is_printed_is_read_back(rt: HostRuntime) -> Result<(), Fail> {
-    assert!(rt; is_itself(rt.alloc())?);
-    let call = read(rt.alloc(), CALL)?;
+    assert!(rt; is_itself_read_back(rt.alloc())?);
+    let call = read(rt.alloc(), CALL_TEXT)?;
     assert_eq!(rt; printed_back(rt.alloc(), &call)?, (true, false));
-    for other in &["", FOUR_SECTIONS] {
+    for other in &["", FOUR_SECTIONS_TEXT] {
         assert!(rt; !is_read_back(rt.alloc(), &call, other)?);
     }
     Ok(())
@@ -41,10 +41,10 @@ fn what_is_printed_is_read_back(rt: HostRuntime) -> Result<(), Fail> {
 
 /// A text, what stands behind it, whether it is consistent, and whether it is printed so. The first loses nothing and may be
 /// stored; the second would lose a line; the third contradicts itself, since it has no group.
-static CHECKED: [(&str, &str, bool, bool); 3] = [
-    (OWN_OFFER, "", true, true),
-    (OWN_OFFER, "x=1\r\n", true, false),
-    (OFFER, "", false, true),
+static CHECKED_READ_BACK: [(&str, &str, bool, bool); 3] = [
+    (OWN_OFFER_TEXT, "", true, true),
+    (OWN_OFFER_TEXT, "x=1\r\n", true, false),
+    (OFFER_TEXT, "", false, true),
 ];
 
 fn is_checked_so(
@@ -65,7 +65,7 @@ fn is_checked_so(
 
 #[test]
 fn what_a_text_would_lose_is_told(rt: HostRuntime) -> Result<(), Fail> {
-    for (text, rest, is_consistent, is_printed_so) in &CHECKED {
+    for (text, rest, is_consistent, is_printed_so) in &CHECKED_READ_BACK {
         let found = is_checked_so(rt.alloc(), text, rest, *is_consistent, *is_printed_so)?;
         assert!(rt; found, "{text}{rest}");
     }

@@ -1,20 +1,20 @@
 //! Rounds that no text writes: a locked row that stands twice, hundreds of rows. Expected values were worked out by hand
 //! from the rules of docs/ROUNDS.md.
 
-use crate::rows::{DIRECTIONS, locked_count, opus, row_of};
+use crate::rows::{DIRECTIONS, locked_row_count, row_of, row_of_opus};
 use std::alloc::{AllocError, Global};
 use std::test::Fail;
 use str0m_formats::{Codec, CodecConfig, CodecSpec, FormatParams, PayloadParams};
 use str0m_values::{Direction, Frequency, Pt};
 
 /// VP8 at 110 with its RTX at 111.
-fn vp8() -> PayloadParams {
+fn vp8_for_round() -> PayloadParams {
     let types = (110, Some(111), None);
     row_of(Codec::Vp8, Frequency::NINETY_KHZ, None, types)
 }
 
 /// H264 at 96 with its RTX at 97, in packetization mode 1.
-fn h264() -> PayloadParams {
+fn h264_for_round() -> PayloadParams {
     let spec = CodecSpec {
         codec: Codec::H264,
         clock_rate: Frequency::NINETY_KHZ,
@@ -53,10 +53,10 @@ fn round(
 }
 
 /// A configuration in which a row of H264 that a round has locked stands twice.
-fn doubled(alloc: Global) -> Result<CodecConfig, AllocError> {
-    let rows = Vec::from_slice(alloc, &[h264(), vp8()])?;
+fn doubled_rows(alloc: Global) -> Result<CodecConfig, AllocError> {
+    let rows = Vec::from_slice(alloc, &[h264_for_round(), vp8_for_round()])?;
     let mut config = CodecConfig::new_from_payload_params(alloc, rows);
-    let _ = round(alloc, &mut config, &[h264()], Direction::RecvOnly)?;
+    let _ = round(alloc, &mut config, &[h264_for_round()], Direction::RecvOnly)?;
     let locked = config.params().first().copied();
     match (locked, config.last_mut()) {
         (Some(locked), Some(last)) => *last = locked,
@@ -93,7 +93,7 @@ fn is_round_refused(
 
 #[test]
 fn a_locked_type_that_stands_twice_refuses_every_round(rt: HostRuntime) -> Result<(), Fail> {
-    let mut config = doubled(rt.alloc())?;
+    let mut config = doubled_rows(rt.alloc())?;
     for direction in &DIRECTIONS {
         let is_round_refused = is_round_refused(rt.alloc(), &mut config, *direction)?;
         assert!(rt; is_round_refused, "{direction:?}");
@@ -102,31 +102,31 @@ fn a_locked_type_that_stands_twice_refuses_every_round(rt: HostRuntime) -> Resul
 }
 
 /// So many rows that nothing matches, each at 96, and then a row of Opus.
-fn many(alloc: Global, count: usize, codec: Codec) -> Result<Vec<PayloadParams>, AllocError> {
+fn many_rows(alloc: Global, count: usize, codec: Codec) -> Result<Vec<PayloadParams>, AllocError> {
     let mut rows = Vec::new(alloc);
     for _ in 0..count {
         let one = row_of(codec, Frequency::EIGHT_KHZ, None, (96, None, None));
         rows.extend_from_slice(&[one])?;
     }
-    rows.extend_from_slice(&[opus(2, (111, None, None))])?;
+    rows.extend_from_slice(&[row_of_opus(2, (111, None, None))])?;
     Ok(rows)
 }
 
 /// Whether the last row is locked, and no other.
 fn is_last_alone_locked(rows: &[PayloadParams]) -> bool {
-    locked_count(rows) == 1 && rows.last().is_some_and(|row| row.locked())
+    locked_row_count(rows) == 1 && rows.last().is_some_and(|row| row.locked())
 }
 
 /// The configuration of 499 rows that nothing matches and a row of Opus.
-fn five_hundred(alloc: Global) -> Result<CodecConfig, AllocError> {
-    let own = many(alloc, 499, Codec::PCMU)?;
+fn five_hundred_rows(alloc: Global) -> Result<CodecConfig, AllocError> {
+    let own = many_rows(alloc, 499, Codec::PCMU)?;
     Ok(CodecConfig::new_from_payload_params(alloc, own))
 }
 
 /// Whether the last row of each side meets the other, and no other does.
 fn do_last_rows_meet(alloc: Global) -> Result<bool, AllocError> {
-    let mut config = five_hundred(alloc)?;
-    let remote = many(alloc, 499, Codec::PCMA)?;
+    let mut config = five_hundred_rows(alloc)?;
+    let remote = many_rows(alloc, 499, Codec::PCMA)?;
     let found = round(alloc, &mut config, remote.as_slice(), Direction::RecvOnly)?;
     Ok(found.as_str() == "ok" && is_last_alone_locked(config.params()))
 }

@@ -6,7 +6,7 @@ use str0m_formats::{Codec, CodecConfig, CodecSpec, FormatParams, PayloadParams};
 use str0m_values::{Direction, Frequency, Pt};
 
 /// The types of a row: primary, RTX, RED.
-pub(crate) type Types = (u8, Option<u8>, Option<u8>);
+pub(crate) type TypesOfRow = (u8, Option<u8>, Option<u8>);
 
 /// What a side may describe.
 pub(crate) static DIRECTIONS: [Direction; 4] = [
@@ -16,7 +16,7 @@ pub(crate) static DIRECTIONS: [Direction; 4] = [
     Direction::Inactive,
 ];
 
-fn type_of(number: Option<u8>) -> Option<Pt> {
+fn row_type_of(number: Option<u8>) -> Option<Pt> {
     match number {
         None => None,
         Some(number) => Some(Pt::from(number)),
@@ -28,7 +28,7 @@ pub(crate) fn row_of(
     codec: Codec,
     clock_rate: Frequency,
     channels: Option<u8>,
-    (pt, resend, red): Types,
+    (pt, resend, red): TypesOfRow,
 ) -> PayloadParams {
     let spec = CodecSpec {
         codec,
@@ -36,11 +36,11 @@ pub(crate) fn row_of(
         channels,
         format: FormatParams::default(),
     };
-    PayloadParams::new(Pt::from(pt), type_of(resend), spec).with_red(type_of(red))
+    PayloadParams::new(Pt::from(pt), row_type_of(resend), spec).with_red(row_type_of(red))
 }
 
 /// Opus with so many channels: rows with other channels don't match it.
-pub(crate) fn opus(channels: u8, types: Types) -> PayloadParams {
+pub(crate) fn row_of_opus(channels: u8, types: TypesOfRow) -> PayloadParams {
     row_of(
         Codec::Opus,
         Frequency::FORTY_EIGHT_KHZ,
@@ -50,7 +50,7 @@ pub(crate) fn opus(channels: u8, types: Types) -> PayloadParams {
 }
 
 /// How many rows are locked.
-pub(crate) fn locked_count(rows: &[PayloadParams]) -> usize {
+pub(crate) fn locked_row_count(rows: &[PayloadParams]) -> usize {
     rows.iter().filter(|row| row.locked()).count()
 }
 
@@ -63,7 +63,7 @@ pub(crate) fn is_opus_at_109(rows: &[PayloadParams]) -> bool {
 }
 
 /// How many rows are asked before the first that carries video is found, and its type.
-fn asked(alloc: Global) -> Result<(usize, Option<u8>), AllocError> {
+fn rows_asked(alloc: Global) -> Result<(usize, Option<u8>), AllocError> {
     let config = CodecConfig::new_with_defaults(alloc)?;
     let mut count: usize = 0;
     let found = config.find(|row| {
@@ -76,7 +76,7 @@ fn asked(alloc: Global) -> Result<(usize, Option<u8>), AllocError> {
 
 #[test]
 fn no_row_is_asked_after_the_first_accepted_one(rt: HostRuntime) -> Result<(), Fail> {
-    let found = asked(rt.alloc())?;
+    let found = rows_asked(rt.alloc())?;
     assert_eq!(rt; found, (2, Some(96)));
     Ok(())
 }

@@ -11,7 +11,7 @@ fn do_types_begin_as_audio_over_rtp() -> bool {
 }
 
 /// Whether the source has the number 0, and nothing else is said of it.
-fn is_unknown(info: &SsrcInfo) -> bool {
+fn is_source_info_unknown(info: &SsrcInfo) -> bool {
     info.ssrc == Ssrc::from(0)
         && info.repairs.is_none()
         && info.cname.is_none()
@@ -25,7 +25,7 @@ fn is_info_copied(info: &SsrcInfo) -> Result<bool, AllocError> {
 }
 
 /// Whether the section is one of audio over RTP, without a bandwidth.
-fn is_enabled(section: &MediaLine) -> bool {
+fn is_section_enabled(section: &MediaLine) -> bool {
     section.typ == MediaType::Audio
         && section.proto == Proto::Srtp
         && !section.disabled
@@ -33,7 +33,7 @@ fn is_enabled(section: &MediaLine) -> bool {
 }
 
 /// Whether the section lists no types, and says nothing of itself.
-fn is_empty(section: &MediaLine) -> bool {
+fn is_section_empty(section: &MediaLine) -> bool {
     section.pts.is_empty()
         && section.attrs.is_empty()
         && !section.has_mid()
@@ -44,12 +44,12 @@ fn is_empty(section: &MediaLine) -> bool {
 /// Whether nothing is known of a source in the beginning; its copy is the same.
 fn is_source_unknown() -> Result<bool, AllocError> {
     let info = SsrcInfo::default();
-    Ok(is_unknown(&info) && is_info_copied(&info)?)
+    Ok(is_source_info_unknown(&info) && is_info_copied(&info)?)
 }
 
 fn is_new_section_empty(alloc: Global) -> bool {
     let section = MediaLine::new(alloc);
-    is_enabled(&section) && is_empty(&section)
+    is_section_enabled(&section) && is_section_empty(&section)
 }
 
 fn is_empty_restriction_active(alloc: Global) -> bool {

@@ -1,13 +1,13 @@
 //! Credentials, fingerprints and roles: copied, compared and printed as no line says them, and what is in force at a section.
 
-use crate::texts::{FOUR_SECTIONS, prints, read};
+use crate::texts::{FOUR_SECTIONS_TEXT, prints_text, read};
 use exchange::{creds_at, fingerprint_at, setup_at};
 use std::alloc::{AllocError, Global};
 use std::test::Fail;
 use str0m_signal::{Sdp, Setup};
 use str0m_values::{Fingerprint, FingerprintError, FingerprintFmt, IceCreds, Items, Text};
 
-fn is_pair_copied(creds: &IceCreds) -> Result<bool, AllocError> {
+fn is_credential_pair_copied(creds: &IceCreds) -> Result<bool, AllocError> {
     let copy = creds.clone()?;
     Ok(copy == *creds && copy.pass.as_str() == "p")
 }
@@ -17,7 +17,7 @@ fn are_credentials_copied(alloc: Global) -> Result<bool, AllocError> {
         ufrag: Text::from_str(alloc, "u")?,
         pass: Text::from_str(alloc, "p")?,
     };
-    is_pair_copied(&creds)
+    is_credential_pair_copied(&creds)
 }
 
 fn fingerprint(alloc: Global, bytes: &[u8]) -> Result<Fingerprint, AllocError> {
@@ -27,7 +27,11 @@ fn fingerprint(alloc: Global, bytes: &[u8]) -> Result<Fingerprint, AllocError> {
 }
 
 /// Whether the fingerprint is the one that is made of these bytes.
-fn has_bytes(alloc: Global, read: &Fingerprint, bytes: &[u8]) -> Result<bool, AllocError> {
+fn has_fingerprint_bytes(
+    alloc: Global,
+    read: &Fingerprint,
+    bytes: &[u8],
+) -> Result<bool, AllocError> {
     let made = fingerprint(alloc, bytes)?;
     Ok(*read == made)
 }
@@ -38,31 +42,38 @@ fn is_fingerprint_copied(read: &Fingerprint) -> Result<bool, AllocError> {
 }
 
 /// Whether the fingerprint equals its copy, the one of its bytes, and one of other bytes.
-fn equals(alloc: Global, read: &Fingerprint) -> Result<(bool, bool, bool), AllocError> {
+fn is_fingerprint_equal(
+    alloc: Global,
+    read: &Fingerprint,
+) -> Result<(bool, bool, bool), AllocError> {
     let copy = is_fingerprint_copied(read)?;
-    let made = has_bytes(alloc, read, &[9, 10, 17])?;
-    Ok((copy, made, has_bytes(alloc, read, &[9, 10, 18])?))
+    let made = has_fingerprint_bytes(alloc, read, &[9, 10, 17])?;
+    Ok((
+        copy,
+        made,
+        has_fingerprint_bytes(alloc, read, &[9, 10, 18])?,
+    ))
 }
 
 fn fingerprint_equals(alloc: Global) -> Result<(bool, bool, bool), FingerprintError> {
     let read = Fingerprint::from_str(alloc, "foo 09:0A:11")?;
-    Ok(equals(alloc, &read)?)
+    Ok(is_fingerprint_equal(alloc, &read)?)
 }
 
 /// No text is read as a fingerprint of no bytes.
-fn is_bare_printed(alloc: Global) -> Result<bool, AllocError> {
+fn is_bare_fingerprint_printed(alloc: Global) -> Result<bool, AllocError> {
     let bare = fingerprint(alloc, &[])?;
-    prints(alloc, &bare, "foo ")
+    prints_text(alloc, &bare, "foo ")
 }
 
 #[test]
 fn values_of_the_transport_are_copied_compared_and_printed(rt: HostRuntime) -> Result<(), Fail> {
     assert!(rt; are_credentials_copied(rt.alloc())?);
     assert_eq!(rt; fingerprint_equals(rt.alloc())?, (true, true, false));
-    assert!(rt; is_bare_printed(rt.alloc())?);
-    assert!(rt; prints(rt.alloc(), &FingerprintFmt(&[]), "")?);
-    assert!(rt; prints(rt.alloc(), &FingerprintFmt(&[0, 255]), "00:FF")?);
-    assert!(rt; prints(rt.alloc(), &FingerprintError::Memory, "out of memory")?);
+    assert!(rt; is_bare_fingerprint_printed(rt.alloc())?);
+    assert!(rt; prints_text(rt.alloc(), &FingerprintFmt(&[]), "")?);
+    assert!(rt; prints_text(rt.alloc(), &FingerprintFmt(&[0, 255]), "00:FF")?);
+    assert!(rt; prints_text(rt.alloc(), &FingerprintError::Memory, "out of memory")?);
     Ok(())
 }
 
@@ -73,7 +84,7 @@ fn are_roles_in_force(offer: &Sdp) -> bool {
 }
 
 /// Whether the credentials are this user's fragment with the password of the session.
-fn is_of_user(creds: &Option<IceCreds>, ufrag: &str) -> bool {
+fn are_credentials_of_user(creds: &Option<IceCreds>, ufrag: &str) -> bool {
     match creds {
         Some(found) => {
             found.ufrag.as_str() == ufrag && found.pass.as_str() == "session-password-of-22"
@@ -84,8 +95,8 @@ fn is_of_user(creds: &Option<IceCreds>, ufrag: &str) -> bool {
 
 /// Each credential is that of the section before that of the session.
 fn are_credentials_in_force(offer: &Sdp) -> Result<bool, AllocError> {
-    let own = is_of_user(&creds_at(offer, 0)?, "own1");
-    let theirs = is_of_user(&creds_at(offer, 1)?, "sess");
+    let own = are_credentials_of_user(&creds_at(offer, 0)?, "own1");
+    let theirs = are_credentials_of_user(&creds_at(offer, 1)?, "sess");
     Ok(own && theirs && creds_at(offer, 4)?.is_none())
 }
 
@@ -99,7 +110,7 @@ fn is_hash_in_force(offer: &Sdp, at: usize, hash: &str) -> Result<bool, AllocErr
 
 #[test]
 fn what_a_section_says_comes_before_the_session(rt: HostRuntime) -> Result<(), Fail> {
-    let offer = read(rt.alloc(), FOUR_SECTIONS)?;
+    let offer = read(rt.alloc(), FOUR_SECTIONS_TEXT)?;
     assert!(rt; are_roles_in_force(&offer));
     assert!(rt; are_credentials_in_force(&offer)?);
     assert!(rt; is_hash_in_force(&offer, 2, "sha-256")?);

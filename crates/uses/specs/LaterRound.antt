@@ -9,25 +9,25 @@ use Rattle.str0m_signal.specs.session.ReaderAnswers.{Refuses}
 use Rattle.uses.specs.declared.call_error.CallError.{CallError}
 use Rattle.uses.specs.declared.call_error.CallError.TheVariants.{NotRead, Refused, Memory}
 
-abbrev pub refusal : Outcome → Option NegotiationError
-refusal (Ok done) = None
-refusal (Err cause) = Some cause
+abbrev pub round_refusal : Outcome → Option NegotiationError
+round_refusal (Ok done) = None
+round_refusal (Err cause) = Some cause
 
 -- the first of the outcomes that is a refusal has this cause; None where none is
-abbrev pub IsFirstRefusal : List Outcome → Option NegotiationError → Type 0
-IsFirstRefusal outcomes refused = MatchOption refused
-    ((k : ℕ) (outcome : Outcome) → slice_get outcomes k ≡ Some outcome → refusal outcome ≡ None)
+abbrev pub IsFirstRoundRefusal : List Outcome → Option NegotiationError → Type 0
+IsFirstRoundRefusal outcomes refused = MatchOption refused
+    ((k : ℕ) (outcome : Outcome) → slice_get outcomes k ≡ Some outcome → round_refusal outcome ≡ None)
     (λ cause. (i : ℕ) × (slice_get outcomes i ≡ Some (Err cause))
-    × ((k : ℕ) (outcome : Outcome) → k < i → slice_get outcomes k ≡ Some outcome → refusal outcome ≡ None))
+    × ((k : ℕ) (outcome : Outcome) → k < i → slice_get outcomes k ≡ Some outcome → round_refusal outcome ≡ None))
 
 -- the text's rounds lead from the rows before them to the rows after them, and this is the first refusal among them
-abbrev pub NegotiatesUntil : List ℕ → List PayloadParams → Option NegotiationError → List PayloadParams → Type 0
-NegotiatesUntil text before refused after =
-    (outcomes : List Outcome) × NegotiatedText text before outcomes after × IsFirstRefusal outcomes refused
+abbrev pub NegotiatesRoundsUntil : List ℕ → List PayloadParams → Option NegotiationError → List PayloadParams → Type 0
+NegotiatesRoundsUntil text before refused after =
+    (outcomes : List Outcome) × NegotiatedText text before outcomes after × IsFirstRoundRefusal outcomes refused
 
 -- Ok where no round was refused, else the first refusal; what isn't read changes nothing
-abbrev pub ComesTo : List ℕ → List PayloadParams → Result (Unit {0}) CallError → List PayloadParams → Type 0
-ComesTo text before (Ok done) after = NegotiatesUntil text before None after
-ComesTo text before (Err (Refused cause)) after = NegotiatesUntil text before (Some cause) after
-ComesTo text before (Err (NotRead error)) after = Refuses error (Described text) × (after ≡ before)
-ComesTo text before (Err Memory) after = ⊥
+abbrev pub ComesToRound : List ℕ → List PayloadParams → Result (Unit {0}) CallError → List PayloadParams → Type 0
+ComesToRound text before (Ok done) after = NegotiatesRoundsUntil text before None after
+ComesToRound text before (Err (Refused cause)) after = NegotiatesRoundsUntil text before (Some cause) after
+ComesToRound text before (Err (NotRead error)) after = Refuses error (Described text) × (after ≡ before)
+ComesToRound text before (Err Memory) after = ⊥

@@ -57,7 +57,10 @@ pub(crate) fn printable_section(
 }
 
 /// The locked rows of what sections of this type carry.
-fn rows_of_type(config: &CodecConfig, typ: &MediaType) -> Result<Vec<PayloadParams>, AllocError>
+fn answer_rows_of_type(
+    config: &CodecConfig,
+    typ: &MediaType,
+) -> Result<Vec<PayloadParams>, AllocError>
     ensures rows { IfOk result (λ rows. rows.items ≡ agreed_of_type typ.now config.now.params.items) }
     ensures printable { MayBePrinted config.now.params.items → IfOk result (λ rows. rows.items ≢ [] → MayBePrinted rows.items) }
 {
@@ -69,18 +72,22 @@ fn rows_of_type(config: &CodecConfig, typ: &MediaType) -> Result<Vec<PayloadPara
 }
 
 /// The locked rows of what the section at `at` carries; none where there is no such section.
-fn agreed_rows(config: &CodecConfig, own: &Sdp, at: usize) -> Result<Vec<PayloadParams>, AllocError>
+fn agreed_answer_rows(
+    config: &CodecConfig,
+    own: &Sdp,
+    at: usize,
+) -> Result<Vec<PayloadParams>, AllocError>
     ensures agreed { IfOk result (λ rows. rows.items ≡ agreed own.now at config.now.params.items) }
     ensures printable { MayBePrinted config.now.params.items → IfOk result (λ rows. rows.items ≢ [] → MayBePrinted rows.items) }
 {
     match own.media_lines.get(at) {
-        Some(section) => rows_of_type(config, &section.typ),
+        Some(section) => answer_rows_of_type(config, &section.typ),
         None => Ok(Vec::new(*config.allocator())),
     }
 }
 
 /// That section with the rows of its kind that are locked; `None` where none is, too.
-fn locked_section(
+fn locked_answer_section(
     config: &CodecConfig,
     own: &Sdp,
     at: usize,
@@ -94,7 +101,7 @@ fn locked_section(
     ensures none { IfOk result (λ found. found ≡ None → Writable own.now at → agreed own.now at config.now.params.items ≡ []) }
     ensures some { IfOk result (λ found. IfSome found (λ _. Writable own.now at × (agreed own.now at config.now.params.items ≢ []))) }
 {
-    let rows = agreed_rows(config, own, at)?;
+    let rows = agreed_answer_rows(config, own, at)?;
     if rows.is_empty() {
         return Ok(None);
     }
@@ -140,7 +147,7 @@ pub fn answer_section(
     ensures some { IfOk result (λ answer. IfSome answer (λ _. Writable own at × (agreed own at config.new.params.items ≢ []))) }
 {
     negotiate_text(config, offer)?;
-    match locked_section(config, &own, at)? {
+    match locked_answer_section(config, &own, at)? {
         Some(section) => Ok(Some(with_section(own, at, section)?)),
         None => Ok(None),
     }

@@ -3,14 +3,14 @@
 ghost use Rattle.std.specs.Prelude.{◌≡◌};
 ghost use Rattle.str0m_formats.specs.round.RoundsPromises.{LockedStay};
 ghost use Rattle.str0m_signal.specs.back.ReadBack.{MayBePrinted};
-ghost use Rattle.uses.specs.LaterRound.{ComesTo, IsFirstRefusal, refusal};
+ghost use Rattle.uses.specs.LaterRound.{ComesToRound, IsFirstRoundRefusal, round_refusal};
 
 use crate::call_error::CallError;
 use str0m_signal::{CodecConfig, NegotiationError, negotiate_text};
 
 /// The cause of a round that was refused.
-fn refusal(outcome: &Result<(), NegotiationError>) -> Option<NegotiationError>
-    ensures { result ≡ refusal outcome.now }
+fn round_refusal(outcome: &Result<(), NegotiationError>) -> Option<NegotiationError>
+    ensures { result ≡ round_refusal outcome.now }
 {
     match outcome {
         Ok(()) => None,
@@ -18,10 +18,10 @@ fn refusal(outcome: &Result<(), NegotiationError>) -> Option<NegotiationError>
     }
 }
 
-fn first_refusal(outcomes: &[Result<(), NegotiationError>]) -> Option<NegotiationError>
-    ensures { IsFirstRefusal outcomes.now result }
+fn first_round_refusal(outcomes: &[Result<(), NegotiationError>]) -> Option<NegotiationError>
+    ensures { IsFirstRoundRefusal outcomes.now result }
 {
-    outcomes.iter().find_map(|outcome| refusal(outcome))
+    outcomes.iter().find_map(|outcome| round_refusal(outcome))
 }
 
 /// Negotiates with a later offer. `Ok` where every round was accepted; else the error is the first
@@ -34,13 +34,13 @@ fn first_refusal(outcomes: &[Result<(), NegotiationError>]) -> Option<Negotiatio
 /// has run then, and nothing has changed. `Refused` with the cause of the first round that was
 /// refused, which may be out of memory.
 pub fn negotiate_again(config: &mut CodecConfig, offer: &str) -> Result<(), CallError>
-    ensures outcome { ComesTo offer.now config.old.params.items result config.new.params.items }
+    ensures outcome { ComesToRound offer.now config.old.params.items result config.new.params.items }
     ensures else_same { config.new ≡ record config.old { params = config.new.params } }
     ensures stay { LockedStay config.old.params.items config.new.params.items }
     ensures printable { MayBePrinted config.old.params.items → MayBePrinted config.new.params.items }
 {
     let outcomes = negotiate_text(config, offer)?;
-    match first_refusal(outcomes.as_slice()) {
+    match first_round_refusal(outcomes.as_slice()) {
         Some(cause) => Err(CallError::Refused(cause)),
         None => Ok(()),
     }

@@ -10,7 +10,7 @@ use std::alloc::{AllocError, Global};
 use str0m_signal::{PayloadParams, Sdp, SdpError, SdpOffer};
 
 /// The rows of the section at `at`, where there is one.
-fn rows_at(sdp: &Sdp, at: usize) -> Result<Option<Vec<PayloadParams>>, AllocError>
+fn offered_rows_at(sdp: &Sdp, at: usize) -> Result<Option<Vec<PayloadParams>>, AllocError>
     ensures { IfOk result (λ found. MatchOption found
         (slice_get sdp.now.media_lines at ≡ None)
         (λ theirs. (section : MediaLine) × (slice_get sdp.now.media_lines at ≡ Some section) × (theirs.items ≡ rows section))) }
@@ -39,6 +39,6 @@ pub fn offered_rows(
     ensures refused { IfErr result (λ error. Refuses error (Described text.now)) }
 {
     let offer = SdpOffer::from_sdp_string(alloc, text)?;
-    let rows = rows_at(&offer, at)?;
+    let rows = offered_rows_at(&offer, at)?;
     Ok((offer, rows))
 }

@@ -2,8 +2,8 @@
 use Rattle.exchange.proofs.Common.{arith, append_assoc, ◌≡◌, ◌++◌, List, [], ◌∷◌, MediaAttribute}
 
 -- one, and four lists behind it
-pub five_behind : (old first second third fourth all cands again msid layers : List MediaAttribute) (line : MediaAttribute)
+pub accepted_five_behind : (old first second third fourth all cands again msid layers : List MediaAttribute) (line : MediaAttribute)
     → first ≡ old ++ line ∷ []
     → second ≡ first ++ cands → third ≡ second ++ again → fourth ≡ third ++ msid → all ≡ fourth ++ layers
     → all ≡ old ++ (line ∷ [] ++ cands ++ again ++ msid ++ layers)
-five_behind old first second third fourth all cands again msid layers line a b c d e = grind (arith, append_assoc)
+accepted_five_behind old first second third fourth all cands again msid layers line a b c d e = grind (arith, append_assoc)

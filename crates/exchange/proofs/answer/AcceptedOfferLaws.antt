@@ -6,16 +6,18 @@ use Rattle.exchange.proofs.Common.{AllZip, cons_option, flat_map, list_any, ◌&
 use Rattle.exchange.proofs.Common.{direction_attribute, MediaAttribute, Proto, Srtp, Sctp, Setup, SimulcastLayer, EXTMAP_ALLOW_MIXED, FIR}
 use Rattle.exchange.proofs.Common.{NACK, PLI, REMB, TRANSPORT_CC, MediaLine, Sdp, is_mid, maps, is_of_type, made, feedback_attrs}
 use Rattle.exchange.proofs.Common.{feedback_line, fmtp_line, format_attrs, format_values, red_attrs, red_lines, row_attrs, rtx_attrs}
-use Rattle.exchange.proofs.Common.{rtx_lines, AreDistinct, section_mids, receives, Candidate, Direction}
-use Rattle.exchange.proofs.offer.OfferNameLaws.{Differ, Other, differ_from}
+use Rattle.exchange.proofs.Common.{rtx_lines, AreMidsDistinct, section_mids, receives, Candidate, Direction}
+use Rattle.exchange.proofs.offer.OfferNameLaws.{NamesDiffer, OtherName, name_differ_from}
 use Rattle.exchange.proofs.offer.RuleLaws.{sections_shape}
-use Rattle.exchange.specs.answer.Accepted.{are_layers_told, candidate_line, channel_lines, first_lines, framed, layer_lines, media_lines}
+use Rattle.exchange.specs.answer.Accepted.{are_layers_told, candidate_line, channel_lines, first_lines, accepted_frame, layer_lines}
+use Rattle.exchange.specs.answer.Accepted.{media_lines}
 use Rattle.exchange.specs.answer.Accepted.{msid_lines, track_id}
 use Rattle.exchange.specs.answer.AcceptedOffer.{section_tracks, track_of}
-use Rattle.exchange.specs.answer.AnsweredSection.{AnswersSection, SaysChoice}
-use Rattle.exchange.specs.answer.Layers.{answered_layers, answered_rid, answered_rids, is_left, is_named, layers_line, received_layers}
-use Rattle.exchange.specs.answer.Layers.{sent_layers, types_left}
-use Rattle.exchange.specs.answer.RejectedSection.{direction_over, first_type, line_that, rejecting}
+use Rattle.exchange.specs.answer.AnsweredSection.{AnswersSection, SaysSectionChoice}
+use Rattle.exchange.specs.answer.Layers.{answered_layers, answered_rid, answered_rids, is_rid_left, is_layer_named, layers_line}
+use Rattle.exchange.specs.answer.Layers.{received_layers}
+use Rattle.exchange.specs.answer.Layers.{sent_layers, rid_types_left}
+use Rattle.exchange.specs.answer.RejectedSection.{direction_over, first_rejected_type, first_rejected_line, rejecting}
 use Rattle.exchange.specs.declared.answer.choice.Choice.{Choice}
 use Rattle.exchange.specs.declared.answer.choice.Choice.TheVariants.{Rejected, Media, Channels}
 use Rattle.exchange.specs.declared.state.own_side.DataChannels.{DataChannels}
@@ -27,104 +29,110 @@ use Rattle.str0m_sdp.specs.declared.attribute.MediaAttribute.TheVariants as medi
 use Rattle.str0m_values.specs.declared.direction.Direction.TheVariants as way
 
 -- lines that say no track
-abbrev Trackless : List MediaAttribute → Type 0
-Trackless lines = filter_map track_of lines ≡ []
+abbrev AreAnswerLinesTrackless : List MediaAttribute → Type 0
+AreAnswerLinesTrackless lines = filter_map track_of lines ≡ []
 
-trackless_both : (xs ys : List MediaAttribute) → Trackless xs → Trackless ys → Trackless (xs ++ ys)
-trackless_both xs ys x y = filter_map-append track_of xs ys ∙ ap (λ (found : List (List ℕ)). found ++ filter_map track_of ys) x ∙ y
+answer_trackless_both : (xs ys : List MediaAttribute) → AreAnswerLinesTrackless xs → AreAnswerLinesTrackless ys
+    → AreAnswerLinesTrackless (xs ++ ys)
+answer_trackless_both xs ys x y = filter_map-append track_of xs ys ∙ ap (λ (found : List (List ℕ)). found ++ filter_map track_of ys) x ∙ y
 
 -- ---- of rows
 
-feedback_trackless : (pt : ℕ) (value : List ℕ) (b : Bool) → Trackless (feedback_line pt value b)
-feedback_trackless pt value true = refl
-feedback_trackless pt value false = refl
+answer_feedback_trackless : (pt : ℕ) (value : List ℕ) (b : Bool) → AreAnswerLinesTrackless (feedback_line pt value b)
+answer_feedback_trackless pt value true = refl
+answer_feedback_trackless pt value false = refl
 
-fmtp_trackless : (pt : ℕ) (values : List FormatParam) → Trackless (fmtp_line pt values)
-fmtp_trackless pt [] = refl
-fmtp_trackless pt (value ∷ values) = refl
+answer_fmtp_trackless : (pt : ℕ) (values : List FormatParam) → AreAnswerLinesTrackless (fmtp_line pt values)
+answer_fmtp_trackless pt [] = refl
+answer_fmtp_trackless pt (value ∷ values) = refl
 
-rtx_trackless : (row : PayloadParams) (pt : Option ℕ) → Trackless (rtx_lines row pt)
+rtx_trackless : (row : PayloadParams) (pt : Option ℕ) → AreAnswerLinesTrackless (rtx_lines row pt)
 rtx_trackless row None = refl
 rtx_trackless row (Some pt) = refl
 
-red_trackless : (row : PayloadParams) (pt : Option ℕ) → Trackless (red_lines row pt)
-red_trackless row None = refl
-red_trackless row (Some pt) = refl
+answer_red_trackless : (row : PayloadParams) (pt : Option ℕ) → AreAnswerLinesTrackless (red_lines row pt)
+answer_red_trackless row None = refl
+answer_red_trackless row (Some pt) = refl
 
-feedbacks_trackless : (row : PayloadParams) → Trackless (feedback_attrs row)
-feedbacks_trackless row =
+answer_feedbacks_trackless : (row : PayloadParams) → AreAnswerLinesTrackless (feedback_attrs row)
+answer_feedbacks_trackless row =
     let cc_line : List MediaAttribute = feedback_line row.pt TRANSPORT_CC.now row.fb_transport_cc in
     let remb : List MediaAttribute = feedback_line row.pt REMB.now row.fb_remb in
     let fir : List MediaAttribute = feedback_line row.pt FIR.now row.fb_fir in
     let nack : List MediaAttribute = feedback_line row.pt NACK.now row.fb_nack in
     let pli : List MediaAttribute = feedback_line row.pt PLI.now row.fb_pli in
-    trackless_both cc_line (remb ++ (fir ++ (nack ++ pli))) (feedback_trackless row.pt TRANSPORT_CC.now row.fb_transport_cc)
-    (trackless_both remb (fir ++ (nack ++ pli)) (feedback_trackless row.pt REMB.now row.fb_remb)
-    (trackless_both fir (nack ++ pli) (feedback_trackless row.pt FIR.now row.fb_fir)
-    (trackless_both nack pli (feedback_trackless row.pt NACK.now row.fb_nack) (feedback_trackless row.pt PLI.now row.fb_pli))))
+    answer_trackless_both cc_line (remb ++ (fir ++ (nack ++ pli))) (answer_feedback_trackless row.pt TRANSPORT_CC.now row.fb_transport_cc)
+    (answer_trackless_both remb (fir ++ (nack ++ pli)) (answer_feedback_trackless row.pt REMB.now row.fb_remb)
+    (answer_trackless_both fir (nack ++ pli) (answer_feedback_trackless row.pt FIR.now row.fb_fir)
+    (answer_trackless_both nack pli (answer_feedback_trackless row.pt NACK.now row.fb_nack)
+    (answer_feedback_trackless row.pt PLI.now row.fb_pli))))
 
-row_trackless : (row : PayloadParams) → Trackless (row_attrs row)
+row_trackless : (row : PayloadParams) → AreAnswerLinesTrackless (row_attrs row)
 row_trackless row =
-    trackless_both (feedback_attrs row) (format_attrs row ++ (rtx_attrs row ++ red_attrs row)) (feedbacks_trackless row)
-    (trackless_both (format_attrs row) (rtx_attrs row ++ red_attrs row)
-    (fmtp_trackless row.pt (format_values row.spec.codec row.spec.format))
-    (trackless_both (rtx_attrs row) (red_attrs row) (rtx_trackless row row.resend) (red_trackless row row.red)))
+    answer_trackless_both (feedback_attrs row) (format_attrs row ++ (rtx_attrs row ++ red_attrs row)) (answer_feedbacks_trackless row)
+    (answer_trackless_both (format_attrs row) (rtx_attrs row ++ red_attrs row)
+    (answer_fmtp_trackless row.pt (format_values row.spec.codec row.spec.format))
+    (answer_trackless_both (rtx_attrs row) (red_attrs row) (rtx_trackless row row.resend) (answer_red_trackless row row.red)))
 
-rows_trackless : (rows : List PayloadParams) → Trackless (flat_map row_attrs rows)
+rows_trackless : (rows : List PayloadParams) → AreAnswerLinesTrackless (flat_map row_attrs rows)
 rows_trackless [] = refl
-rows_trackless (row ∷ rows) = trackless_both (row_attrs row) (flat_map row_attrs rows) (row_trackless row) (rows_trackless rows)
+rows_trackless (row ∷ rows) = answer_trackless_both (row_attrs row) (flat_map row_attrs rows) (row_trackless row) (rows_trackless rows)
 
 -- ---- of frames
 
-candidates_trackless : (candidates : List Candidate) → Trackless (map candidate_line candidates)
+candidates_trackless : (candidates : List Candidate) → AreAnswerLinesTrackless (map candidate_line candidates)
 candidates_trackless [] = refl
 candidates_trackless (candidate ∷ candidates) = candidates_trackless candidates
 
-direction_trackless : (direction : Direction) → Trackless (direction_attribute direction ∷ [])
+direction_trackless : (direction : Direction) → AreAnswerLinesTrackless (direction_attribute direction ∷ [])
 direction_trackless way.SendRecv = refl
 direction_trackless way.SendOnly = refl
 direction_trackless way.RecvOnly = refl
 direction_trackless way.Inactive = refl
 
-repeated_trackless : (known : List (List ℕ)) (attrs : List MediaAttribute) → Trackless (filter (is_repeated known) attrs)
-repeated_trackless known [] = refl
-repeated_trackless known (media.RtcpMux ∷ attrs) = repeated_trackless known attrs
-repeated_trackless known (media.RtcpRsize ∷ attrs) = repeated_trackless known attrs
-repeated_trackless known (media.ExtMap id ext ∷ attrs) = go (list_any (λ uri. bytes_eq uri ext.uri) known) (repeated_trackless known attrs)
+answer_repeated_trackless : (known : List (List ℕ)) (attrs : List MediaAttribute)
+    → AreAnswerLinesTrackless (filter (is_repeated known) attrs)
+answer_repeated_trackless known [] = refl
+answer_repeated_trackless known (media.RtcpMux ∷ attrs) = answer_repeated_trackless known attrs
+answer_repeated_trackless known (media.RtcpRsize ∷ attrs) = answer_repeated_trackless known attrs
+answer_repeated_trackless known (media.ExtMap id ext ∷ attrs) = go (list_any (λ uri. bytes_eq uri ext.uri) known)
+    (answer_repeated_trackless known attrs)
   where
-    go : (b : Bool) → Trackless (filter (is_repeated known) attrs)
-        → Trackless (cond b (media.ExtMap id ext ∷ filter (is_repeated known) attrs) (filter (is_repeated known) attrs))
+    go : (b : Bool) → AreAnswerLinesTrackless (filter (is_repeated known) attrs)
+        → AreAnswerLinesTrackless (cond b (media.ExtMap id ext ∷ filter (is_repeated known) attrs) (filter (is_repeated known) attrs))
     go true rec = rec
     go false rec = rec
-repeated_trackless known (media.Unused text ∷ attrs) = go (bytes_eq text EXTMAP_ALLOW_MIXED.now) (repeated_trackless known attrs) where
-  go : (b : Bool) → Trackless (filter (is_repeated known) attrs)
-      → Trackless (cond b (media.Unused text ∷ filter (is_repeated known) attrs) (filter (is_repeated known) attrs))
-  go true rec = rec
-  go false rec = rec
-repeated_trackless known (attr ∷ attrs) = repeated_trackless known attrs
-
-rids_trackless : (sent : List SimulcastLayer) (rows : List PayloadParams) (attrs : List MediaAttribute)
-    → Trackless (filter_map (answered_rid sent rows) attrs)
-rids_trackless sent rows [] = refl
-rids_trackless sent rows (media.Rid id direction pts restrictions ∷ attrs) =
-    go (bytes_eq direction (codes "send") && (list_any (is_named id.0) sent && is_left rows pts)) (rids_trackless sent rows attrs) where
-      go : (b : Bool) → Trackless (filter_map (answered_rid sent rows) attrs)
-          → Trackless (cons_option (cond b (Some (media.Rid id (codes "recv") (types_left rows pts) restrictions)) None)
-          (filter_map (answered_rid sent rows) attrs))
+answer_repeated_trackless known (media.Unused text ∷ attrs) = go (bytes_eq text EXTMAP_ALLOW_MIXED.now)
+    (answer_repeated_trackless known attrs) where
+      go : (b : Bool) → AreAnswerLinesTrackless (filter (is_repeated known) attrs)
+          → AreAnswerLinesTrackless (cond b (media.Unused text ∷ filter (is_repeated known) attrs) (filter (is_repeated known) attrs))
       go true rec = rec
       go false rec = rec
+answer_repeated_trackless known (attr ∷ attrs) = answer_repeated_trackless known attrs
+
+rids_trackless : (sent : List SimulcastLayer) (rows : List PayloadParams) (attrs : List MediaAttribute)
+    → AreAnswerLinesTrackless (filter_map (answered_rid sent rows) attrs)
+rids_trackless sent rows [] = refl
+rids_trackless sent rows (media.Rid id direction pts restrictions ∷ attrs) =
+    go (bytes_eq direction (codes "send") && (list_any (is_layer_named id.0) sent && is_rid_left rows pts)) (rids_trackless sent rows attrs)
+  where
+    go : (b : Bool) → AreAnswerLinesTrackless (filter_map (answered_rid sent rows) attrs)
+        → AreAnswerLinesTrackless (cons_option (cond b (Some (media.Rid id (codes "recv") (rid_types_left rows pts) restrictions)) None)
+        (filter_map (answered_rid sent rows) attrs))
+    go true rec = rec
+    go false rec = rec
 rids_trackless sent rows (attr ∷ attrs) = rids_trackless sent rows attrs
 
-layers_trackless : (layers : List SimulcastLayer) → Trackless (layers_line layers)
+layers_trackless : (layers : List SimulcastLayer) → AreAnswerLinesTrackless (layers_line layers)
 layers_trackless [] = refl
 layers_trackless (layer ∷ layers) = refl
 
 layer_lines_trackless : (own : OwnSide) (direction : Direction) (offered : MediaLine) (rows : List PayloadParams)
-    → Trackless (layer_lines own direction offered rows)
+    → AreAnswerLinesTrackless (layer_lines own direction offered rows)
 layer_lines_trackless own direction offered rows = go (own.receives_simulcast
     && (receives direction && are_layers_told own.extensions offered)) where
-      go : (b : Bool) → Trackless (cond b (answered_layers rows offered) [])
-      go true = trackless_both (answered_rids rows offered) (layers_line (received_layers (answered_rids rows offered) offered))
+      go : (b : Bool) → AreAnswerLinesTrackless (cond b (answered_layers rows offered) [])
+      go true = answer_trackless_both (answered_rids rows offered) (layers_line (received_layers (answered_rids rows offered) offered))
           (rids_trackless (sent_layers offered) rows offered.attrs)
           (layers_trackless (received_layers (answered_rids rows offered) offered))
       go false = refl
@@ -156,11 +164,11 @@ media_tracks own offered mid direction rows =
     ∙ append-nil (filter_map track_of (a ++ b ++ c ++ d))
     ∙ filter_map-append track_of (a ++ b ++ c) d
     ∙ ap (λ (found : List (List ℕ)). found ++ filter_map track_of d)
-    (trackless_both (a ++ b) c (trackless_both a b (direction_trackless direction) (candidates_trackless own.candidates))
-    (repeated_trackless own.extensions offered.attrs))
+    (answer_trackless_both (a ++ b) c (answer_trackless_both a b (direction_trackless direction) (candidates_trackless own.candidates))
+    (answer_repeated_trackless own.extensions offered.attrs))
 
 accepted_tracks : (own : OwnSide) (offered : MediaLine) (mid : List ℕ) (role : Setup) (direction : Direction) (rows : List PayloadParams)
-    → section_tracks (made (framed offered (first_lines own mid role ++ media_lines own offered mid direction rows)) rows)
+    → section_tracks (made (accepted_frame offered (first_lines own mid role ++ media_lines own offered mid direction rows)) rows)
     ≡ filter_map track_of (msid_lines own direction mid)
 accepted_tracks own offered mid role direction rows =
     let lines : List MediaAttribute = first_lines own mid role ++ media_lines own offered mid direction rows in
@@ -172,60 +180,61 @@ accepted_tracks own offered mid role direction rows =
     ∙ media_tracks own offered mid direction rows
 
 media_so : (own : OwnSide) (offered : MediaLine) (mid : List ℕ) (role : Setup) (direction : Direction) (rows : List PayloadParams)
-    → TracksSo (made (framed offered (first_lines own mid role ++ media_lines own offered mid direction rows)) rows)
+    → TracksSo (made (accepted_frame offered (first_lines own mid role ++ media_lines own offered mid direction rows)) rows)
 media_so own offered mid role way.SendRecv rows = inr (mid, refl, accepted_tracks own offered mid role way.SendRecv rows)
 media_so own offered mid role way.SendOnly rows = inr (mid, refl, accepted_tracks own offered mid role way.SendOnly rows)
 media_so own offered mid role way.RecvOnly rows = inl (accepted_tracks own offered mid role way.RecvOnly rows)
 media_so own offered mid role way.Inactive rows = inl (accepted_tracks own offered mid role way.Inactive rows)
 
-mid_trackless : (attrs : List MediaAttribute) → Trackless (option_to_list (find is_mid attrs))
+mid_trackless : (attrs : List MediaAttribute) → AreAnswerLinesTrackless (option_to_list (find is_mid attrs))
 mid_trackless [] = refl
 mid_trackless (media.Mid mid ∷ attrs) = refl
 mid_trackless (attr ∷ attrs) = mid_trackless attrs
 
-mapped_trackless : (pt : ℕ) (attrs : List MediaAttribute) → Trackless (option_to_list (find (maps pt) attrs))
-mapped_trackless pt [] = refl
-mapped_trackless pt (media.RtpMap n value ∷ attrs) = go (maps pt (media.RtpMap n value)) (mapped_trackless pt attrs) where
-  go : (b : Bool) → Trackless (option_to_list (find (maps pt) attrs))
-      → Trackless (option_to_list (cond b (Some (media.RtpMap n value)) (find (maps pt) attrs)))
+rejected_mapped_trackless : (pt : ℕ) (attrs : List MediaAttribute) → AreAnswerLinesTrackless (option_to_list (find (maps pt) attrs))
+rejected_mapped_trackless pt [] = refl
+rejected_mapped_trackless pt (media.RtpMap n value ∷ attrs) = go (maps pt (media.RtpMap n value)) (rejected_mapped_trackless pt attrs) where
+  go : (b : Bool) → AreAnswerLinesTrackless (option_to_list (find (maps pt) attrs))
+      → AreAnswerLinesTrackless (option_to_list (cond b (Some (media.RtpMap n value)) (find (maps pt) attrs)))
   go true rec = refl
   go false rec = rec
-mapped_trackless pt (attr ∷ attrs) = mapped_trackless pt attrs
+rejected_mapped_trackless pt (attr ∷ attrs) = rejected_mapped_trackless pt attrs
 
-over_trackless : (proto : Proto) → Trackless (direction_over proto)
-over_trackless Srtp = refl
-over_trackless Sctp = refl
+rejected_over_trackless : (proto : Proto) → AreAnswerLinesTrackless (direction_over proto)
+rejected_over_trackless Srtp = refl
+rejected_over_trackless Sctp = refl
 
 rejected_trackless : (offered : MediaLine) → section_tracks (rejecting offered) ≡ []
 rejected_trackless offered =
-    let mapped : List MediaAttribute = line_that (maps (first_type offered.pts)) offered.attrs in
-    trackless_both (line_that is_mid offered.attrs) (direction_over offered.proto ++ mapped) (mid_trackless offered.attrs)
-    (trackless_both (direction_over offered.proto) mapped (over_trackless offered.proto)
-    (mapped_trackless (first_type offered.pts) offered.attrs))
+    let mapped : List MediaAttribute = first_rejected_line (maps (first_rejected_type offered.pts)) offered.attrs in
+    answer_trackless_both (first_rejected_line is_mid offered.attrs) (direction_over offered.proto ++ mapped) (mid_trackless offered.attrs)
+    (answer_trackless_both (direction_over offered.proto) mapped (rejected_over_trackless offered.proto)
+    (rejected_mapped_trackless (first_rejected_type offered.pts) offered.attrs))
 
-channels_trackless : (own : OwnSide) (offered : MediaLine) (mid : List ℕ) (role : Setup) (channels : DataChannels)
-    → section_tracks (framed offered (first_lines own mid role ++ channel_lines channels ++ map candidate_line own.candidates)) ≡ []
-channels_trackless own offered mid role channels =
-    trackless_both (first_lines own mid role ++ channel_lines channels) (map candidate_line own.candidates) refl
+answer_channels_trackless : (own : OwnSide) (offered : MediaLine) (mid : List ℕ) (role : Setup) (channels : DataChannels)
+    → section_tracks (accepted_frame offered (first_lines own mid role ++ channel_lines channels ++ map candidate_line own.candidates)) ≡ []
+answer_channels_trackless own offered mid role channels =
+    answer_trackless_both (first_lines own mid role ++ channel_lines channels) (map candidate_line own.candidates) refl
     (candidates_trackless own.candidates)
 
-choice_so : (own : OwnSide) (offer : Sdp) (offered answered : MediaLine) (choice : Choice) → SaysChoice own offer offered choice answered
+offer_choice_so : (own : OwnSide) (offer : Sdp) (offered answered : MediaLine) (choice : Choice)
+    → SaysSectionChoice own offer offered choice answered
     → TracksSo answered
-choice_so own offer offered answered Rejected says = subst TracksSo (sym says) (inl (rejected_trackless offered))
-choice_so own offer offered answered (Media mid rows) says = subst TracksSo (sym says.says)
+offer_choice_so own offer offered answered Rejected says = subst TracksSo (sym says) (inl (rejected_trackless offered))
+offer_choice_so own offer offered answered (Media mid rows) says = subst TracksSo (sym says.says)
     (media_so own offered mid says.role says.direction rows)
-choice_so own offer offered answered (Channels mid channels) says = subst TracksSo (sym says.says)
-    (inl (channels_trackless own offered mid says.role channels))
+offer_choice_so own offer offered answered (Channels mid channels) says = subst TracksSo (sym says.says)
+    (inl (answer_channels_trackless own offered mid says.role channels))
 
 -- ---- all sections
 
-all_so : (own : OwnSide) (ours : List PayloadParams) (offer : Sdp) (offered answered : List MediaLine)
+offer_all_so : (own : OwnSide) (ours : List PayloadParams) (offer : Sdp) (offered answered : List MediaLine)
     → AllZip (AnswersSection own ours offer) offered answered → All TracksSo answered
-all_so own ours offer [] [] zip = All-nil TracksSo
-all_so own ours offer [] (m ∷ ms) zip = absurd zip
-all_so own ours offer (theirs ∷ more) [] zip = absurd zip
-all_so own ours offer (theirs ∷ more) (m ∷ ms) zip =
-    All-cons TracksSo m ms (choice_so own offer theirs m zip.0.choice zip.0.says) (all_so own ours offer more ms zip.1)
+offer_all_so own ours offer [] [] zip = All-nil TracksSo
+offer_all_so own ours offer [] (m ∷ ms) zip = absurd zip
+offer_all_so own ours offer (theirs ∷ more) [] zip = absurd zip
+offer_all_so own ours offer (theirs ∷ more) (m ∷ ms) zip =
+    All-cons TracksSo m ms (offer_choice_so own offer theirs m zip.0.choice zip.0.says) (offer_all_so own ours offer more ms zip.1)
 
 same_mids : (offered answered : List MediaLine) → AllZip HasShapeOf offered answered → section_mids answered ≡ section_mids offered
 same_mids [] [] zip = refl
@@ -236,41 +245,43 @@ same_mids (theirs ∷ more) (m ∷ ms) zip =
     ∙ ap (cons_option (name_of theirs)) (same_mids more ms zip.1)
 
 -- the track of a name is none of sections of other names
-track_apart : (mid : List ℕ) (ms : List MediaLine) → All (Other (Some mid)) ms → All TracksSo ms
+track_apart : (mid : List ℕ) (ms : List MediaLine) → All (OtherName (Some mid)) ms → All TracksSo ms
     → All (λ track. track_id mid ≢ track) (flat_map section_tracks ms)
 track_apart mid [] other so = All-nil (λ (track : List ℕ). track_id mid ≢ track)
 track_apart mid (m ∷ ms) other so =
-    All-append P (section_tracks m) (flat_map section_tracks ms) (here (All-head (Other (Some mid)) m ms other) (All-head TracksSo m ms so))
-    (track_apart mid ms (All-tail (Other (Some mid)) m ms other) (All-tail TracksSo m ms so)) where
+    All-append P (section_tracks m) (flat_map section_tracks ms)
+    (here (All-head (OtherName (Some mid)) m ms other) (All-head TracksSo m ms so))
+    (track_apart mid ms (All-tail (OtherName (Some mid)) m ms other) (All-tail TracksSo m ms so)) where
       P : List ℕ → Type 0
       P track = track_id mid ≢ track
 
-      here : Other (Some mid) m → TracksSo m → All P (section_tracks m)
+      here : OtherName (Some mid) m → TracksSo m → All P (section_tracks m)
       here apart (inl none) = subst (All P) (sym none) (All-nil P)
       here apart (inr said) =
           let differs : said.0 ≢ mid = subst (λ (name : Option (List ℕ)). IfSome name (λ k. k ≢ mid)) said.1 apart in
           subst (All P) (sym said.2) (All-cons P (track_id said.0) []
           (λ e. differs (sym (append_cancel_left (codes "track-") mid said.0 e))) (All-nil P))
 
-distinct_tracks : (ms : List MediaLine) → Differ ms → All TracksSo ms → AreDistinct (flat_map section_tracks ms)
+distinct_tracks : (ms : List MediaLine) → NamesDiffer ms → All TracksSo ms → AreMidsDistinct (flat_map section_tracks ms)
 distinct_tracks [] differ so = λ i j d lt within. absurd (omega arith)
 distinct_tracks (m ∷ ms) differ so = go (All-head TracksSo m ms so) (distinct_tracks ms differ.1 (All-tail TracksSo m ms so)) where
-  go : TracksSo m → AreDistinct (flat_map section_tracks ms) → AreDistinct (section_tracks m ++ flat_map section_tracks ms)
-  go (inl none) rec = subst (λ (found : List (List ℕ)). AreDistinct (found ++ flat_map section_tracks ms)) (sym none) rec
+  go : TracksSo m → AreMidsDistinct (flat_map section_tracks ms) → AreMidsDistinct (section_tracks m ++ flat_map section_tracks ms)
+  go (inl none) rec = subst (λ (found : List (List ℕ)). AreMidsDistinct (found ++ flat_map section_tracks ms)) (sym none) rec
   go (inr said) rec =
-      subst (λ (found : List (List ℕ)). AreDistinct (found ++ flat_map section_tracks ms)) (sym said.2)
+      subst (λ (found : List (List ℕ)). AreMidsDistinct (found ++ flat_map section_tracks ms)) (sym said.2)
       (AllPairs-cons (λ (a b : List ℕ). a ≢ b) (track_id said.0) (flat_map section_tracks ms)
-      (track_apart said.0 ms (subst (λ (name : Option (List ℕ)). All (Other name) ms) said.1 differ.0) (All-tail TracksSo m ms so)) rec)
+      (track_apart said.0 ms (subst (λ (name : Option (List ℕ)). All (OtherName name) ms) said.1 differ.0) (All-tail TracksSo m ms so)) rec)
 
 -- an answer has the names of its offer
-pub same_names : (own : OwnSide) (ours : List PayloadParams) (offer : Sdp) (answered : List MediaLine)
+pub offer_same_names : (own : OwnSide) (ours : List PayloadParams) (offer : Sdp) (answered : List MediaLine)
     → AllZip (AnswersSection own ours offer) offer.media_lines answered
     → section_mids answered ≡ section_mids offer.media_lines
-same_names own ours offer answered answers = same_mids offer.media_lines answered (sections_shape own ours offer answered answers)
+offer_same_names own ours offer answered answers = same_mids offer.media_lines answered (sections_shape own ours offer answered answers)
 
 pub tracks_differ : (own : OwnSide) (ours : List PayloadParams) (offer : Sdp) (answered : List MediaLine)
     → AllZip (AnswersSection own ours offer) offer.media_lines answered
-    → AreDistinct (section_mids offer.media_lines) → AreDistinct (flat_map section_tracks answered)
+    → AreMidsDistinct (section_mids offer.media_lines) → AreMidsDistinct (flat_map section_tracks answered)
 tracks_differ own ours offer answered answers distinct =
-    distinct_tracks answered (differ_from answered (subst AreDistinct (sym (same_names own ours offer answered answers)) distinct))
-    (all_so own ours offer offer.media_lines answered answers)
+    distinct_tracks answered (name_differ_from answered
+    (subst AreMidsDistinct (sym (offer_same_names own ours offer answered answers)) distinct))
+    (offer_all_so own ours offer offer.media_lines answered answers)

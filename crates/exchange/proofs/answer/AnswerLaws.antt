@@ -4,16 +4,16 @@ use Rattle.exchange.specs.answer.Offered.{IsOffer, NegotiatesOffer}
 use Rattle.exchange.specs.declared.state.exchange.Exchange.{Exchange}
 use Rattle.exchange.specs.declared.state.exchange_error.ExchangeError.{ExchangeError}
 use Rattle.exchange.specs.declared.state.exchange_error.ExchangeError.TheVariants.{DoesNotFit, Memory, NotPrintable}
-use Rattle.exchange.specs.offer.AcceptedAnswer.{IsAnswer, RefusesAnswer, RefusesFit}
+use Rattle.exchange.specs.offer.AcceptedAnswer.{IsAnswer, RefusesAnswer, RefusesOfferFit}
 use Rattle.exchange.specs.state.Exchange.{RefusesOffer, RefusesToAnswer}
 use Rattle.exchange.specs.state.State.{pending_sdp}
 
 -- what doesn't fit the open offer
-pub misfit : (old : Exchange) (text : List ℕ) (offer answer : Sdp) (ours : List PayloadParams) (error : ExchangeError)
-    → RefusesFit ours offer answer error
+pub answer_misfit : (old : Exchange) (text : List ℕ) (offer answer : Sdp) (ours : List PayloadParams) (error : ExchangeError)
+    → RefusesOfferFit ours offer answer error
     → pending_sdp old ≡ Some offer → IsAnswer text answer → NegotiatesOffer answer old.config.params.items ours
     → RefusesAnswer old text error
-misfit old text offer answer ours (DoesNotFit section broken) breaks open_so is_answer negotiated =
+answer_misfit old text offer answer ours (DoesNotFit section broken) breaks open_so is_answer negotiated =
     record {
       offer = offer;
       open_so = open_so;
@@ -23,13 +23,14 @@ misfit old text offer answer ours (DoesNotFit section broken) breaks open_so is_
       negotiated = negotiated;
       breaks = breaks;
     }
-misfit old text offer answer ours Memory breaks open_so is_answer negotiated = tt
-misfit old text offer answer ours _ breaks open_so is_answer negotiated = absurd breaks
+answer_misfit old text offer answer ours Memory breaks open_so is_answer negotiated = tt
+answer_misfit old text offer answer ours _ breaks open_so is_answer negotiated = absurd breaks
 
 -- what the other side wouldn't read as it is said
-pub unprintable : (old : Exchange) (text : List ℕ) (offer : Sdp) (ours : List PayloadParams) (error : ExchangeError) → IsOffer text offer
+pub answer_unprintable : (old : Exchange) (text : List ℕ) (offer : Sdp) (ours : List PayloadParams) (error : ExchangeError)
+    → IsOffer text offer
     → NegotiatesOffer offer old.config.params.items ours → RefusesToAnswer old ours offer error → RefusesOffer old text error
-unprintable old text offer ours NotPrintable is_offer negotiated loses =
+answer_unprintable old text offer ours NotPrintable is_offer negotiated loses =
     record { offer = offer; is_offer = is_offer; ours = ours; negotiated = negotiated; loses = loses }
-unprintable old text offer ours Memory is_offer negotiated loses = tt
-unprintable old text offer ours _ is_offer negotiated loses = absurd loses
+answer_unprintable old text offer ours Memory is_offer negotiated loses = tt
+answer_unprintable old text offer ours _ is_offer negotiated loses = absurd loses

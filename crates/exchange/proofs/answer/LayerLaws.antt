@@ -3,20 +3,23 @@ use Rattle.exchange.proofs.Common.{◌≡◌, ◌&&◌, ◌++◌, inl, inr, ℕ,
 use Rattle.exchange.proofs.Common.{if◌then◌else◌, filter, filter_map, refl, subst, sym, ap, ◌∙◌, and_parts, All-append, All-cons}
 use Rattle.exchange.proofs.Common.{All-contains_itself, All-filter, All-nil, bytes_eq-Decides, Contains, cons_option, list_any, codes}
 use Rattle.exchange.proofs.Common.{bytes_eq, PayloadParams, MediaAttribute, SimulcastLayer, MediaLine}
-use Rattle.exchange.proofs.answer.RowsListLaws.{All-filter_map}
-use Rattle.exchange.specs.answer.Layers.{IsTurned, answered_layers, answered_rid, answered_rids, is_rid_answered, is_left, is_named}
-use Rattle.exchange.specs.answer.Layers.{layers_line, received_layers, sent_layers, types_left}
+use Rattle.exchange.proofs.answer.RowsListLaws.{rows_All-filter_map}
+use Rattle.exchange.specs.answer.Layers.{IsTurnedLine, answered_layers, answered_rid, answered_rids, is_rid_answered, is_rid_left}
+use Rattle.exchange.specs.answer.Layers.{is_layer_named}
+use Rattle.exchange.specs.answer.Layers.{layers_line, received_layers, sent_layers, rid_types_left}
 use Rattle.str0m_sdp.specs.declared.attribute.MediaAttribute.TheVariants as media
 
 turned_rid : (rows : List PayloadParams) (offered : MediaLine) (line : MediaAttribute) → Contains offered.attrs line
-    → IfSome (answered_rid (sent_layers offered) rows line) (IsTurned rows offered)
+    → IfSome (answered_rid (sent_layers offered) rows line) (IsTurnedLine rows offered)
 turned_rid rows offered (media.Rid id direction pts restrictions) there = go
-    (bytes_eq direction (codes "send") && (list_any (is_named id.0) (sent_layers offered) && is_left rows pts)) refl where
-      go : (b : Bool) → (bytes_eq direction (codes "send") && (list_any (is_named id.0) (sent_layers offered) && is_left rows pts)) ≡ b
-          → IfSome (if b then Some (media.Rid id (codes "recv") (types_left rows pts) restrictions) else None) (IsTurned rows offered)
+    (bytes_eq direction (codes "send") && (list_any (is_layer_named id.0) (sent_layers offered) && is_rid_left rows pts)) refl where
+      go : (b : Bool) → (bytes_eq direction (codes "send")
+          && (list_any (is_layer_named id.0) (sent_layers offered) && is_rid_left rows pts)) ≡ b
+          → IfSome (if b then Some (media.Rid id (codes "recv") (rid_types_left rows pts) restrictions) else None)
+          (IsTurnedLine rows offered)
       go true e =
           let sends = and_parts (bytes_eq direction (codes "send")) _ e in
-          let rest = and_parts (list_any (is_named id.0) (sent_layers offered)) _ sends.1 in
+          let rest = and_parts (list_any (is_layer_named id.0) (sent_layers offered)) _ sends.1 in
           let same : direction ≡ codes "send" = (bytes_eq-Decides direction (codes "send")).0 sends.0 in
           inl (record {
             id = id;
@@ -31,17 +34,20 @@ turned_rid rows offered (media.Rid id direction pts restrictions) there = go
 turned_rid rows offered _ there = tt
 
 turned_line : (rows : List PayloadParams) (offered : MediaLine) (layers : List SimulcastLayer) → All (Contains (sent_layers offered)) layers
-    → All (IsTurned rows offered) (layers_line layers)
-turned_line rows offered [] sent = All-nil (IsTurned rows offered)
+    → All (IsTurnedLine rows offered) (layers_line layers)
+turned_line rows offered [] sent = All-nil (IsTurnedLine rows offered)
 turned_line rows offered (layer ∷ more) sent =
-    All-cons (IsTurned rows offered) _ [] (inr (record { received = layer ∷ more; some = λ e. cc; offered_so = sent; said = refl }))
-    (All-nil (IsTurned rows offered))
+    All-cons (IsTurnedLine rows offered) _ [] (inr (record { received = layer ∷ more; some = λ e. cc; offered_so = sent; said = refl }))
+    (All-nil (IsTurnedLine rows offered))
 
-pub all_turned : (rows : List PayloadParams) (offered : MediaLine) (lines : List MediaAttribute) → lines ≡ answered_layers rows offered
-    → All (IsTurned rows offered) lines
-all_turned rows offered lines is = subst (All (IsTurned rows offered)) (sym is)
-    (All-append (IsTurned rows offered) (answered_rids rows offered) (layers_line (received_layers (answered_rids rows offered) offered))
-    (All-filter_map (Contains offered.attrs) (IsTurned rows offered) (answered_rid (sent_layers offered) rows) (turned_rid rows offered)
+pub all_layers_turned : (rows : List PayloadParams) (offered : MediaLine) (lines : List MediaAttribute)
+    → lines ≡ answered_layers rows offered
+    → All (IsTurnedLine rows offered) lines
+all_layers_turned rows offered lines is = subst (All (IsTurnedLine rows offered)) (sym is)
+    (All-append (IsTurnedLine rows offered) (answered_rids rows offered)
+    (layers_line (received_layers (answered_rids rows offered) offered))
+    (rows_All-filter_map (Contains offered.attrs) (IsTurnedLine rows offered) (answered_rid (sent_layers offered) rows)
+    (turned_rid rows offered)
     offered.attrs (All-contains_itself offered.attrs))
     (turned_line rows offered (received_layers (answered_rids rows offered) offered)
     (All-filter (is_rid_answered (answered_rids rows offered)) (Contains (sent_layers offered)) (sent_layers offered)
@@ -51,7 +57,7 @@ all_turned rows offered lines is = subst (All (IsTurned rows offered)) (sym is)
 
 no_rid : (rows : List PayloadParams) (line : MediaAttribute) → answered_rid [] rows line ≡ None
 no_rid rows (media.Rid id direction pts restrictions) = go (bytes_eq direction (codes "send")) where
-  go : (b : Bool) → (if b && false then Some (media.Rid id (codes "recv") (types_left rows pts) restrictions) else None) ≡ None
+  go : (b : Bool) → (if b && false then Some (media.Rid id (codes "recv") (rid_types_left rows pts) restrictions) else None) ≡ None
   go true = refl
   go false = refl
 no_rid rows _ = refl

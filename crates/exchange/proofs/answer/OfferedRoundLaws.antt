@@ -15,19 +15,19 @@ one_without_round offer (x ∷ xs) m rounds none are = elim are [
 ]
 
 -- a section after the others that brings one
-behind_one : (offer : Sdp) (ms : List MediaLine) (m : MediaLine) (rounds : List Round) (round : Round) → BringsRound offer m
+rounds_behind_one : (offer : Sdp) (ms : List MediaLine) (m : MediaLine) (rounds : List Round) (round : Round) → BringsRound offer m
     → IsRoundOf m round
     → AreOfferRounds offer ms rounds → AreOfferRounds offer (ms ++ m ∷ []) (rounds ++ round ∷ [])
-behind_one offer [] m rounds round brings is are = inr (brings, round, [], ap (λ (rs : List Round). rs ++ round ∷ []) are, is, refl)
-behind_one offer (x ∷ xs) m rounds round brings is are = elim are [
-  | inl p ↦ inl (p.0, behind_one offer xs m rounds round brings is p.1)
+rounds_behind_one offer [] m rounds round brings is are = inr (brings, round, [], ap (λ (rs : List Round). rs ++ round ∷ []) are, is, refl)
+rounds_behind_one offer (x ∷ xs) m rounds round brings is are = elim are [
+  | inl p ↦ inl (p.0, rounds_behind_one offer xs m rounds round brings is p.1)
   | inr q ↦ inr (
     q.0,
     q.1,
     q.2 ++ round ∷ [],
     ap (λ (rs : List Round). rs ++ round ∷ []) q.3,
     q.4,
-    behind_one offer xs m q.2 round brings is q.5,
+    rounds_behind_one offer xs m q.2 round brings is q.5,
   )
 ]
 
@@ -47,7 +47,7 @@ pub one_round_more : (offer : Sdp) (ms : List MediaLine) (i : ℕ) (m : MediaLin
     → AreOfferRounds offer (take (i + 1) ms) (rounds ++ round ∷ [])
 one_round_more offer ms i m rounds round lt at brings is are =
     subst (λ (some : List MediaLine). AreOfferRounds offer some (rounds ++ round ∷ [])) (sym (take_section ms i m lt at))
-    (behind_one offer (take i ms) m rounds round brings is are)
+    (rounds_behind_one offer (take i ms) m rounds round brings is are)
 
 -- ---- the round that stands first
 
@@ -78,9 +78,9 @@ same_rounds offer m ms rounds none are = elim are [
 ]
 
 -- where a section brings one, there is one
-pub none_left : (offer : Sdp) (m : MediaLine) (ms : List MediaLine) (rounds : List Round) → rounds ≡ [] → BringsRound offer m
+pub no_rounds_left : (offer : Sdp) (m : MediaLine) (ms : List MediaLine) (rounds : List Round) → rounds ≡ [] → BringsRound offer m
     → AreOfferRounds offer (m ∷ ms) rounds → ⊥
-none_left offer m ms rounds at brings are = elim are [
+no_rounds_left offer m ms rounds at brings are = elim are [
   | inl p ↦ p.0 brings
   | inr q ↦ let e : q.1 ∷ q.2 ≡ [] = sym q.3 ∙ at in cc
 ]

@@ -1,10 +1,11 @@
 -- A section that rejects a consistent one is consistent.
 use Rattle.exchange.proofs.Common.{arith, ◌≡◌, ◌+◌, ◌≤◌, inl, inr, ℕ, Bool, true, false, cond, List, [], ◌∷◌, ◌++◌, Option, Some, None, All}
 use Rattle.exchange.proofs.Common.{IfSome, find, count_by, option_to_list, refl, subst, sym, ap, ◌∙◌, false≢true, All-append, All-cons}
-use Rattle.exchange.proofs.Common.{All-head, All-nil, list_any, is_some, count-append, uncounted, MediaAttribute, MediaType, Application}
+use Rattle.exchange.proofs.Common.{All-head, All-nil, list_any, is_some, row_count-append, rows_uncounted, MediaAttribute, MediaType}
+use Rattle.exchange.proofs.Common.{Application}
 use Rattle.exchange.proofs.Common.{Audio, Video, Unknown, Proto, Srtp, Sctp, MediaLine, Consistent, is_mid, maps}
-use Rattle.exchange.proofs.answer.RowsListLaws.{found, is_some_find}
-use Rattle.exchange.specs.answer.RejectedSection.{direction_over, first_type, line_that, listed_alone, rejecting}
+use Rattle.exchange.proofs.answer.RowsListLaws.{list_found, rows_is_some_find}
+use Rattle.exchange.specs.answer.RejectedSection.{direction_over, first_rejected_type, first_rejected_line, rejected_type_alone, rejecting}
 use Rattle.str0m_formats.specs.declared.codec.Codec.TheVariants.{PCMU}
 use Rattle.str0m_formats.specs.format.FormatParams.{empty}
 use Rattle.str0m_sdp.specs.declared.attribute.MediaAttribute.TheVariants as media
@@ -13,187 +14,208 @@ use Rattle.str0m_sdp.specs.section.Consistency.{AgreesOnApt, IsMapped, NeedsNoMa
 -- ---- what a line counts for
 
 -- which kinds of line one is, and that it names no other primary type
-record Counts (pt : ℕ) (line : MediaAttribute) (mid setup direction mapping : Bool) : Type 0 where
+record CountsAmongRejectedLines (pt : ℕ) (line : MediaAttribute) (mid setup direction mapping : Bool) : Type 0 where
   pub mid_is : is_mid line ≡ mid
   pub setup_is : is_setup line ≡ setup
   pub direction_is : is_direction line ≡ direction
   pub mapping_is : maps pt line ≡ mapping
   pub agrees : (lines : List MediaAttribute) → AgreesOnApt lines line
 
-of_mid : (pt : ℕ) (line : MediaAttribute) → is_mid line ≡ true → Counts pt line true false false false
+of_mid : (pt : ℕ) (line : MediaAttribute) → is_mid line ≡ true → CountsAmongRejectedLines pt line true false false false
 of_mid pt (media.Mid mid) h = record { mid_is = refl; setup_is = refl; direction_is = refl; mapping_is = refl; agrees = λ lines. tt }
 of_mid pt _ h = absurd (false≢true h)
 
-of_mapping : (pt : ℕ) (line : MediaAttribute) → maps pt line ≡ true → Counts pt line false false false true
-of_mapping pt (media.RtpMap n value) h = record {
+rejected_counts_of_mapping : (pt : ℕ) (line : MediaAttribute) → maps pt line ≡ true
+    → CountsAmongRejectedLines pt line false false false true
+rejected_counts_of_mapping pt (media.RtpMap n value) h = record {
   mid_is = refl;
   setup_is = refl;
   direction_is = refl;
   mapping_is = h;
   agrees = λ lines. tt;
 }
-of_mapping pt _ h = absurd (false≢true h)
+rejected_counts_of_mapping pt _ h = absurd (false≢true h)
 
 -- ---- a line that is found
 
 -- of the line that is found, where none counts, and where each does
-count_none : (test : MediaAttribute → Bool) (o : Option MediaAttribute) → IfSome o (λ line. test line ≡ false)
+rejected_counts_none : (test : MediaAttribute → Bool) (o : Option MediaAttribute) → IfSome o (λ line. test line ≡ false)
     → count_by test (option_to_list o) ≡ 0
-count_none test None h = refl
-count_none test (Some line) h = ap (λ (b : Bool). 0 + cond {A = ℕ} b 1 0) h
+rejected_counts_none test None h = refl
+rejected_counts_none test (Some line) h = ap (λ (b : Bool). 0 + cond {A = ℕ} b 1 0) h
 
-count_one : (test : MediaAttribute → Bool) (o : Option MediaAttribute) → is_some o ≡ true → IfSome o (λ line. test line ≡ true)
+rejected_counts_one : (test : MediaAttribute → Bool) (o : Option MediaAttribute) → is_some o ≡ true → IfSome o (λ line. test line ≡ true)
     → count_by test (option_to_list o) ≡ 1
-count_one test None there h = absurd (false≢true there)
-count_one test (Some line) there h = ap (λ (b : Bool). 0 + cond {A = ℕ} b 1 0) h
+rejected_counts_one test None there h = absurd (false≢true there)
+rejected_counts_one test (Some line) there h = ap (λ (b : Bool). 0 + cond {A = ℕ} b 1 0) h
 
 -- where one is counted, one is found
-there_is : (test : MediaAttribute → Bool) (lines : List MediaAttribute) → count_by test lines ≡ 1 → is_some (find test lines) ≡ true
-there_is test lines one = go (list_any test lines) refl where
+rejected_counted_line_is_there : (test : MediaAttribute → Bool) (lines : List MediaAttribute) → count_by test lines ≡ 1
+    → is_some (find test lines) ≡ true
+rejected_counted_line_is_there test lines one = go (list_any test lines) refl where
   go : (b : Bool) → list_any test lines ≡ b → is_some (find test lines) ≡ true
-  go true e = is_some_find test lines ∙ e
-  go false e = let none = uncounted test lines e in absurd (omega arith)
+  go true e = rows_is_some_find test lines ∙ e
+  go false e = let none = rows_uncounted test lines e in absurd (omega arith)
 
-line_weaker : (P Q : MediaAttribute → Type 0) → ((line : MediaAttribute) → P line → Q line) → (o : Option MediaAttribute) → IfSome o P
+rejected_line_weaker : (P Q : MediaAttribute → Type 0) → ((line : MediaAttribute) → P line → Q line) → (o : Option MediaAttribute)
+    → IfSome o P
     → IfSome o Q
-line_weaker P Q f None h = tt
-line_weaker P Q f (Some line) h = f line h
+rejected_line_weaker P Q f None h = tt
+rejected_line_weaker P Q f (Some line) h = f line h
 
 -- ---- the lines of the section
 
 module _ (offered : MediaLine) (is : Consistent offered) where
   abbrev pt : ℕ
-  pt = first_type offered.pts
+  pt = first_rejected_type offered.pts
 
   abbrev mid_found : Option MediaAttribute
   mid_found = find is_mid offered.attrs
 
-  abbrev mapping_found : Option MediaAttribute
-  mapping_found = find (maps pt) offered.attrs
+  abbrev rejected_mapping_found : Option MediaAttribute
+  rejected_mapping_found = find (maps pt) offered.attrs
 
-  abbrev its_lines : List MediaAttribute
-  its_lines = option_to_list mid_found ++ (direction_over offered.proto ++ option_to_list mapping_found)
+  abbrev rejecting_lines_of : List MediaAttribute
+  rejecting_lines_of = option_to_list mid_found ++ (direction_over offered.proto ++ option_to_list rejected_mapping_found)
 
-  mid_counts : IfSome mid_found (λ line. Counts pt line true false false false)
-  mid_counts = line_weaker _ _ (λ line h. of_mid pt line h.0) mid_found (found is_mid offered.attrs)
+  mid_counts : IfSome mid_found (λ line. CountsAmongRejectedLines pt line true false false false)
+  mid_counts = rejected_line_weaker _ _ (λ line h. of_mid pt line h.0) mid_found (list_found is_mid offered.attrs)
 
-  mapping_counts : IfSome mapping_found (λ line. Counts pt line false false false true)
-  mapping_counts = line_weaker _ _ (λ line h. of_mapping pt line h.0) mapping_found (found (maps pt) offered.attrs)
+  rejected_mapping_counts : IfSome rejected_mapping_found (λ line. CountsAmongRejectedLines pt line false false false true)
+  rejected_mapping_counts = rejected_line_weaker _ _ (λ line h. rejected_counts_of_mapping pt line h.0) rejected_mapping_found
+      (list_found (maps pt) offered.attrs)
 
-  lines_counted : (test : MediaAttribute → Bool) → count_by test its_lines ≡ count_by test (option_to_list mid_found)
-      + (count_by test (direction_over offered.proto) + count_by test (option_to_list mapping_found))
-  lines_counted test =
-      count-append test (option_to_list mid_found) (direction_over offered.proto ++ option_to_list mapping_found)
+  rejected_lines_counted : (test : MediaAttribute → Bool) → count_by test rejecting_lines_of ≡ count_by test (option_to_list mid_found)
+      + (count_by test (direction_over offered.proto) + count_by test (option_to_list rejected_mapping_found))
+  rejected_lines_counted test =
+      row_count-append test (option_to_list mid_found) (direction_over offered.proto ++ option_to_list rejected_mapping_found)
       ∙ ap (λ (n : ℕ). count_by test (option_to_list mid_found) + n)
-      (count-append test (direction_over offered.proto) (option_to_list mapping_found))
+      (row_count-append test (direction_over offered.proto) (option_to_list rejected_mapping_found))
 
   -- a line of a direction is neither a name nor a setup nor a mapping
-  record Directed (proto : Proto) : Type 0 where
+  record RejectedDirectionOverProto (proto : Proto) : Type 0 where
     pub mids : count_by is_mid (direction_over proto) ≡ 0
     pub setups : count_by is_setup (direction_over proto) ≡ 0
     pub mappings : count_by (maps pt) (direction_over proto) ≡ 0
     pub one : proto ≡ Srtp → count_by is_direction (direction_over proto) ≡ 1
     pub agree : (all : List MediaAttribute) → All (AgreesOnApt all) (direction_over proto)
 
-  directed : (proto : Proto) → Directed proto
-  directed Srtp = record {
+  rejected_directed_over_proto : (proto : Proto) → RejectedDirectionOverProto proto
+  rejected_directed_over_proto Srtp = record {
     mids = refl;
     setups = refl;
     mappings = refl;
     one = λ e. refl;
     agree = λ all. All-cons (AgreesOnApt all) media.Inactive [] tt (All-nil (AgreesOnApt all));
   }
-  directed Sctp = record { mids = refl; setups = refl; mappings = refl; one = λ e. cc; agree = λ all. All-nil (AgreesOnApt all) }
+  rejected_directed_over_proto Sctp = record {
+    mids = refl;
+    setups = refl;
+    mappings = refl;
+    one = λ e. cc;
+    agree = λ all. All-nil (AgreesOnApt all);
+  }
 
-  one_mid_line : count_by is_mid its_lines ≡ 1
+  one_mid_line : count_by is_mid rejecting_lines_of ≡ 1
   one_mid_line =
-      let here = count_one is_mid mid_found (there_is is_mid offered.attrs is.mid)
-      (line_weaker _ _ (λ line h. h.mid_is) mid_found mid_counts) in
-      let neither = count_none is_mid mapping_found (line_weaker _ _ (λ line h. h.mid_is) mapping_found mapping_counts) in
-      let none = (directed offered.proto).mids in
-      omega (arith, lines_counted is_mid, here, neither, none)
+      let here = rejected_counts_one is_mid mid_found (rejected_counted_line_is_there is_mid offered.attrs is.mid)
+      (rejected_line_weaker _ _ (λ line h. h.mid_is) mid_found mid_counts) in
+      let neither = rejected_counts_none is_mid rejected_mapping_found
+      (rejected_line_weaker _ _ (λ line h. h.mid_is) rejected_mapping_found rejected_mapping_counts) in
+      let none = (rejected_directed_over_proto offered.proto).mids in
+      omega (arith, rejected_lines_counted is_mid, here, neither, none)
 
-  few_setups : count_by is_setup its_lines ≤ 1
+  few_setups : count_by is_setup rejecting_lines_of ≤ 1
   few_setups =
-      let here = count_none is_setup mid_found (line_weaker _ _ (λ line h. h.setup_is) mid_found mid_counts) in
-      let neither = count_none is_setup mapping_found (line_weaker _ _ (λ line h. h.setup_is) mapping_found mapping_counts) in
-      let none = (directed offered.proto).setups in
-      omega (arith, lines_counted is_setup, here, neither, none)
+      let here = rejected_counts_none is_setup mid_found (rejected_line_weaker _ _ (λ line h. h.setup_is) mid_found mid_counts) in
+      let neither = rejected_counts_none is_setup rejected_mapping_found
+      (rejected_line_weaker _ _ (λ line h. h.setup_is) rejected_mapping_found rejected_mapping_counts) in
+      let none = (rejected_directed_over_proto offered.proto).setups in
+      omega (arith, rejected_lines_counted is_setup, here, neither, none)
 
-  one_direction : offered.proto ≡ Srtp → count_by is_direction its_lines ≡ 1
+  one_direction : offered.proto ≡ Srtp → count_by is_direction rejecting_lines_of ≡ 1
   one_direction srtp =
-      let here = count_none is_direction mid_found (line_weaker _ _ (λ line h. h.direction_is) mid_found mid_counts) in
-      let neither = count_none is_direction mapping_found (line_weaker _ _ (λ line h. h.direction_is) mapping_found mapping_counts) in
-      let one = (directed offered.proto).one srtp in
-      omega (arith, lines_counted is_direction, here, neither, one)
+      let here = rejected_counts_none is_direction mid_found (rejected_line_weaker _ _ (λ line h. h.direction_is) mid_found mid_counts) in
+      let neither = rejected_counts_none is_direction rejected_mapping_found
+      (rejected_line_weaker _ _ (λ line h. h.direction_is) rejected_mapping_found rejected_mapping_counts) in
+      let one = (rejected_directed_over_proto offered.proto).one srtp in
+      omega (arith, rejected_lines_counted is_direction, here, neither, one)
 
-  mappings : count_by (maps pt) its_lines ≡ count_by (maps pt) (option_to_list mapping_found)
+  mappings : count_by (maps pt) rejecting_lines_of ≡ count_by (maps pt) (option_to_list rejected_mapping_found)
   mappings =
-      let here = count_none (maps pt) mid_found (line_weaker _ _ (λ line h. h.mapping_is) mid_found mid_counts) in
-      let none = (directed offered.proto).mappings in
-      omega (arith, lines_counted (maps pt), here, none)
+      let here = rejected_counts_none (maps pt) mid_found (rejected_line_weaker _ _ (λ line h. h.mapping_is) mid_found mid_counts) in
+      let none = (rejected_directed_over_proto offered.proto).mappings in
+      omega (arith, rejected_lines_counted (maps pt), here, none)
 
-  needs_no_mapping : (pts : List ℕ) → offered.pts ≡ pts → is_some (find (maps (first_type pts)) offered.attrs) ≡ false
-      → NeedsNoMapping (first_type pts)
-  needs_no_mapping [] e none = (record { codec = PCMU; clock_rate = 8000; channels = None; format = empty }, (refl, refl, refl))
-  needs_no_mapping (t ∷ ts) e none = go (All-head (IsMapped offered.attrs) t ts (subst (All (IsMapped offered.attrs)) e is.mapped)) where
-    go : IsMapped offered.attrs t → NeedsNoMapping t
-    go (inl one) = absurd (false≢true (sym none ∙ there_is (maps t) offered.attrs one))
-    go (inr h) = h.1
+  rejected_needs_no_mapping : (pts : List ℕ) → offered.pts ≡ pts → is_some (find (maps (first_rejected_type pts)) offered.attrs) ≡ false
+      → NeedsNoMapping (first_rejected_type pts)
+  rejected_needs_no_mapping [] e none = (record { codec = PCMU; clock_rate = 8000; channels = None; format = empty }, (refl, refl, refl))
+  rejected_needs_no_mapping (t ∷ ts) e none = go (All-head (IsMapped offered.attrs) t ts (subst (All (IsMapped offered.attrs)) e is.mapped))
+    where
+      go : IsMapped offered.attrs t → NeedsNoMapping t
+      go (inl one) = absurd (false≢true (sym none ∙ rejected_counted_line_is_there (maps t) offered.attrs one))
+      go (inr h) = h.1
 
-  type_mapped : IsMapped its_lines pt
-  type_mapped = go mapping_found refl mapping_counts mappings where
-    go : (o : Option MediaAttribute) → mapping_found ≡ o → IfSome o (λ line. Counts pt line false false false true)
-        → count_by (maps pt) its_lines ≡ count_by (maps pt) (option_to_list o) → IsMapped its_lines pt
-    go None e h n = inr (n, needs_no_mapping offered.pts refl (ap (λ (o : Option MediaAttribute). is_some o) e))
-    go (Some line) e h n = inl (n ∙ count_one (maps pt) (Some line) refl h.mapping_is)
+  rejected_type_mapped : IsMapped rejecting_lines_of pt
+  rejected_type_mapped = go rejected_mapping_found refl rejected_mapping_counts mappings where
+    go : (o : Option MediaAttribute) → rejected_mapping_found ≡ o
+        → IfSome o (λ line. CountsAmongRejectedLines pt line false false false true)
+        → count_by (maps pt) rejecting_lines_of ≡ count_by (maps pt) (option_to_list o) → IsMapped rejecting_lines_of pt
+    go None e h n = inr (n, rejected_needs_no_mapping offered.pts refl (ap (λ (o : Option MediaAttribute). is_some o) e))
+    go (Some line) e h n = inl (n ∙ rejected_counts_one (maps pt) (Some line) refl h.mapping_is)
 
-  listed_mapped : (typ : MediaType) → All (IsMapped its_lines) (listed_alone typ offered.pts)
-  listed_mapped Application = All-nil (IsMapped its_lines)
-  listed_mapped Audio = All-cons (IsMapped its_lines) pt [] type_mapped (All-nil (IsMapped its_lines))
-  listed_mapped Video = All-cons (IsMapped its_lines) pt [] type_mapped (All-nil (IsMapped its_lines))
-  listed_mapped (Unknown text) = All-cons (IsMapped its_lines) pt [] type_mapped (All-nil (IsMapped its_lines))
+  rejected_types_mapped : (typ : MediaType) → All (IsMapped rejecting_lines_of) (rejected_type_alone typ offered.pts)
+  rejected_types_mapped Application = All-nil (IsMapped rejecting_lines_of)
+  rejected_types_mapped Audio = All-cons (IsMapped rejecting_lines_of) pt [] rejected_type_mapped (All-nil (IsMapped rejecting_lines_of))
+  rejected_types_mapped Video = All-cons (IsMapped rejecting_lines_of) pt [] rejected_type_mapped (All-nil (IsMapped rejecting_lines_of))
+  rejected_types_mapped (Unknown text) = All-cons (IsMapped rejecting_lines_of) pt [] rejected_type_mapped
+      (All-nil (IsMapped rejecting_lines_of))
 
-  found_agrees : (o : Option MediaAttribute) (all : List MediaAttribute) → IfSome o (λ line. AgreesOnApt all line)
+  rejected_found_agrees : (o : Option MediaAttribute) (all : List MediaAttribute) → IfSome o (λ line. AgreesOnApt all line)
       → All (AgreesOnApt all) (option_to_list o)
-  found_agrees None all h = All-nil (AgreesOnApt all)
-  found_agrees (Some line) all h = All-cons (AgreesOnApt all) line [] h (All-nil (AgreesOnApt all))
+  rejected_found_agrees None all h = All-nil (AgreesOnApt all)
+  rejected_found_agrees (Some line) all h = All-cons (AgreesOnApt all) line [] h (All-nil (AgreesOnApt all))
 
-  all_agree : All (AgreesOnApt its_lines) its_lines
-  all_agree =
-      All-append (AgreesOnApt its_lines) (option_to_list mid_found) (direction_over offered.proto ++ option_to_list mapping_found)
-      (found_agrees mid_found its_lines (line_weaker _ _ (λ line h. h.agrees its_lines) mid_found mid_counts))
-      (All-append (AgreesOnApt its_lines) (direction_over offered.proto) (option_to_list mapping_found)
-      ((directed offered.proto).agree its_lines)
-      (found_agrees mapping_found its_lines (line_weaker _ _ (λ line h. h.agrees its_lines) mapping_found mapping_counts)))
+  rejected_all_agree : All (AgreesOnApt rejecting_lines_of) rejecting_lines_of
+  rejected_all_agree =
+      All-append (AgreesOnApt rejecting_lines_of) (option_to_list mid_found)
+      (direction_over offered.proto ++ option_to_list rejected_mapping_found)
+      (rejected_found_agrees mid_found rejecting_lines_of
+      (rejected_line_weaker _ _ (λ line h. h.agrees rejecting_lines_of) mid_found mid_counts))
+      (All-append (AgreesOnApt rejecting_lines_of) (direction_over offered.proto) (option_to_list rejected_mapping_found)
+      ((rejected_directed_over_proto offered.proto).agree rejecting_lines_of)
+      (rejected_found_agrees rejected_mapping_found rejecting_lines_of
+      (rejected_line_weaker _ _ (λ line h. h.agrees rejecting_lines_of) rejected_mapping_found rejected_mapping_counts)))
 
-  consistent_so : Consistent (rejecting offered)
-  consistent_so = record {
+  rejected_consistent_so : Consistent (rejecting offered)
+  rejected_consistent_so = record {
     mid = one_mid_line;
     setup = few_setups;
     proto = λ srtp. (one_direction srtp, λ e. absurd (false≢true (sym e)));
-    mapped = listed_mapped offered.typ;
-    apt = all_agree;
+    mapped = rejected_types_mapped offered.typ;
+    apt = rejected_all_agree;
   }
 
 pub rejecting_consistent : (offered section : MediaLine) → section ≡ rejecting offered → Consistent offered → Consistent section
-rejecting_consistent offered section is consistent = subst Consistent (sym is) (consistent_so offered consistent)
+rejecting_consistent offered section is consistent = subst Consistent (sym is) (rejected_consistent_so offered consistent)
 
 -- ---- its parts
 
-abbrev pub of_parts : Proto → MediaType → List ℕ → List MediaAttribute → MediaLine
-of_parts proto typ pts lines = record { typ = typ; disabled = true; proto = proto; pts = pts; bw = None; attrs = lines }
+abbrev pub rejected_of_parts : Proto → MediaType → List ℕ → List MediaAttribute → MediaLine
+rejected_of_parts proto typ pts lines = record { typ = typ; disabled = true; proto = proto; pts = pts; bw = None; attrs = lines }
 
-pub made_of_parts : (offered : MediaLine) (typ : MediaType) (pts listed : List ℕ) (attrs lines : List MediaAttribute) (pt : ℕ)
-    → typ ≡ offered.typ → listed ≡ offered.pts → lines ≡ offered.attrs → pt ≡ first_type listed → pts ≡ listed_alone offered.typ listed
-    → attrs ≡ line_that is_mid lines ++ (direction_over offered.proto ++ line_that (maps pt) lines)
-    → of_parts offered.proto typ pts attrs ≡ rejecting offered
-made_of_parts offered typ pts listed attrs lines alone_type same_typ same_pts same_lines is_first alone all =
-    ap (λ (x : MediaType). of_parts offered.proto x pts attrs) same_typ
-    ∙ ap (λ (x : List ℕ). of_parts offered.proto offered.typ x attrs) (alone ∙ ap (listed_alone offered.typ) same_pts)
-    ∙ ap (of_parts offered.proto offered.typ (listed_alone offered.typ offered.pts))
+pub rejected_made_of_parts : (offered : MediaLine) (typ : MediaType) (pts listed : List ℕ) (attrs lines : List MediaAttribute) (pt : ℕ)
+    → typ ≡ offered.typ → listed ≡ offered.pts → lines ≡ offered.attrs → pt ≡ first_rejected_type listed
+    → pts ≡ rejected_type_alone offered.typ listed
+    → attrs ≡ first_rejected_line is_mid lines ++ (direction_over offered.proto ++ first_rejected_line (maps pt) lines)
+    → rejected_of_parts offered.proto typ pts attrs ≡ rejecting offered
+rejected_made_of_parts offered typ pts listed attrs lines alone_type same_typ same_pts same_lines is_first alone all =
+    ap (λ (x : MediaType). rejected_of_parts offered.proto x pts attrs) same_typ
+    ∙ ap (λ (x : List ℕ). rejected_of_parts offered.proto offered.typ x attrs) (alone ∙ ap (rejected_type_alone offered.typ) same_pts)
+    ∙ ap (rejected_of_parts offered.proto offered.typ (rejected_type_alone offered.typ offered.pts))
     (all
-    ∙ ap (λ (x : ℕ). line_that is_mid lines ++ (direction_over offered.proto ++ line_that (maps x) lines))
-    (is_first ∙ ap first_type same_pts)
-    ∙ ap (λ (x : List MediaAttribute). line_that is_mid x ++ (direction_over offered.proto ++ line_that (maps (first_type offered.pts)) x))
+    ∙ ap (λ (x : ℕ). first_rejected_line is_mid lines ++ (direction_over offered.proto ++ first_rejected_line (maps x) lines))
+    (is_first ∙ ap first_rejected_type same_pts)
+    ∙ ap (λ (x : List MediaAttribute). first_rejected_line is_mid x
+    ++ (direction_over offered.proto ++ first_rejected_line (maps (first_rejected_type offered.pts)) x))
     same_lines)

@@ -3,7 +3,7 @@ use Rattle.exchange.proofs.Common.{arith, ◌≡◌, ◌<◌, ◌≤◌, ℕ, Li
 use Rattle.exchange.proofs.Common.{slice_get, slice_get-get_or, slice_get_past, PayloadParams, MediaLine, Sdp}
 use Rattle.exchange.specs.declared.offer.rule.Rule.{Rule}
 use Rattle.exchange.specs.declared.offer.rule.Rule.TheVariants as rule
-use Rattle.exchange.specs.offer.Fits.{BreaksFirst, FitsAt, KeepsEveryRule, Keeps, rules_asked}
+use Rattle.exchange.specs.offer.Fits.{BreaksRuleFirst, FitsAt, KeepsEveryRule, KeepsRule, rules_asked}
 use Rattle.exchange.specs.section.Places.{StaysInPlaceAt}
 
 -- after the last section of the offer nothing is asked
@@ -17,10 +17,10 @@ all_fit ours offer answer n past fits at = elim (cases_lt at n) [
       cc
 ]
 
-pub all_in_place : (names : List (List ℕ)) (local : List MediaLine) (remote : Option Sdp) (offer : Sdp) (n : ℕ)
+pub fits_all_in_place : (names : List (List ℕ)) (local : List MediaLine) (remote : Option Sdp) (offer : Sdp) (n : ℕ)
     → length offer.media_lines ≤ n
     → ((k : ℕ) → k < n → StaysInPlaceAt names local remote offer k) → (at : ℕ) → StaysInPlaceAt names local remote offer at
-all_in_place names local remote offer n past kept at = elim (cases_lt at n) [
+fits_all_in_place names local remote offer n past kept at = elim (cases_lt at n) [
   | inl lt ↦ kept at lt
   | inr ge ↦ λ m there.
       let behind : length offer.media_lines ≤ at = omega arith in
@@ -31,23 +31,23 @@ all_in_place names local remote offer n past kept at = elim (cases_lt at n) [
 -- ---- the rules of a section
 
 -- the first that isn't kept
-pub first_broken : (ours : List PayloadParams) (answer : Sdp) (offered answered : MediaLine) (rules : List Rule) → rules ≡ rules_asked
+pub first_rule_broken : (ours : List PayloadParams) (answer : Sdp) (offered answered : MediaLine) (rules : List Rule) → rules ≡ rules_asked
     → (i : ℕ) → i < length rules
-    → All (Keeps ours answer offered answered) (take i rules)
-    → (Keeps ours answer offered answered (get_or rules i rule.Sections) → ⊥)
-    → BreaksFirst ours answer offered answered (get_or rules i rule.Sections)
-first_broken ours answer offered answered rules is i lt kept broken = record {
+    → All (KeepsRule ours answer offered answered) (take i rules)
+    → (KeepsRule ours answer offered answered (get_or rules i rule.Sections) → ⊥)
+    → BreaksRuleFirst ours answer offered answered (get_or rules i rule.Sections)
+first_rule_broken ours answer offered answered rules is i lt kept broken = record {
   place = i;
   stands = subst (λ those. slice_get those i ≡ Some (get_or rules i rule.Sections)) is (slice_get-get_or rules i rule.Sections lt);
-  earlier = subst (λ those. All (Keeps ours answer offered answered) (take i those)) is kept;
+  earlier = subst (λ those. All (KeepsRule ours answer offered answered) (take i those)) is kept;
   broken = broken;
 }
 
 -- each rule is among those that are asked, or asks nothing
 pub rules_kept : (ours : List PayloadParams) (answer : Sdp) (offered answered : MediaLine) (rules : List Rule) → rules ≡ rules_asked
-    → All (Keeps ours answer offered answered) rules → KeepsEveryRule ours answer offered answered
-rules_kept ours answer offered answered rules is all = kept (subst (All (Keeps ours answer offered answered)) is all) where
-  kept : All (Keeps ours answer offered answered) rules_asked → KeepsEveryRule ours answer offered answered
+    → All (KeepsRule ours answer offered answered) rules → KeepsEveryRule ours answer offered answered
+rules_kept ours answer offered answered rules is all = kept (subst (All (KeepsRule ours answer offered answered)) is all) where
+  kept : All (KeepsRule ours answer offered answered) rules_asked → KeepsEveryRule ours answer offered answered
   kept all rule.MediaType = all 0 rule.MediaType (omega arith)
   kept all rule.Protocol = all 1 rule.Protocol (omega arith)
   kept all rule.Name = all 2 rule.Name (omega arith)

@@ -12,11 +12,13 @@ use Rattle.exchange.specs.declared.offer.added.Placed.{Placed}
 use Rattle.exchange.specs.declared.state.exchange.Exchange.{Exchange}
 use Rattle.exchange.specs.declared.state.own_side.DataChannels.{DataChannels}
 use Rattle.exchange.specs.declared.state.own_side.SectionDirection.{SectionDirection}
-use Rattle.exchange.specs.offer.Added.{placed_under}
-use Rattle.exchange.specs.offer.MadeOffer.{MakesOffer, ready_with, sections_added}
-use Rattle.exchange.specs.offer.OfferPlaces.{FillsPlace, FillsPlaces, theirs_at}
-use Rattle.exchange.specs.offer.OfferRules.{HasNewName, IsNewName, IsOffered, KeepsOffered, KeepsPlace, KeepsPlaces}
-use Rattle.exchange.specs.offer.OfferSection.{asked_lines, kept_lines, new_section, next_section, offered_channels, offered_media}
+use Rattle.exchange.specs.offer.Added.{offer_placed_under}
+use Rattle.exchange.specs.offer.MadeOffer.{MakesOffer, offer_ready_with, sections_added}
+use Rattle.exchange.specs.offer.OfferPlaces.{FillsPlace, FillsPlaces, their_section_at}
+use Rattle.exchange.specs.offer.OfferRules.{HasNewOfferPlaceName, IsNewOfferName, IsOffered, KeepsOffered, KeepsOfferPlace}
+use Rattle.exchange.specs.offer.OfferRules.{KeepsOfferPlaces}
+use Rattle.exchange.specs.offer.OfferSection.{asked_section_lines, kept_section_lines, new_section, next_section, offered_channels}
+use Rattle.exchange.specs.offer.OfferSection.{offered_media}
 use Rattle.exchange.specs.offer.OfferSection.{section_by, section_for, section_with}
 use Rattle.exchange.specs.offer.Rules.{HasShapeOf}
 use Rattle.exchange.specs.section.Stopped.{name_of}
@@ -27,92 +29,97 @@ use Rattle.str0m_values.specs.declared.media_kind.MediaKind.TheVariants as kind
 
 -- ---- shapes and names
 
-channels_shape : (old : Exchange) (mine : MediaLine) (mid : List ℕ) (channels : Option DataChannels) → name_of mine ≡ Some mid
+offer_channels_shape : (old : Exchange) (mine : MediaLine) (mid : List ℕ) (channels : Option DataChannels) → name_of mine ≡ Some mid
     → mine.typ ≡ Application → mine.proto ≡ Sctp
     → HasShapeOf mine (offered_channels old.own mine mid channels)
-channels_shape old mine mid None name typ proto = rejecting_shape mine
-channels_shape old mine mid (Some channels) name typ proto = record { typ = sym typ; proto = sym proto; name = sym name }
+offer_channels_shape old mine mid None name typ proto = rejecting_shape mine
+offer_channels_shape old mine mid (Some channels) name typ proto = record { typ = sym typ; proto = sym proto; name = sym name }
 
-shape_by : (old : Exchange) (ready : List SectionDirection) (theirs : Option MediaLine) (mine : MediaLine) (name : Option (List ℕ))
+offer_shape_by : (old : Exchange) (ready : List SectionDirection) (theirs : Option MediaLine) (mine : MediaLine) (name : Option (List ℕ))
     (typ : MediaType) (proto : Proto)
     → name_of mine ≡ name → mine.typ ≡ typ → mine.proto ≡ proto → HasShapeOf mine (section_by old ready theirs mine name typ proto)
-shape_by old ready theirs mine (Some mid) Audio Srtp name typ proto = record { typ = sym typ; proto = sym proto; name = sym name }
-shape_by old ready theirs mine (Some mid) Video Srtp name typ proto = record { typ = sym typ; proto = sym proto; name = sym name }
-shape_by old ready theirs mine (Some mid) Application Sctp name typ proto = channels_shape old mine mid old.own.channels name typ proto
-shape_by old ready theirs mine (Some mid) Audio Sctp name typ proto = rejecting_shape mine
-shape_by old ready theirs mine (Some mid) Video Sctp name typ proto = rejecting_shape mine
-shape_by old ready theirs mine (Some mid) Application Srtp name typ proto = rejecting_shape mine
-shape_by old ready theirs mine (Some mid) (Unknown text) proto name typ p = rejecting_shape mine
-shape_by old ready theirs mine None typ proto name t p = rejecting_shape mine
+offer_shape_by old ready theirs mine (Some mid) Audio Srtp name typ proto = record { typ = sym typ; proto = sym proto; name = sym name }
+offer_shape_by old ready theirs mine (Some mid) Video Srtp name typ proto = record { typ = sym typ; proto = sym proto; name = sym name }
+offer_shape_by old ready theirs mine (Some mid) Application Sctp name typ proto = offer_channels_shape old mine mid old.own.channels name
+    typ proto
+offer_shape_by old ready theirs mine (Some mid) Audio Sctp name typ proto = rejecting_shape mine
+offer_shape_by old ready theirs mine (Some mid) Video Sctp name typ proto = rejecting_shape mine
+offer_shape_by old ready theirs mine (Some mid) Application Srtp name typ proto = rejecting_shape mine
+offer_shape_by old ready theirs mine (Some mid) (Unknown text) proto name typ p = rejecting_shape mine
+offer_shape_by old ready theirs mine None typ proto name t p = rejecting_shape mine
 
-pub next_shape : (old : Exchange) (ready : List SectionDirection) (theirs : Option MediaLine) (mine : MediaLine)
+pub next_offer_shape : (old : Exchange) (ready : List SectionDirection) (theirs : Option MediaLine) (mine : MediaLine)
     → HasShapeOf mine (next_section old ready theirs mine)
-next_shape old ready theirs mine = shape_by old ready theirs mine (name_of mine) mine.typ mine.proto refl refl refl
+next_offer_shape old ready theirs mine = offer_shape_by old ready theirs mine (name_of mine) mine.typ mine.proto refl refl refl
 
-channels_name : (old : Exchange) (mid : List ℕ) (channels : Option DataChannels)
+offer_channels_name : (old : Exchange) (mid : List ℕ) (channels : Option DataChannels)
     → name_of (offered_channels old.own (section_with Application Sctp (media.Mid mid ∷ [])) mid channels) ≡ Some mid
-channels_name old mid None = refl
-channels_name old mid (Some channels) = refl
+offer_channels_name old mid None = refl
+offer_channels_name old mid (Some channels) = refl
 
-name_for : (old : Exchange) (ready : List SectionDirection) (extensions : List MediaAttribute) (mid : List ℕ) (what : Added)
+offer_name_for : (old : Exchange) (ready : List SectionDirection) (extensions : List MediaAttribute) (mid : List ℕ) (what : Added)
     → name_of (section_for old ready extensions mid what) ≡ Some mid
-name_for old ready extensions mid (added.Media kind direction) = refl
-name_for old ready extensions mid added.Channels = channels_name old mid old.own.channels
+offer_name_for old ready extensions mid (added.Media kind direction) = refl
+offer_name_for old ready extensions mid added.Channels = offer_channels_name old mid old.own.channels
 
 pub new_section_name : (old : Exchange) (ready : List SectionDirection) (extensions : List MediaAttribute) (placed : Placed)
     → name_of (new_section old ready extensions placed) ≡ Some placed.mid
-new_section_name old ready extensions placed = name_for old ready extensions placed.mid placed.added
+new_section_name old ready extensions placed = offer_name_for old ready extensions placed.mid placed.added
 
 -- ---- places
 
 -- what holds of the names holds of the sections under them
-pub all_named : (P : List ℕ → Type 0) (old : Exchange) (ready : List SectionDirection) (extensions : List MediaAttribute)
+pub offer_all_named : (P : List ℕ → Type 0) (old : Exchange) (ready : List SectionDirection) (extensions : List MediaAttribute)
     (names : List (List ℕ)) (what : List Added) → All P names
-    → All (λ m. MatchOption (name_of m) ⊥ P) (map (new_section old ready extensions) (placed_under names what))
-all_named P old ready extensions [] what all = All-nil (λ (m : MediaLine). MatchOption (name_of m) ⊥ P)
-all_named P old ready extensions (name ∷ names) [] all = All-nil (λ (m : MediaLine). MatchOption (name_of m) ⊥ P)
-all_named P old ready extensions (name ∷ names) (it ∷ more) all =
+    → All (λ m. MatchOption (name_of m) ⊥ P) (map (new_section old ready extensions) (offer_placed_under names what))
+offer_all_named P old ready extensions [] what all = All-nil (λ (m : MediaLine). MatchOption (name_of m) ⊥ P)
+offer_all_named P old ready extensions (name ∷ names) [] all = All-nil (λ (m : MediaLine). MatchOption (name_of m) ⊥ P)
+offer_all_named P old ready extensions (name ∷ names) (it ∷ more) all =
     All-cons (λ (m : MediaLine). MatchOption (name_of m) ⊥ P) (new_section old ready extensions (record { mid = name; added = it }))
-    (map (new_section old ready extensions) (placed_under names more))
+    (map (new_section old ready extensions) (offer_placed_under names more))
     (subst (λ (found : Option (List ℕ)). MatchOption found ⊥ P)
     (sym (new_section_name old ready extensions (record { mid = name; added = it }))) (All-head P name names all))
-    (all_named P old ready extensions names more (All-tail P name names all))
+    (offer_all_named P old ready extensions names more (All-tail P name names all))
 
-record KeptPlace (old : Exchange) (at : ℕ) (mine said : MediaLine) (left : List MediaLine) : Type 0 where
-  place : KeepsPlace old at mine said
-  later : All (HasNewName old) left
+record KeptOfferPlace (old : Exchange) (at : ℕ) (mine said : MediaLine) (left : List MediaLine) : Type 0 where
+  place : KeepsOfferPlace old at mine said
+  later : All (HasNewOfferPlaceName old) left
 
-place_kept : (old : Exchange) (ready : List SectionDirection) (at : ℕ) (mine : MediaLine) (added : List MediaLine) (said : MediaLine)
+offer_place_kept : (old : Exchange) (ready : List SectionDirection) (at : ℕ) (mine : MediaLine) (added : List MediaLine) (said : MediaLine)
     (left : List MediaLine)
-    → All (HasNewName old) added → FillsPlace old ready at mine added said left → KeptPlace old at mine said left
-place_kept old ready at mine added said left new (inl (runs, is, same)) =
+    → All (HasNewOfferPlaceName old) added → FillsPlace old ready at mine added said left → KeptOfferPlace old at mine said left
+offer_place_kept old ready at mine added said left new (inl (runs, is, same)) =
     record {
-      place = inl (subst (HasShapeOf mine) (sym is) (next_shape old ready (theirs_at old.remote at) mine));
-      later = subst (All (HasNewName old)) (sym same) new;
+      place = inl (subst (HasShapeOf mine) (sym is) (next_offer_shape old ready (their_section_at old.remote at) mine));
+      later = subst (All (HasNewOfferPlaceName old)) (sym same) new;
     }
-place_kept old ready at mine [] said left new (inr (over, is, same)) =
-    record { place = inl (subst (HasShapeOf mine) (sym is) (rejecting_shape mine)); later = subst (All (HasNewName old)) (sym same) new }
-place_kept old ready at mine (x ∷ xs) said left new (inr (over, is, same)) =
+offer_place_kept old ready at mine [] said left new (inr (over, is, same)) =
     record {
-      place = inr (over, subst (HasNewName old) (sym is) (All-head (HasNewName old) x xs new));
-      later = subst (All (HasNewName old)) (sym same) (All-tail (HasNewName old) x xs new);
+      place = inl (subst (HasShapeOf mine) (sym is) (rejecting_shape mine));
+      later = subst (All (HasNewOfferPlaceName old)) (sym same) new;
+    }
+offer_place_kept old ready at mine (x ∷ xs) said left new (inr (over, is, same)) =
+    record {
+      place = inr (over, subst (HasNewOfferPlaceName old) (sym is) (All-head (HasNewOfferPlaceName old) x xs new));
+      later = subst (All (HasNewOfferPlaceName old)) (sym same) (All-tail (HasNewOfferPlaceName old) x xs new);
     }
 
-places_kept : (old : Exchange) (ready : List SectionDirection) (at : ℕ) (ms added filled left : List MediaLine)
-    → All (HasNewName old) added → FillsPlaces old ready at ms added filled left → KeepsPlaces old at ms (filled ++ left)
-places_kept old ready at [] added [] left new fills = tt
-places_kept old ready at [] added (x ∷ filled) left new fills = absurd fills
-places_kept old ready at (m ∷ ms) added [] left new fills = absurd fills
-places_kept old ready at (m ∷ ms) added (x ∷ filled) left new fills =
-    let kept : KeptPlace old at m x fills.0 = place_kept old ready at m added x fills.0 new fills.1 in
-    (kept.place, places_kept old ready (at + 1) ms fills.0 filled left kept.later fills.2)
+offer_places_kept : (old : Exchange) (ready : List SectionDirection) (at : ℕ) (ms added filled left : List MediaLine)
+    → All (HasNewOfferPlaceName old) added → FillsPlaces old ready at ms added filled left → KeepsOfferPlaces old at ms (filled ++ left)
+offer_places_kept old ready at [] added [] left new fills = tt
+offer_places_kept old ready at [] added (x ∷ filled) left new fills = absurd fills
+offer_places_kept old ready at (m ∷ ms) added [] left new fills = absurd fills
+offer_places_kept old ready at (m ∷ ms) added (x ∷ filled) left new fills =
+    let kept : KeptOfferPlace old at m x fills.0 = offer_place_kept old ready at m added x fills.0 new fills.1 in
+    (kept.place, offer_places_kept old ready (at + 1) ms fills.0 filled left kept.later fills.2)
 
-pub offer_places : (old : Exchange) (names : List (List ℕ)) (offer : Sdp) → All (IsNewName old) names → MakesOffer old names offer
-    → KeepsPlaces old 0 (sections_of old.local) offer.media_lines
+pub offer_places : (old : Exchange) (names : List (List ℕ)) (offer : Sdp) → All (IsNewOfferName old) names → MakesOffer old names offer
+    → KeepsOfferPlaces old 0 (sections_of old.local) offer.media_lines
 offer_places old names offer new makes =
-    subst (KeepsPlaces old 0 (sections_of old.local)) (sym makes.sections.all)
-    (places_kept old (ready_with old names) 0 (sections_of old.local) (sections_added old names) makes.sections.filled makes.sections.left
-    (all_named (IsNewName old) old (ready_with old names) _ names old.added new) makes.sections.fills)
+    subst (KeepsOfferPlaces old 0 (sections_of old.local)) (sym makes.sections.all)
+    (offer_places_kept old (offer_ready_with old names) 0 (sections_of old.local) (sections_added old names) makes.sections.filled
+    makes.sections.left
+    (offer_all_named (IsNewOfferName old) old (offer_ready_with old names) _ names old.added new) makes.sections.fills)
 
 -- ---- sections with a port
 
@@ -155,8 +162,8 @@ channels_offered old ready instead mid (Some channels) =
 offered_by : (old : Exchange) (ready : List SectionDirection) (theirs : Option MediaLine) (mine : MediaLine) (name : Option (List ℕ))
     (typ : MediaType) (proto : Proto)
     → IsOffered old ready (section_by old ready theirs mine name typ proto)
-offered_by old ready theirs mine (Some mid) Audio Srtp = media_offered old ready kind.Audio mid (kept_lines theirs mine)
-offered_by old ready theirs mine (Some mid) Video Srtp = media_offered old ready kind.Video mid (kept_lines theirs mine)
+offered_by old ready theirs mine (Some mid) Audio Srtp = media_offered old ready kind.Audio mid (kept_section_lines theirs mine)
+offered_by old ready theirs mine (Some mid) Video Srtp = media_offered old ready kind.Video mid (kept_section_lines theirs mine)
 offered_by old ready theirs mine (Some mid) Application Sctp = channels_offered old ready mine mid old.own.channels
 offered_by old ready theirs mine (Some mid) Audio Sctp = rejecting_offered old ready mine
 offered_by old ready theirs mine (Some mid) Video Sctp = rejecting_offered old ready mine
@@ -166,7 +173,7 @@ offered_by old ready theirs mine None typ proto = rejecting_offered old ready mi
 
 offered_for : (old : Exchange) (ready : List SectionDirection) (extensions : List MediaAttribute) (mid : List ℕ) (what : Added)
     → IsOffered old ready (section_for old ready extensions mid what)
-offered_for old ready extensions mid (added.Media kind direction) = media_offered old ready kind mid (asked_lines extensions)
+offered_for old ready extensions mid (added.Media kind direction) = media_offered old ready kind mid (asked_section_lines extensions)
 offered_for old ready extensions mid added.Channels =
     channels_offered old ready (section_with Application Sctp (media.Mid mid ∷ [])) mid old.own.channels
 
@@ -177,16 +184,16 @@ all_offered old ready extensions (it ∷ more) =
     All-cons (IsOffered old ready) (new_section old ready extensions it) (map (new_section old ready extensions) more)
     (offered_for old ready extensions it.mid it.added) (all_offered old ready extensions more)
 
-abbrev IsAny : MediaLine → Type 0
-IsAny m = Unit {0}
+abbrev IsAnySection : MediaLine → Type 0
+IsAnySection m = Unit {0}
 
 pub offer_rules : (old : Exchange) (names : List (List ℕ)) (offer : Sdp) → MakesOffer old names offer
-    → All (IsOffered old (ready_with old names)) offer.media_lines
+    → All (IsOffered old (offer_ready_with old names)) offer.media_lines
 offer_rules old names offer makes =
-    let ready : List SectionDirection = ready_with old names in
+    let ready : List SectionDirection = offer_ready_with old names in
     subst (All (IsOffered old ready)) (sym makes.sections.all)
-    (places_hold (IsOffered old ready) IsAny old ready
+    (places_hold (IsOffered old ready) IsAnySection old ready
     (λ theirs mine any. offered_by old ready theirs mine (name_of mine) mine.typ mine.proto)
     (λ mine any. rejecting_offered old ready mine)
     0 (sections_of old.local) (sections_added old names) makes.sections.filled makes.sections.left
-    (λ k d lt. tt) (all_offered old ready _ (placed_under names old.added)) makes.sections.fills)
+    (λ k d lt. tt) (all_offered old ready _ (offer_placed_under names old.added)) makes.sections.fills)

@@ -5,11 +5,12 @@ use Rattle.exchange.proofs.Common.{PayloadParams, types, first, direction_attrib
 use Rattle.exchange.proofs.Common.{Application, Unknown, Proto, Srtp, Sctp, Setup, MediaLine, Sdp, is_mid, mid_of, maps, is_of_type, made}
 use Rattle.exchange.proofs.Common.{row_attrs, section_direction, AnswersDirection, Direction}
 use Rattle.exchange.proofs.answer.OfferedLaws.{accepted_channels_offered, accepted_media_offered}
-use Rattle.exchange.specs.answer.Accepted.{AcceptsChannels, AcceptsMedia, candidate_line, first_lines, framed, layer_lines, media_lines}
+use Rattle.exchange.specs.answer.Accepted.{AcceptsChannels, AcceptsMedia, candidate_line, first_lines, accepted_frame, layer_lines}
+use Rattle.exchange.specs.answer.Accepted.{media_lines}
 use Rattle.exchange.specs.answer.Accepted.{msid_lines}
-use Rattle.exchange.specs.answer.AnsweredSection.{AnswersSection, SaysChoice}
-use Rattle.exchange.specs.answer.Choice.{IsSectionChoice, choice_by_kind, by_name, channels_or_none, rows_or_none}
-use Rattle.exchange.specs.answer.RejectedSection.{direction_over, first_type, line_that, rejecting}
+use Rattle.exchange.specs.answer.AnsweredSection.{AnswersSection, SaysSectionChoice}
+use Rattle.exchange.specs.answer.Choice.{IsSectionChoice, choice_by_kind, choice_by_name, channels_choice, rows_or_none}
+use Rattle.exchange.specs.answer.RejectedSection.{direction_over, first_rejected_type, first_rejected_line, rejecting}
 use Rattle.exchange.specs.answer.Rows.{answered_rows}
 use Rattle.exchange.specs.declared.answer.choice.Choice.{Choice}
 use Rattle.exchange.specs.declared.answer.choice.Choice.TheVariants.{Rejected, Media, Channels}
@@ -25,12 +26,12 @@ use Rattle.str0m_values.specs.declared.direction.Direction.TheVariants as way
 -- ---- lists place by place
 
 -- what follows from a relation holds at each place
-pub all_zip_weaker : {A B : Type 0} (R S : A → B → Type 0) → ((x : A) (y : B) → R x y → S x y) → (xs : List A) (ys : List B)
+pub rule_all_zip_weaker : {A B : Type 0} (R S : A → B → Type 0) → ((x : A) (y : B) → R x y → S x y) → (xs : List A) (ys : List B)
     → AllZip R xs ys → AllZip S xs ys
-all_zip_weaker R S weaker [] [] zip = zip
-all_zip_weaker R S weaker [] (y ∷ ys) zip = zip
-all_zip_weaker R S weaker (x ∷ xs) [] zip = zip
-all_zip_weaker R S weaker (x ∷ xs) (y ∷ ys) zip = (weaker x y zip.0, all_zip_weaker R S weaker xs ys zip.1)
+rule_all_zip_weaker R S weaker [] [] zip = zip
+rule_all_zip_weaker R S weaker [] (y ∷ ys) zip = zip
+rule_all_zip_weaker R S weaker (x ∷ xs) [] zip = zip
+rule_all_zip_weaker R S weaker (x ∷ xs) (y ∷ ys) zip = (weaker x y zip.0, rule_all_zip_weaker R S weaker xs ys zip.1)
 
 -- ---- what is chosen
 
@@ -41,7 +42,7 @@ from_rows mid name theirs [] e = cc
 from_rows mid name theirs (row ∷ rows) e = ((cc), (cc), λ (n : row ∷ rows ≡ []). cc)
 
 rows_not_channels : (mid name : List ℕ) (theirs : List PayloadParams) (channels : Option DataChannels)
-    → Media mid theirs ≡ channels_or_none name channels → ⊥
+    → Media mid theirs ≡ channels_choice name channels → ⊥
 rows_not_channels mid name theirs None e = cc
 rows_not_channels mid name theirs (Some channels) e = cc
 
@@ -50,10 +51,10 @@ channels_not_rows : (mid name : List ℕ) (theirs : DataChannels) (rows : List P
 channels_not_rows mid name theirs [] e = cc
 channels_not_rows mid name theirs (row ∷ rows) e = cc
 
-from_channels : (mid name : List ℕ) (theirs : DataChannels) (channels : Option DataChannels)
-    → Channels mid theirs ≡ channels_or_none name channels → (name ≡ mid) × (channels ≢ None)
-from_channels mid name theirs None e = cc
-from_channels mid name theirs (Some channels) e = ((cc), λ (n : Some channels ≡ None). cc)
+rule_from_channels : (mid name : List ℕ) (theirs : DataChannels) (channels : Option DataChannels)
+    → Channels mid theirs ≡ channels_choice name channels → (name ≡ mid) × (channels ≢ None)
+rule_from_channels mid name theirs None e = cc
+rule_from_channels mid name theirs (Some channels) e = ((cc), λ (n : Some channels ≡ None). cc)
 
 record MediaChosen (own : OwnSide) (rows : List PayloadParams) (name : Option (List ℕ)) (typ : MediaType) (proto : Proto) (mid : List ℕ)
     (theirs : List PayloadParams) : Type 0 where
@@ -78,58 +79,58 @@ media_of_kind own rows name (Unknown text) Sctp mid theirs e = cc
 
 media_chosen : (own : OwnSide) (rows : List PayloadParams) (name : Option (List ℕ)) (typ : MediaType) (proto : Proto) (mid : List ℕ)
     (theirs : List PayloadParams)
-    → Media mid theirs ≡ by_name own rows name typ proto → MediaChosen own rows name typ proto mid theirs
+    → Media mid theirs ≡ choice_by_name own rows name typ proto → MediaChosen own rows name typ proto mid theirs
 media_chosen own rows None typ proto mid theirs e = cc
 media_chosen own rows (Some name) typ proto mid theirs e = media_of_kind own rows name typ proto mid theirs e
 
-record ChannelsChosen (own : OwnSide) (rows : List PayloadParams) (name : Option (List ℕ)) (typ : MediaType) (proto : Proto)
+record RuleChannelsChosen (own : OwnSide) (rows : List PayloadParams) (name : Option (List ℕ)) (typ : MediaType) (proto : Proto)
     (mid : List ℕ) : Type 0 where
   named_so : name ≡ Some mid
   no_media : is_media typ ≡ false
   answerable : HasAnswerFor own rows typ proto
 
-channels_of_kind : (own : OwnSide) (rows : List PayloadParams) (name : List ℕ) (typ : MediaType) (proto : Proto) (mid : List ℕ)
+rule_channels_of_kind : (own : OwnSide) (rows : List PayloadParams) (name : List ℕ) (typ : MediaType) (proto : Proto) (mid : List ℕ)
     (theirs : DataChannels)
-    → Channels mid theirs ≡ choice_by_kind own rows name typ proto → ChannelsChosen own rows (Some name) typ proto mid
-channels_of_kind own rows name Audio Srtp mid theirs e = absurd (channels_not_rows mid name theirs rows e)
-channels_of_kind own rows name Video Srtp mid theirs e = absurd (channels_not_rows mid name theirs rows e)
-channels_of_kind own rows name Application Sctp mid theirs e = let f = from_channels mid name theirs own.channels e in
+    → Channels mid theirs ≡ choice_by_kind own rows name typ proto → RuleChannelsChosen own rows (Some name) typ proto mid
+rule_channels_of_kind own rows name Audio Srtp mid theirs e = absurd (channels_not_rows mid name theirs rows e)
+rule_channels_of_kind own rows name Video Srtp mid theirs e = absurd (channels_not_rows mid name theirs rows e)
+rule_channels_of_kind own rows name Application Sctp mid theirs e = let f = rule_from_channels mid name theirs own.channels e in
     record { named_so = ap Some f.0; no_media = refl; answerable = f.1 }
-channels_of_kind own rows name Audio Sctp mid theirs e = cc
-channels_of_kind own rows name Video Sctp mid theirs e = cc
-channels_of_kind own rows name Application Srtp mid theirs e = cc
-channels_of_kind own rows name (Unknown text) Srtp mid theirs e = cc
-channels_of_kind own rows name (Unknown text) Sctp mid theirs e = cc
+rule_channels_of_kind own rows name Audio Sctp mid theirs e = cc
+rule_channels_of_kind own rows name Video Sctp mid theirs e = cc
+rule_channels_of_kind own rows name Application Srtp mid theirs e = cc
+rule_channels_of_kind own rows name (Unknown text) Srtp mid theirs e = cc
+rule_channels_of_kind own rows name (Unknown text) Sctp mid theirs e = cc
 
-channels_chosen : (own : OwnSide) (rows : List PayloadParams) (name : Option (List ℕ)) (typ : MediaType) (proto : Proto) (mid : List ℕ)
+rule_channels_chosen : (own : OwnSide) (rows : List PayloadParams) (name : Option (List ℕ)) (typ : MediaType) (proto : Proto) (mid : List ℕ)
     (theirs : DataChannels)
-    → Channels mid theirs ≡ by_name own rows name typ proto → ChannelsChosen own rows name typ proto mid
-channels_chosen own rows None typ proto mid theirs e = cc
-channels_chosen own rows (Some name) typ proto mid theirs e = channels_of_kind own rows name typ proto mid theirs e
+    → Channels mid theirs ≡ choice_by_name own rows name typ proto → RuleChannelsChosen own rows name typ proto mid
+rule_channels_chosen own rows None typ proto mid theirs e = cc
+rule_channels_chosen own rows (Some name) typ proto mid theirs e = rule_channels_of_kind own rows name typ proto mid theirs e
 
 -- what this side has something for isn't rejected
 some_rows : (name : List ℕ) (rows : List PayloadParams) → Rejected ≡ rows_or_none name rows → rows ≢ [] → ⊥
 some_rows name [] e some = some refl
 some_rows name (row ∷ rows) e some = cc
 
-some_channels : (name : List ℕ) (channels : Option DataChannels) → Rejected ≡ channels_or_none name channels → channels ≢ None → ⊥
-some_channels name None e some = some refl
-some_channels name (Some channels) e some = cc
+rule_some_channels : (name : List ℕ) (channels : Option DataChannels) → Rejected ≡ channels_choice name channels → channels ≢ None → ⊥
+rule_some_channels name None e some = some refl
+rule_some_channels name (Some channels) e some = cc
 
 not_rejected : (own : OwnSide) (rows : List PayloadParams) (name : Option (List ℕ)) (typ : MediaType) (proto : Proto)
-    → Rejected ≡ by_name own rows name typ proto → name ≢ None → HasAnswerFor own rows typ proto → ⊥
+    → Rejected ≡ choice_by_name own rows name typ proto → name ≢ None → HasAnswerFor own rows typ proto → ⊥
 not_rejected own rows None typ proto e named_so has = named_so refl
 not_rejected own rows (Some name) Audio Srtp e named_so has = some_rows name rows e has
 not_rejected own rows (Some name) Video Srtp e named_so has = some_rows name rows e has
-not_rejected own rows (Some name) Application Sctp e named_so has = some_channels name own.channels e has
+not_rejected own rows (Some name) Application Sctp e named_so has = rule_some_channels name own.channels e has
 not_rejected own rows (Some name) Audio Sctp e named_so has = has
 not_rejected own rows (Some name) Video Sctp e named_so has = has
 not_rejected own rows (Some name) Application Srtp e named_so has = has
 not_rejected own rows (Some name) (Unknown text) Srtp e named_so has = has
 not_rejected own rows (Some name) (Unknown text) Sctp e named_so has = has
 
-some_name : (name : Option (List ℕ)) (mid : List ℕ) → name ≡ Some mid → name ≢ None
-some_name name mid e n = cc
+rule_some_name : (name : Option (List ℕ)) (mid : List ℕ) → name ≡ Some mid → name ≢ None
+rule_some_name name mid e n = cc
 
 -- ---- sections that reject
 
@@ -155,12 +156,12 @@ no_mid_behind Sctp lines none = none
 -- it has the name of the offered one
 pub rejected_name : (offered : MediaLine) → name_of (rejecting offered) ≡ name_of offered
 rejected_name offered =
-    let mapped : List MediaAttribute = line_that (maps (first_type offered.pts)) offered.attrs in
+    let mapped : List MediaAttribute = first_rejected_line (maps (first_rejected_type offered.pts)) offered.attrs in
     let behind : filter_map mid_of (direction_over offered.proto ++ mapped) ≡ [] =
-    no_mid_behind offered.proto mapped (no_mid_mapped (first_type offered.pts) offered.attrs) in
-    ap first (filter_map-append mid_of (line_that is_mid offered.attrs) (direction_over offered.proto ++ mapped)
-    ∙ ap (λ (names : List (List ℕ)). filter_map mid_of (line_that is_mid offered.attrs) ++ names) behind
-    ∙ append-nil (filter_map mid_of (line_that is_mid offered.attrs)))
+    no_mid_behind offered.proto mapped (no_mid_mapped (first_rejected_type offered.pts) offered.attrs) in
+    ap first (filter_map-append mid_of (first_rejected_line is_mid offered.attrs) (direction_over offered.proto ++ mapped)
+    ∙ ap (λ (names : List (List ℕ)). filter_map mid_of (first_rejected_line is_mid offered.attrs) ++ names) behind
+    ∙ append-nil (filter_map mid_of (first_rejected_line is_mid offered.attrs)))
     ∙ mid_first offered.attrs
 
 pub rejecting_shape : (offered : MediaLine) → HasShapeOf offered (rejecting offered)
@@ -179,8 +180,8 @@ direction_said own mid role way.Inactive behind rows = refl
 
 -- ---- the rules
 
-true_false : (b : Bool) → b ≡ true → b ≡ false → ⊥
-true_false b t f = cc
+rule_true_false : (b : Bool) → b ≡ true → b ≡ false → ⊥
+rule_true_false b t f = cc
 
 rejected_keeps : (own : OwnSide) (ours : List PayloadParams) (offer : Sdp) (offered answered : MediaLine)
     → IsSectionChoice own ours offer offered Rejected
@@ -190,11 +191,11 @@ rejected_keeps own ours offer offered answered is says =
     record {
       shape = subst (HasShapeOf offered) (sym says) (rejecting_shape offered);
       exactly = (
-        λ on. absurd (true_false answered.disabled off on),
+        λ on. absurd (rule_true_false answered.disabled off on),
         λ fits. absurd (not_rejected own (answered_rows ours offered) (name_of offered) offered.typ offered.proto (is.open_so fits.runs)
             fits.named_so fits.answerable),
       );
-      accepted = λ on. absurd (true_false answered.disabled off on);
+      accepted = λ on. absurd (rule_true_false answered.disabled off on);
     }
 
 media_keeps : (own : OwnSide) (ours : List PayloadParams) (offer : Sdp) (offered answered : MediaLine) (mid : List ℕ)
@@ -205,7 +206,8 @@ media_keeps own ours offer offered answered mid rows is accepts =
     let runs : IsStopped offer offered → ⊥ = λ stopped. let e : Media mid rows ≡ Rejected = is.stopped stopped in cc in
     let chosen : MediaChosen own (answered_rows ours offered) (name_of offered) offered.typ offered.proto mid rows =
     media_chosen own (answered_rows ours offered) (name_of offered) offered.typ offered.proto mid rows (is.open_so runs) in
-    let said : MediaLine = made (framed offered (first_lines own mid accepts.role ++ media_lines own offered mid accepts.direction rows))
+    let said : MediaLine = made (accepted_frame offered (first_lines own mid accepts.role
+    ++ media_lines own offered mid accepts.direction rows))
     rows in
     let shape : HasShapeOf offered said = record { typ = refl; proto = refl; name = sym chosen.named_so } in
     let reachable : IsReachable own offer offered said =
@@ -217,7 +219,7 @@ media_keeps own ours offer offered answered mid rows is accepts =
     record {
       shape = subst (HasShapeOf offered) (sym accepts.says) shape;
       exactly = (
-        λ on. record { runs = runs; named_so = some_name (name_of offered) mid chosen.named_so; answerable = chosen.answerable },
+        λ on. record { runs = runs; named_so = rule_some_name (name_of offered) mid chosen.named_so; answerable = chosen.answerable },
         λ fits. ap (λ (m : MediaLine). m.disabled) accepts.says,
       );
       accepted = λ on. record {
@@ -230,14 +232,14 @@ media_keeps own ours offer offered answered mid rows is accepts =
       };
     }
 
-channels_keep : (own : OwnSide) (ours : List PayloadParams) (offer : Sdp) (offered answered : MediaLine) (mid : List ℕ)
+rule_channels_keep : (own : OwnSide) (ours : List PayloadParams) (offer : Sdp) (offered answered : MediaLine) (mid : List ℕ)
     (channels : DataChannels)
     → IsSectionChoice own ours offer offered (Channels mid channels) → AcceptsChannels own offer offered mid channels answered
     → KeepsRules own ours offer offered answered
-channels_keep own ours offer offered answered mid channels is accepts =
+rule_channels_keep own ours offer offered answered mid channels is accepts =
     let runs : IsStopped offer offered → ⊥ = λ stopped. let e : Channels mid channels ≡ Rejected = is.stopped stopped in cc in
-    let chosen : ChannelsChosen own (answered_rows ours offered) (name_of offered) offered.typ offered.proto mid =
-    channels_chosen own (answered_rows ours offered) (name_of offered) offered.typ offered.proto mid channels (is.open_so runs) in
+    let chosen : RuleChannelsChosen own (answered_rows ours offered) (name_of offered) offered.typ offered.proto mid =
+    rule_channels_chosen own (answered_rows ours offered) (name_of offered) offered.typ offered.proto mid channels (is.open_so runs) in
     let shape : HasShapeOf offered answered =
     subst (HasShapeOf offered) (sym accepts.says) (record { typ = refl; proto = refl; name = sym chosen.named_so }) in
     let reachable : IsReachable own offer offered answered = subst (IsReachable own offer offered) (sym accepts.says)
@@ -245,29 +247,31 @@ channels_keep own ours offer offered answered mid channels is accepts =
     record {
       shape = shape;
       exactly = (
-        λ on. record { runs = runs; named_so = some_name (name_of offered) mid chosen.named_so; answerable = chosen.answerable },
+        λ on. record { runs = runs; named_so = rule_some_name (name_of offered) mid chosen.named_so; answerable = chosen.answerable },
         λ fits. ap (λ (m : MediaLine). m.disabled) accepts.says,
       );
       accepted = λ on. record {
         reachable = reachable;
-        flows = λ typ. absurd (true_false (is_media offered.typ) typ chosen.no_media);
-        types_are = λ typ. absurd (true_false (is_media offered.typ) typ chosen.no_media);
+        flows = λ typ. absurd (rule_true_false (is_media offered.typ) typ chosen.no_media);
+        types_are = λ typ. absurd (rule_true_false (is_media offered.typ) typ chosen.no_media);
         offered_so = subst (SaysOnlyOffered offered) (sym accepts.says) (accepted_channels_offered own offered mid accepts.role channels);
       };
     }
 
-choice_keeps : (own : OwnSide) (ours : List PayloadParams) (offer : Sdp) (offered answered : MediaLine) (choice : Choice)
-    → IsSectionChoice own ours offer offered choice → SaysChoice own offer offered choice answered
+rule_choice_keeps : (own : OwnSide) (ours : List PayloadParams) (offer : Sdp) (offered answered : MediaLine) (choice : Choice)
+    → IsSectionChoice own ours offer offered choice → SaysSectionChoice own offer offered choice answered
     → KeepsRules own ours offer offered answered
-choice_keeps own ours offer offered answered Rejected is says = rejected_keeps own ours offer offered answered is says
-choice_keeps own ours offer offered answered (Media mid rows) is says = media_keeps own ours offer offered answered mid rows is says
-choice_keeps own ours offer offered answered (Channels mid channels) is says = channels_keep own ours offer offered answered mid channels is
+rule_choice_keeps own ours offer offered answered Rejected is says = rejected_keeps own ours offer offered answered is says
+rule_choice_keeps own ours offer offered answered (Media mid rows) is says = media_keeps own ours offer offered answered mid rows is says
+rule_choice_keeps own ours offer offered answered (Channels mid channels) is says = rule_channels_keep own ours offer offered answered mid
+    channels is
     says
 
 pub section_keeps_rules : (own : OwnSide) (ours : List PayloadParams) (offer : Sdp) (offered answered : MediaLine)
     → AnswersSection own ours offer offered answered
     → KeepsRules own ours offer offered answered
-section_keeps_rules own ours offer offered answered answers = choice_keeps own ours offer offered answered answers.choice answers.is_choice
+section_keeps_rules own ours offer offered answered answers = rule_choice_keeps own ours offer offered answered answers.choice
+    answers.is_choice
     answers.says
 
 -- each section keeps them
@@ -275,19 +279,19 @@ pub sections_keep : (own : OwnSide) (ours : List PayloadParams) (offer : Sdp) (a
     → AllZip (AnswersSection own ours offer) offer.media_lines answered
     → AllZip (KeepsRules own ours offer) offer.media_lines answered
 sections_keep own ours offer answered answers =
-    all_zip_weaker (AnswersSection own ours offer) (KeepsRules own ours offer)
+    rule_all_zip_weaker (AnswersSection own ours offer) (KeepsRules own ours offer)
     (λ theirs said. section_keeps_rules own ours offer theirs said) offer.media_lines answered answers
 
 pub sections_shape : (own : OwnSide) (ours : List PayloadParams) (offer : Sdp) (answered : List MediaLine)
     → AllZip (AnswersSection own ours offer) offer.media_lines answered
     → AllZip HasShapeOf offer.media_lines answered
 sections_shape own ours offer answered answers =
-    all_zip_weaker (AnswersSection own ours offer) HasShapeOf
+    rule_all_zip_weaker (AnswersSection own ours offer) HasShapeOf
     (λ theirs said each. (section_keeps_rules own ours offer theirs said each).shape) offer.media_lines answered answers
 
 pub sections_exact : (own : OwnSide) (ours : List PayloadParams) (offer : Sdp) (answered : List MediaLine)
     → AllZip (AnswersSection own ours offer) offer.media_lines answered
     → AllZip (IsAcceptedExactly own ours offer) offer.media_lines answered
 sections_exact own ours offer answered answers =
-    all_zip_weaker (AnswersSection own ours offer) (IsAcceptedExactly own ours offer)
+    rule_all_zip_weaker (AnswersSection own ours offer) (IsAcceptedExactly own ours offer)
     (λ theirs said each. (section_keeps_rules own ours offer theirs said each).exactly) offer.media_lines answered answers

@@ -1,7 +1,7 @@
 -- When two values of a description are equal, by the derived `==`.
 use Rattle.exchange.proofs.Common.{Decides, pointwise, ◌≡◌, ℕ, List, Option, SessionAttribute, MediaType, Session, IceCreds}
 use Rattle.std.specs.Option.{option_eq}
-use Rattle.str0m_formats.proofs.{Equality, eq_along, equality}
+use Rattle.str0m_formats.proofs.{ParamEqualityTest, param_eq_along, param_equality}
 use Rattle.str0m_sdp.proofs.{session_Decides as attribute_Decides}
 use Rattle.str0m_sdp.specs.contracts.attribute.SessionAttributePartialEq.TheImpl as attribute_eq
 use Rattle.str0m_sdp.specs.contracts.attribute.bandwidth.BandwidthPartialEq.TheImpl as bandwidth_eq
@@ -12,38 +12,38 @@ use Rattle.str0m_sdp.specs.declared.attribute.bandwidth.Bandwidth.{Bandwidth}
 use Rattle.str0m_values.specs.contracts.ice_creds.IceCredsPartialEq.TheImpl as creds_eq
 use Rattle.str0m_values.specs.contracts.payload_type.PtPartialEq.TheImpl as pt_eq
 
-abbrev eq_types : Equality (List ℕ)
-eq_types = hlevel equality
+abbrev read_back_eq_types : ParamEqualityTest (List ℕ)
+read_back_eq_types = hlevel param_equality
 
-pub types_Decides : (a b : List ℕ) → Decides (pointwise pt_eq.eq-value.it a b) (a ≡ b)
-types_Decides a b = eq_types.decides a b
+pub read_back_types_Decides : (a b : List ℕ) → Decides (pointwise pt_eq.eq-value.it a b) (a ≡ b)
+read_back_types_Decides a b = read_back_eq_types.decides a b
 
-abbrev eq_creds : Equality IceCreds
-eq_creds = hlevel equality
+abbrev read_back_eq_creds : ParamEqualityTest IceCreds
+read_back_eq_creds = hlevel param_equality
 
-pub creds_Decides : (a b : IceCreds) → Decides (creds_eq.eq-value.it a b) (a ≡ b)
-creds_Decides a b = eq_creds.decides a b
+pub read_back_creds_Decides : (a b : IceCreds) → Decides (creds_eq.eq-value.it a b) (a ≡ b)
+read_back_creds_Decides a b = read_back_eq_creds.decides a b
 
-abbrev typ : Equality MediaType
-typ = eq_along media_type.as_values media_type.the_make media_type.the_eta (hlevel equality)
+abbrev media_type_equality : ParamEqualityTest MediaType
+media_type_equality = param_eq_along media_type.as_values media_type.the_make media_type.the_eta (hlevel param_equality)
 
-pub type_Decides : (a b : MediaType) → Decides (type_eq.eq-value.it a b) (a ≡ b)
-type_Decides a b = typ.decides a b
+pub read_back_type_Decides : (a b : MediaType) → Decides (type_eq.eq-value.it a b) (a ≡ b)
+read_back_type_Decides a b = media_type_equality.decides a b
 
-abbrev eq_bandwidth : Equality Bandwidth
-eq_bandwidth = hlevel equality
+abbrev read_back_eq_bandwidth : ParamEqualityTest Bandwidth
+read_back_eq_bandwidth = hlevel param_equality
 
-abbrev may_have_bandwidth : Equality (Option Bandwidth)
-may_have_bandwidth = hlevel (eq_bandwidth, equality)
+abbrev read_back_may_have_bandwidth : ParamEqualityTest (Option Bandwidth)
+read_back_may_have_bandwidth = hlevel (read_back_eq_bandwidth, param_equality)
 
-pub bandwidth_Decides : (a b : Option Bandwidth) → Decides (option_eq bandwidth_eq.eq-value.it a b) (a ≡ b)
-bandwidth_Decides a b = may_have_bandwidth.decides a b
+pub read_back_bandwidth_Decides : (a b : Option Bandwidth) → Decides (option_eq bandwidth_eq.eq-value.it a b) (a ≡ b)
+read_back_bandwidth_Decides a b = read_back_may_have_bandwidth.decides a b
 
-abbrev eq_attribute : Equality SessionAttribute
-eq_attribute = record { test = attribute_eq.eq-value.it; decides = attribute_Decides }
+abbrev read_back_eq_attribute : ParamEqualityTest SessionAttribute
+read_back_eq_attribute = record { test = attribute_eq.eq-value.it; decides = attribute_Decides }
 
-abbrev eq_whole_session : Equality Session
-eq_whole_session = hlevel (eq_attribute, eq_bandwidth, equality)
+abbrev eq_whole_session : ParamEqualityTest Session
+eq_whole_session = hlevel (read_back_eq_attribute, read_back_eq_bandwidth, param_equality)
 
 pub whole_session_Decides : (a b : Session) → Decides (session_eq.eq-value.it a b) (a ≡ b)
 whole_session_Decides a b = eq_whole_session.decides a b

@@ -1,5 +1,5 @@
 -- What an accepted section says, line by line.
-use Rattle.exchange.specs.Prelude.{AnswersDirection, AnswersRole, Candidate, Direction, MediaAttribute, MediaLine, PayloadParams, Sdp, Setup, direction_attribute, first, made, media_setup, receives, section_direction, sends, session_setup}
+use Rattle.exchange.specs.Prelude.{AnswersDirection, AnswersSetupRole, Candidate, Direction, MediaAttribute, MediaLine, PayloadParams, Sdp, Setup, direction_attribute, first, made, media_setup, receives, section_direction, sends, session_setup}
 use Rattle.exchange.specs.answer.Layers.{answered_layers}
 use Rattle.exchange.specs.declared.answer.accepted.TheConstants.{RTP_STREAM_ID}
 use Rattle.exchange.specs.declared.state.own_side.DataChannels.{DataChannels}
@@ -53,8 +53,8 @@ abbrev pub channel_lines : DataChannels → List MediaAttribute
 channel_lines channels = media.SctpPort channels.port ∷ (media.MaxMessageSize channels.max_message_size ∷ [])
 
 -- a section of the type and the protocol of the one that it answers, with a port (RFC 3264, section 6)
-abbrev pub framed : MediaLine → List MediaAttribute → MediaLine
-framed offered lines = record { typ = offered.typ; disabled = false; proto = offered.proto; pts = []; bw = None; attrs = lines }
+abbrev pub accepted_frame : MediaLine → List MediaAttribute → MediaLine
+accepted_frame offered lines = record { typ = offered.typ; disabled = false; proto = offered.proto; pts = []; bw = None; attrs = lines }
 
 -- what media says but for its rows: its direction (RFC 3264, section 6.1), where it is reached, what it repeats of the offer,
 -- its track and its layers
@@ -66,13 +66,13 @@ media_lines own offered mid direction rows =
 -- media is accepted under a name with these rows: in a direction and a role that answer those that are offered
 pub record AcceptsMedia (own : OwnSide) (offer : Sdp) (offered : MediaLine) (mid : List ℕ) (rows : List PayloadParams) (answered : MediaLine) : Type 0 where
   pub role : Setup
-  pub answers_role : AnswersRole (setup_in_force offer offered) role
+  pub answers_role : AnswersSetupRole (setup_in_force offer offered) role
   pub direction : Direction
   pub answers_direction : AnswersDirection (section_direction offered.attrs) (own_direction own offered) direction
-  pub says : answered ≡ made (framed offered (first_lines own mid role ++ media_lines own offered mid direction rows)) rows
+  pub says : answered ≡ made (accepted_frame offered (first_lines own mid role ++ media_lines own offered mid direction rows)) rows
 
 -- data channels are accepted under a name, in a role that answers the one that is offered
 pub record AcceptsChannels (own : OwnSide) (offer : Sdp) (offered : MediaLine) (mid : List ℕ) (channels : DataChannels) (answered : MediaLine) : Type 0 where
   pub role : Setup
-  pub answers_role : AnswersRole (setup_in_force offer offered) role
-  pub says : answered ≡ framed offered (first_lines own mid role ++ channel_lines channels ++ map candidate_line own.candidates)
+  pub answers_role : AnswersSetupRole (setup_in_force offer offered) role
+  pub says : answered ≡ accepted_frame offered (first_lines own mid role ++ channel_lines channels ++ map candidate_line own.candidates)

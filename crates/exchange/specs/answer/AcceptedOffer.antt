@@ -1,5 +1,5 @@
 -- What answers an offer, before it is in force, and the tracks that a description says (RFC 8830, section 2).
-use Rattle.exchange.specs.Prelude.{AllDistinct, AreDistinct, IsPlain, LockedStay, MediaAttribute, MediaLine, Sdp, section_mids, types, versioned_text}
+use Rattle.exchange.specs.Prelude.{AllTypesDistinct, AreMidsDistinct, IsPlain, LockedStay, MediaAttribute, MediaLine, Sdp, section_mids, types, versioned_text}
 use Rattle.exchange.specs.answer.AnsweredSession.{BundlesAccepted}
 use Rattle.exchange.specs.answer.Offered.{IsOffer, NegotiatesOffer}
 use Rattle.exchange.specs.declared.state.exchange.Exchange.{Exchange}
@@ -28,7 +28,7 @@ tracks sdp = flat_map section_tracks sdp.media_lines
 -- the text is this offer, its rounds lead to this configuration, and the description answers it
 pub record IsAnsweredWith (old : Exchange) (text : List ℕ) (offer : Sdp) (after : CodecConfig) (answer : Sdp) : Type 0 where
   pub read : IsOffer text offer
-  pub different : AreDistinct (section_mids offer.media_lines)
+  pub different : AreMidsDistinct (section_mids offer.media_lines)
   pub placed : StaysInPlaces old.names (sections_of old.local) old.remote offer
   pub shape : AllZip HasShapeOf offer.media_lines answer.media_lines
   pub exactly : AllZip (IsAcceptedExactly old.own after.params.items offer) offer.media_lines answer.media_lines
@@ -36,10 +36,10 @@ pub record IsAnsweredWith (old : Exchange) (text : List ℕ) (offer : Sdp) (afte
   pub answers : AnswersOffer old.own after.params.items offer answer
   pub bundle : BundlesAccepted offer answer
   pub mids : section_mids answer.media_lines ≡ section_mids offer.media_lines
-  pub tracks : AreDistinct (tracks answer)
+  pub tracks : AreMidsDistinct (tracks answer)
   pub read_back : IsReadBack answer (versioned_text old.version answer)
   pub negotiated : NegotiatesOffer offer old.config.params.items after.params.items
   pub stay : LockedStay old.config.params.items after.params.items
-  pub distinct : AllDistinct (types old.config.params.items) → AllDistinct (types after.params.items)
+  pub distinct : AllTypesDistinct (types old.config.params.items) → AllTypesDistinct (types after.params.items)
   pub plain : All IsPlain old.config.params.items → All IsPlain after.params.items
   pub distances : after.red_distances ≡ old.config.red_distances

@@ -9,8 +9,8 @@ use Rattle.std.specs.Prelude.{◌≡◌, ℕ, Bool, true, false, not, List, [], 
 use Rattle.str0m_sdp.specs.declared.attribute.SessionAttribute.TheVariants.{AllowMixedExts, Group}
 
 -- the section has a port (RFC 3264, section 6)
-abbrev pub is_accepted : MediaLine → Bool
-is_accepted m = not m.disabled
+abbrev pub is_section_accepted : MediaLine → Bool
+is_section_accepted m = not m.disabled
 
 -- the group of those that share a transport; no group where none does (RFC 9143, section 7.3)
 abbrev pub group_lines : List (List ℕ) → List SessionAttribute
@@ -18,24 +18,24 @@ group_lines [] = []
 group_lines (mid ∷ mids) = Group (codes "BUNDLE") (mid ∷ mids) ∷ []
 
 -- header extensions of both lengths may be mixed (RFC 8285, section 6)
-abbrev pub allows_mixed : SessionAttribute → Bool
-allows_mixed AllowMixedExts = true
-allows_mixed _ = false
+abbrev pub session_allows_mixed : SessionAttribute → Bool
+session_allows_mixed AllowMixedExts = true
+session_allows_mixed _ = false
 
 -- so where the offer says so
 abbrev pub mixed_lines : List SessionAttribute → List SessionAttribute
-mixed_lines offered = if list_any allows_mixed offered then AllowMixedExts ∷ [] else []
+mixed_lines offered = if list_any session_allows_mixed offered then AllowMixedExts ∷ [] else []
 
 -- the session's part of the answer with these sections
 abbrev pub answered_session : OwnSide → Sdp → List MediaLine → Session
 answered_session own offer answered = record {
   id = own.session_id;
   bw = None;
-  attrs = group_lines (answered_bundle offer (map is_accepted answered)) ++ mixed_lines offer.session.attrs;
+  attrs = group_lines (answered_bundle offer (map is_section_accepted answered)) ++ mixed_lines offer.session.attrs;
 }
 
 -- the answer's first `BUNDLE` group lists the accepted sections of the offer's first such group, in its order; there is no such
 -- group where none is (RFC 9143, section 7.3)
 pub record BundlesAccepted (offer answer : Sdp) : Type 0 where
-  pub names : bundle_names answer ≡ answered_bundle offer (map is_accepted answer.media_lines)
+  pub names : bundle_names answer ≡ answered_bundle offer (map is_section_accepted answer.media_lines)
   pub absent : bundle_names answer ≡ [] → bundle_group answer ≡ None

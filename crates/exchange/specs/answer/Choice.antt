@@ -16,25 +16,25 @@ rows_or_none mid [] = Rejected
 rows_or_none mid (row ∷ rows) = Media mid (row ∷ rows)
 
 -- data channels are rejected by a side that takes none
-abbrev pub channels_or_none : List ℕ → Option DataChannels → Choice
-channels_or_none mid None = Rejected
-channels_or_none mid (Some channels) = Channels mid channels
+abbrev pub channels_choice : List ℕ → Option DataChannels → Choice
+channels_choice mid None = Rejected
+channels_choice mid (Some channels) = Channels mid channels
 
 -- by what a section carries, and over what: audio and video over RTP, data channels over SCTP, nothing else
 abbrev pub choice_by_kind : OwnSide → List PayloadParams → List ℕ → MediaType → Proto → Choice
 choice_by_kind own rows mid Audio Srtp = rows_or_none mid rows
 choice_by_kind own rows mid Video Srtp = rows_or_none mid rows
-choice_by_kind own rows mid Application Sctp = channels_or_none mid own.channels
+choice_by_kind own rows mid Application Sctp = channels_choice mid own.channels
 choice_by_kind own rows mid _ _ = Rejected
 
 -- by its name, which each section has that was read
-abbrev pub by_name : OwnSide → List PayloadParams → Option (List ℕ) → MediaType → Proto → Choice
-by_name own rows None typ proto = Rejected
-by_name own rows (Some mid) typ proto = choice_by_kind own rows mid typ proto
+abbrev pub choice_by_name : OwnSide → List PayloadParams → Option (List ℕ) → MediaType → Proto → Choice
+choice_by_name own rows None typ proto = Rejected
+choice_by_name own rows (Some mid) typ proto = choice_by_kind own rows mid typ proto
 
 -- what a section that isn't stopped is answered with, where this side has these rows
 abbrev pub open_choice : OwnSide → List PayloadParams → MediaLine → Choice
-open_choice own ours m = by_name own (answered_rows ours m) (name_of m) m.typ m.proto
+open_choice own ours m = choice_by_name own (answered_rows ours m) (name_of m) m.typ m.proto
 
 -- a stopped section is rejected (RFC 3264, section 8.2)
 pub record IsSectionChoice (own : OwnSide) (ours : List PayloadParams) (offer : Sdp) (m : MediaLine) (choice : Choice) : Type 0 where

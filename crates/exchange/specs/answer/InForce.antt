@@ -1,5 +1,5 @@
 -- What is in force at a section: what it says itself, else what the session says for all sections.
-use Rattle.exchange.specs.Prelude.{Fingerprint, IceCreds, MediaAttribute, MediaLine, Sdp, SessionAttribute, Setup, creds, first, first_filled, media_fingerprint, media_pwd, media_setup, media_ufrag, session_fingerprint, session_pwd, session_setup, session_ufrag}
+use Rattle.exchange.specs.Prelude.{Fingerprint, IceCreds, MediaAttribute, MediaLine, Sdp, SessionAttribute, Setup, creds, first, first_filled_fingerprints, media_fingerprint, media_pwd, media_setup, media_ufrag, session_fingerprint, session_pwd, session_setup, session_ufrag}
 use Rattle.std.specs.Option.{option_or}
 use Rattle.std.specs.Prelude.{ℕ, List, [], ◌∷◌, Option, Some, None, filter_map, slice_get}
 
@@ -16,19 +16,19 @@ abbrev pub setup_at : Sdp → ℕ → Option Setup
 setup_at = in_force media_setup session_setup
 
 -- the username fragment and the password, each by itself (RFC 8839, section 5.4)
-abbrev pub ufrag_at : Sdp → ℕ → Option (List ℕ)
-ufrag_at = in_force media_ufrag session_ufrag
+abbrev pub ufrag_in_force : Sdp → ℕ → Option (List ℕ)
+ufrag_in_force = in_force media_ufrag session_ufrag
 
-abbrev pub pwd_at : Sdp → ℕ → Option (List ℕ)
-pwd_at = in_force media_pwd session_pwd
+abbrev pub pwd_in_force : Sdp → ℕ → Option (List ℕ)
+pwd_in_force = in_force media_pwd session_pwd
 
 abbrev pub creds_at : Sdp → ℕ → Option IceCreds
-creds_at sdp at = creds (ufrag_at sdp at) (pwd_at sdp at)
+creds_at sdp at = creds (ufrag_in_force sdp at) (pwd_in_force sdp at)
 
 -- the fingerprints of the section, else those of the session (RFC 8122, section 5)
 abbrev pub fingerprints_of : List SessionAttribute → Option MediaLine → List Fingerprint
 fingerprints_of session None = []
-fingerprints_of session (Some m) = first_filled (filter_map media_fingerprint m.attrs ∷ filter_map session_fingerprint session ∷ [])
+fingerprints_of session (Some m) = first_filled_fingerprints (filter_map media_fingerprint m.attrs ∷ filter_map session_fingerprint session ∷ [])
 
 abbrev pub fingerprints_at : Sdp → ℕ → List Fingerprint
 fingerprints_at sdp at = fingerprints_of sdp.session.attrs (slice_get sdp.media_lines at)

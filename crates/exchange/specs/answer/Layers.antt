@@ -7,45 +7,45 @@ use Rattle.str0m_sdp.specs.declared.attribute.simulcast.RestrictionId.{Restricti
 use Rattle.str0m_sdp.specs.declared.attribute.simulcast.Simulcast as layers
 
 -- the layers that the offer sends
-abbrev pub sent_by : Option layers.Simulcast → List SimulcastLayer
-sent_by None = []
-sent_by (Some simulcast) = simulcast.send.0
+abbrev pub layers_sent_by : Option layers.Simulcast → List SimulcastLayer
+layers_sent_by None = []
+layers_sent_by (Some simulcast) = simulcast.send.0
 
 abbrev pub sent_layers : MediaLine → List SimulcastLayer
-sent_layers offered = sent_by (last (filter_map simulcast_of offered.attrs))
+sent_layers offered = layers_sent_by (last (filter_map simulcast_of offered.attrs))
 
 -- a layer has this name
-abbrev pub is_named : List ℕ → SimulcastLayer → Bool
-is_named name layer = bytes_eq layer.restriction_id.0 name
+abbrev pub is_layer_named : List ℕ → SimulcastLayer → Bool
+is_layer_named name layer = bytes_eq layer.restriction_id.0 name
 
 -- of the types of a rid line those that stand among the rows
-abbrev pub is_type_of : List PayloadParams → ℕ → Bool
-is_type_of rows pt = list_any (λ row. row.pt == pt) rows
+abbrev pub is_row_type : List PayloadParams → ℕ → Bool
+is_row_type rows pt = list_any (λ row. row.pt == pt) rows
 
-abbrev pub types_left : List PayloadParams → List ℕ → List ℕ
-types_left rows pts = filter (is_type_of rows) pts
+abbrev pub rid_types_left : List PayloadParams → List ℕ → List ℕ
+rid_types_left rows pts = filter (is_row_type rows) pts
 
 -- a rid line that lists no types allows any; one whose types are all gone is removed
-abbrev pub is_left : List PayloadParams → List ℕ → Bool
-is_left rows pts = length pts == 0 || list_any (is_type_of rows) pts
+abbrev pub is_rid_left : List PayloadParams → List ℕ → Bool
+is_rid_left rows pts = length pts == 0 || list_any (is_row_type rows) pts
 
 -- the rid line of a layer that is sent, turned round: received here, under the types that are left
 abbrev pub answered_rid : List SimulcastLayer → List PayloadParams → MediaAttribute → Option MediaAttribute
 answered_rid sent rows (Rid id direction pts restrictions) =
-    if bytes_eq direction (codes "send") && (list_any (is_named id.0) sent && is_left rows pts)
-    then Some (Rid id (codes "recv") (types_left rows pts) restrictions) else None
+    if bytes_eq direction (codes "send") && (list_any (is_layer_named id.0) sent && is_rid_left rows pts)
+    then Some (Rid id (codes "recv") (rid_types_left rows pts) restrictions) else None
 answered_rid sent rows _ = None
 
 abbrev pub answered_rids : List PayloadParams → MediaLine → List MediaAttribute
 answered_rids rows offered = filter_map (answered_rid (sent_layers offered) rows) offered.attrs
 
 -- the layers that have a rid line still
-abbrev pub has_name : List ℕ → Option (List ℕ) → Bool
-has_name name None = false
-has_name name (Some other) = bytes_eq other name
+abbrev pub is_rid_named : List ℕ → Option (List ℕ) → Bool
+is_rid_named name None = false
+is_rid_named name (Some other) = bytes_eq other name
 
 abbrev pub is_rid_answered : List MediaAttribute → SimulcastLayer → Bool
-is_rid_answered rids layer = list_any (λ rid. has_name layer.restriction_id.0 (rid_name_of rid)) rids
+is_rid_answered rids layer = list_any (λ rid. is_rid_named layer.restriction_id.0 (rid_name_of rid)) rids
 
 abbrev pub received_layers : List MediaAttribute → MediaLine → List SimulcastLayer
 received_layers rids offered = filter (is_rid_answered rids) (sent_layers offered)
@@ -68,9 +68,9 @@ pub record IsTurnedRid (rows : List PayloadParams) (offered : MediaLine) (line :
   pub pts : List ℕ
   pub restrictions : List (List ℕ × List ℕ)
   pub offered_so : Contains offered.attrs (Rid id (codes "send") pts restrictions)
-  pub named : list_any (is_named id.0) (sent_layers offered) ≡ true
-  pub left : is_left rows pts ≡ true
-  pub said : line ≡ Rid id (codes "recv") (types_left rows pts) restrictions
+  pub named : list_any (is_layer_named id.0) (sent_layers offered) ≡ true
+  pub left : is_rid_left rows pts ≡ true
+  pub said : line ≡ Rid id (codes "recv") (rid_types_left rows pts) restrictions
 
 -- a line of layers that the offer sends, received
 pub record IsTurnedLayers (offered : MediaLine) (line : MediaAttribute) : Type 0 where
@@ -79,5 +79,5 @@ pub record IsTurnedLayers (offered : MediaLine) (line : MediaAttribute) : Type 0
   pub offered_so : All (Contains (sent_layers offered)) received
   pub said : line ≡ Simulcast (record { send = record { 0 = [] }; recv = record { 0 = received }; is_munged = false })
 
-abbrev pub IsTurned : List PayloadParams → MediaLine → MediaAttribute → Type 0
-IsTurned rows offered line = IsTurnedRid rows offered line ⊎ IsTurnedLayers offered line
+abbrev pub IsTurnedLine : List PayloadParams → MediaLine → MediaAttribute → Type 0
+IsTurnedLine rows offered line = IsTurnedRid rows offered line ⊎ IsTurnedLayers offered line

@@ -1,5 +1,5 @@
 -- Offers that are read whole, and their rounds.
-use Rattle.exchange.specs.Prelude.{IsReading, Line, Lines, MediaLine, Outcome, PayloadParams, Reached, Reading, Refuses, RunPromises, Sdp, is_media, rows, section_direction}
+use Rattle.exchange.specs.Prelude.{IsReading, Line, Lines, MediaLine, Outcome, PayloadParams, RunReached, Reading, Refuses, RoundsRunPromises, Sdp, is_media, rows, section_direction}
 use Rattle.exchange.specs.declared.state.exchange_error.ExchangeError.{ExchangeError}
 use Rattle.exchange.specs.declared.state.exchange_error.ExchangeError.TheVariants.{NotRead, Unread, WrongState, DoesNotFit, NoRows, NoChannels, NoName, NotPrintable, Memory}
 use Rattle.exchange.specs.section.Stopped.{IsStopped}
@@ -12,7 +12,7 @@ abbrev pub IsOffer : List ℕ → Sdp → Type 0
 IsOffer text offer = Reading text (offer, [])
 
 -- some lines follow those of the description that the text begins with, and the first of them has this number, counted from 1
-pub record IsCutShort (text : List ℕ) (line : ℕ) : Type 0 where
+pub record IsOfferedCutShort (text : List ℕ) (line : ℕ) : Type 0 where
   pub offer : Sdp
   pub read : List Line
   pub unread : List Line
@@ -22,16 +22,16 @@ pub record IsCutShort (text : List ℕ) (line : ℕ) : Type 0 where
   pub number : line ≡ length read + 1
 
 -- why a text is no offer: it describes no session, or more follows
-abbrev pub RefusesText : List ℕ → ExchangeError → Type 0
-RefusesText text (NotRead cause) = Refuses cause (Reading text)
-RefusesText text (Unread line content) = IsCutShort text line
-RefusesText text (WrongState state) = ⊥
-RefusesText text (DoesNotFit section broken) = ⊥
-RefusesText text NoRows = ⊥
-RefusesText text NoChannels = ⊥
-RefusesText text NoName = ⊥
-RefusesText text NotPrintable = ⊥
-RefusesText text Memory = Unit {0}
+abbrev pub RefusesOfferedText : List ℕ → ExchangeError → Type 0
+RefusesOfferedText text (NotRead cause) = Refuses cause (Reading text)
+RefusesOfferedText text (Unread line content) = IsOfferedCutShort text line
+RefusesOfferedText text (WrongState state) = ⊥
+RefusesOfferedText text (DoesNotFit section broken) = ⊥
+RefusesOfferedText text NoRows = ⊥
+RefusesOfferedText text NoChannels = ⊥
+RefusesOfferedText text NoName = ⊥
+RefusesOfferedText text NotPrintable = ⊥
+RefusesOfferedText text Memory = Unit {0}
 
 -- a section of media over RTP that isn't stopped brings a round (RFC 3264, sections 6.1 and 8.2)
 pub record BringsRound (offer : Sdp) (m : MediaLine) : Type 0 where
@@ -55,5 +55,5 @@ pub record NegotiatesOffer (offer : Sdp) (before after : List PayloadParams) : T
   pub rounds : List Round
   pub rounds_are : AreOfferRounds offer offer.media_lines rounds
   pub outcomes : List Outcome
-  pub reached : Reached before rounds outcomes after
-  pub promises : RunPromises before rounds outcomes after
+  pub reached : RunReached before rounds outcomes after
+  pub promises : RoundsRunPromises before rounds outcomes after

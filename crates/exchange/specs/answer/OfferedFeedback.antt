@@ -1,6 +1,6 @@
 -- The feedback that a section offers for a payload type (RFC 4585, section 4.2).
 use Rattle.exchange.specs.Prelude.{MediaAttribute, MediaLine}
-use Rattle.exchange.specs.answer.Rows.{is_offered, value_of_all}
+use Rattle.exchange.specs.answer.Rows.{is_offered, feedback_value_of_all}
 use Rattle.exchange.specs.declared.answer.offered_feedback.OfferedFeedback.{OfferedFeedback}
 use Rattle.exchange.specs.declared.answer.offered_feedback.SectionFeedback.{SectionFeedback}
 use Rattle.std.specs.Prelude.{◌≡◌, ◌<◌, ◌||◌, ℕ, Bool, false, List, Option, Some, None, bytes_eq, get_or, length}
@@ -8,9 +8,9 @@ use Rattle.str0m_sdp.specs.declared.attribute.MediaAttribute.TheVariants.{Unused
 use Rattle.str0m_sdp.specs.declared.label.TheConstants.{TRANSPORT_CC, REMB, FIR, NACK, PLI}
 
 -- the value of a line that offers feedback for all types
-abbrev pub value_for_all : MediaAttribute → Option (List ℕ)
-value_for_all (Unused text) = value_of_all text
-value_for_all _ = None
+abbrev pub feedback_for_all : MediaAttribute → Option (List ℕ)
+feedback_for_all (Unused text) = feedback_value_of_all text
+feedback_for_all _ = None
 
 -- the feedback whose values pass
 abbrev pub offered_feedback_by : (List ℕ → Bool) → OfferedFeedback
@@ -48,9 +48,9 @@ abbrev pub offered_feedback : List MediaAttribute → ℕ → OfferedFeedback
 offered_feedback attrs pt = offered_feedback_by (is_offered attrs pt)
 
 -- what the lines offer for each type is what the table says of it, and what is offered for all
-pub record IsGathered (attrs : List MediaAttribute) (of_types : List OfferedFeedback) (of_all : OfferedFeedback) : Type 0 where
+pub record IsFeedbackGathered (attrs : List MediaAttribute) (of_types : List OfferedFeedback) (of_all : OfferedFeedback) : Type 0 where
   pub whole : length of_types ≡ 256
   pub each : (pt : ℕ) → pt < 256 → either_offered (get_or of_types pt none_offered) of_all ≡ offered_feedback attrs pt
 
-abbrev pub TellsOf : MediaLine → SectionFeedback → Type 0
-TellsOf section feedback = IsGathered section.attrs feedback.of_types feedback.of_all
+abbrev pub TellsFeedbackOf : MediaLine → SectionFeedback → Type 0
+TellsFeedbackOf section feedback = IsFeedbackGathered section.attrs feedback.of_types feedback.of_all

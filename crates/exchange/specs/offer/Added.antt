@@ -8,13 +8,13 @@ use Rattle.exchange.specs.declared.state.own_side.SectionDirection.{SectionDirec
 use Rattle.std.specs.Prelude.{ℕ, List, [], ◌∷◌, ◌++◌, Option, Some, None, filter_map, map}
 
 -- what was added, in order, each under its name
-abbrev pub placed_under : List (List ℕ) → List Added → List Placed
-placed_under [] added = []
-placed_under (mid ∷ mids) [] = []
-placed_under (mid ∷ mids) (first ∷ more) = record { mid = mid; added = first } ∷ placed_under mids more
+abbrev pub offer_placed_under : List (List ℕ) → List Added → List Placed
+offer_placed_under [] added = []
+offer_placed_under (mid ∷ mids) [] = []
+offer_placed_under (mid ∷ mids) (first ∷ more) = record { mid = mid; added = first } ∷ offer_placed_under mids more
 
-abbrev pub names_of : List Placed → List (List ℕ)
-names_of placed = map (λ it. it.mid) placed
+abbrev pub added_names_of : List Placed → List (List ℕ)
+added_names_of placed = map (λ it. it.mid) placed
 
 -- what media was added for, in the section of that name
 abbrev pub direction_under : List ℕ → Added → Option SectionDirection
@@ -25,8 +25,8 @@ abbrev pub placed_direction : Placed → Option SectionDirection
 placed_direction placed = direction_under placed.mid placed.added
 
 -- after what this side is ready for in other sections
-abbrev pub with_placed : List SectionDirection → List Placed → List SectionDirection
-with_placed entries placed = entries ++ filter_map placed_direction placed
+abbrev pub with_offer_placed : List SectionDirection → List Placed → List SectionDirection
+with_offer_placed entries placed = entries ++ filter_map placed_direction placed
 
 -- ---- an exchange to which something is added
 
@@ -35,5 +35,5 @@ abbrev pub with_media : MediaKind → Direction → Exchange → Exchange
 with_media kind direction before = record before { added = before.added ++ Media kind direction ∷ [] }
 
 -- its next offer adds data channels
-abbrev pub with_channels : Exchange → Exchange
-with_channels before = record before { added = before.added ++ Channels ∷ [] }
+abbrev pub offer_with_channels : Exchange → Exchange
+offer_with_channels before = record before { added = before.added ++ Channels ∷ [] }

@@ -1,13 +1,13 @@
 -- The rules that an offer of this side keeps, beside the last exchange.
-use Rattle.exchange.specs.Prelude.{AreDistinct, MediaLine, MediaType, PayloadParams, first, is_listed, is_media, kind_rows, media_creds, media_fingerprint, media_setup, section_direction, section_mids, types, versioned_text}
+use Rattle.exchange.specs.Prelude.{AreMidsDistinct, MediaLine, MediaType, PayloadParams, first, is_group_listed, is_media, kind_rows, media_creds, media_fingerprint, media_setup, section_direction, section_mids, types, versioned_text}
 use Rattle.exchange.specs.declared.offer.Offer.{Offer}
 use Rattle.exchange.specs.declared.state.exchange.Exchange.{Exchange}
 use Rattle.exchange.specs.declared.state.own_side.SectionDirection.{SectionDirection}
 use Rattle.exchange.specs.declared.state.signaling_state.SignalingState.TheVariants.{Stable}
 use Rattle.exchange.specs.offer.FreshNames.{AreFresh}
-use Rattle.exchange.specs.offer.MadeOffer.{MakesOffer, ready_with}
+use Rattle.exchange.specs.offer.MadeOffer.{MakesOffer, offer_ready_with}
 use Rattle.exchange.specs.offer.Rules.{HasShapeOf}
-use Rattle.exchange.specs.section.Places.{FollowsPlaces, IsOver}
+use Rattle.exchange.specs.section.Places.{FollowsPlaces, IsPlaceOver}
 use Rattle.exchange.specs.section.Stopped.{name_of}
 use Rattle.exchange.specs.state.OwnSide.{direction_among}
 use Rattle.exchange.specs.state.ReadBack.{IsReadBack}
@@ -20,22 +20,22 @@ use Rattle.str0m_values.specs.declared.media_kind.MediaKind.TheVariants as kind
 -- ---- places
 
 -- a name that no section of the session has had
-abbrev pub IsNewName : Exchange → List ℕ → Type 0
-IsNewName old name = is_listed (taken_names old) (Some name) ≡ false
+abbrev pub IsNewOfferName : Exchange → List ℕ → Type 0
+IsNewOfferName old name = is_group_listed (taken_names old) (Some name) ≡ false
 
-abbrev pub HasNewName : Exchange → MediaLine → Type 0
-HasNewName old m = MatchOption (name_of m) ⊥ (IsNewName old)
+abbrev pub HasNewOfferPlaceName : Exchange → MediaLine → Type 0
+HasNewOfferPlaceName old m = MatchOption (name_of m) ⊥ (IsNewOfferName old)
 
 -- an earlier section has its place, with its type, protocol and name; or the place is over, and has a new one (RFC 3264, section 8;
 -- RFC 8829, section 5.2.2)
-abbrev pub KeepsPlace : Exchange → ℕ → MediaLine → MediaLine → Type 0
-KeepsPlace old at mine said = HasShapeOf mine said ⊎ (IsOver old.remote at mine × HasNewName old said)
+abbrev pub KeepsOfferPlace : Exchange → ℕ → MediaLine → MediaLine → Type 0
+KeepsOfferPlace old at mine said = HasShapeOf mine said ⊎ (IsPlaceOver old.remote at mine × HasNewOfferPlaceName old said)
 
 -- each place from one on, and there may be more after them
-abbrev pub KeepsPlaces : Exchange → ℕ → List MediaLine → List MediaLine → Type 0
-KeepsPlaces old at [] sections = Unit {0}
-KeepsPlaces old at (mine ∷ more) [] = ⊥
-KeepsPlaces old at (mine ∷ more) (said ∷ behind) = KeepsPlace old at mine said × KeepsPlaces old (at + 1) more behind
+abbrev pub KeepsOfferPlaces : Exchange → ℕ → List MediaLine → List MediaLine → Type 0
+KeepsOfferPlaces old at [] sections = Unit {0}
+KeepsOfferPlaces old at (mine ∷ more) [] = ⊥
+KeepsOfferPlaces old at (mine ∷ more) (said ∷ behind) = KeepsOfferPlace old at mine said × KeepsOfferPlaces old (at + 1) more behind
 
 -- ---- sections with a port
 
@@ -65,11 +65,11 @@ pub record IsOfferedWith (old : Exchange) (offer : Offer) : Type 0 where
   pub stable : state_of old ≡ Stable
   pub names : (to : ℕ) × AreFresh (taken_names old) 0 offer.added to
   pub as_many : length offer.added ≡ length old.added
-  pub new : All (IsNewName old) offer.added
+  pub new : All (IsNewOfferName old) offer.added
   pub says : MakesOffer old offer.added offer.sdp
-  pub places : KeepsPlaces old 0 (sections_of old.local) offer.sdp.media_lines
+  pub places : KeepsOfferPlaces old 0 (sections_of old.local) offer.sdp.media_lines
   pub follows : FollowsPlaces old.names (sections_of old.local) offer.sdp.media_lines
-  pub rules : All (IsOffered old (ready_with old offer.added)) offer.sdp.media_lines
-  pub different : AreDistinct (section_mids (sections_of old.local)) → AreDistinct (section_mids offer.sdp.media_lines)
+  pub rules : All (IsOffered old (offer_ready_with old offer.added)) offer.sdp.media_lines
+  pub different : AreMidsDistinct (section_mids (sections_of old.local)) → AreMidsDistinct (section_mids offer.sdp.media_lines)
   pub read_back : IsReadBack offer.sdp (versioned_text offer.version offer.sdp)
   pub version : offer.version ≡ old.version

@@ -26,9 +26,9 @@ use Rattle.str0m_values.specs.declared.media_kind.MediaKind.TheVariants as kind
 abbrev pub section_with : MediaType → Proto → List MediaAttribute → MediaLine
 section_with typ proto lines = record { typ = typ; disabled = false; proto = proto; pts = []; bw = None; attrs = lines }
 
-abbrev pub type_of : MediaKind → MediaType
-type_of kind.Audio = Audio
-type_of kind.Video = Video
+abbrev pub offer_type_of_kind : MediaKind → MediaType
+offer_type_of_kind kind.Audio = Audio
+offer_type_of_kind kind.Video = Video
 
 -- what media says but for its rows, after its name and its transport: its direction, where this side is reached, what both
 -- sides have to agree on, and its track
@@ -38,8 +38,8 @@ flow_lines own mid direction asked = direction_attribute direction ∷ [] ++ map
 -- media over RTP, in any role, with the rows of its kind, in the direction that these entries say this side is ready for
 abbrev pub offered_media : Exchange → List SectionDirection → MediaKind → List ℕ → List MediaAttribute → MediaLine
 offered_media old ready kind mid asked =
-    made (section_with (type_of kind) Srtp (first_lines old.own mid ActPass
-    ++ flow_lines old.own mid (direction_among old.own ready (Some mid) (type_of kind)) asked)) (kind_rows kind true old.config.params.items)
+    made (section_with (offer_type_of_kind kind) Srtp (first_lines old.own mid ActPass
+    ++ flow_lines old.own mid (direction_among old.own ready (Some mid) (offer_type_of_kind kind)) asked)) (kind_rows kind true old.config.params.items)
 
 -- data channels over SCTP, in any role; a side that takes none rejects them
 abbrev pub offered_channels : OwnSide → MediaLine → List ℕ → Option DataChannels → MediaLine
@@ -50,11 +50,11 @@ offered_channels own instead mid (Some channels) =
 -- ---- what is added
 
 -- RTP and RTCP on one port (RFC 5761, section 5.1.1), RTCP of reduced size (RFC 5506, section 5), and header extensions
-abbrev pub asked_lines : List MediaAttribute → List MediaAttribute
-asked_lines extensions = media.RtcpMux ∷ (media.RtcpRsize ∷ extensions)
+abbrev pub asked_section_lines : List MediaAttribute → List MediaAttribute
+asked_section_lines extensions = media.RtcpMux ∷ (media.RtcpRsize ∷ extensions)
 
 abbrev pub section_for : Exchange → List SectionDirection → List MediaAttribute → List ℕ → Added → MediaLine
-section_for old ready extensions mid (added.Media kind direction) = offered_media old ready kind mid (asked_lines extensions)
+section_for old ready extensions mid (added.Media kind direction) = offered_media old ready kind mid (asked_section_lines extensions)
 section_for old ready extensions mid added.Channels = offered_channels old.own (section_with Application Sctp (media.Mid mid ∷ [])) mid old.own.channels
 
 abbrev pub new_section : Exchange → List SectionDirection → List MediaAttribute → Placed → MediaLine
@@ -63,27 +63,27 @@ new_section old ready extensions placed = section_for old ready extensions place
 -- ---- what goes on
 
 -- the lines that both sides have to say
-abbrev pub is_mux : MediaAttribute → Bool
-is_mux media.RtcpMux = true
-is_mux _ = false
+abbrev pub is_offer_mux_line : MediaAttribute → Bool
+is_offer_mux_line media.RtcpMux = true
+is_offer_mux_line _ = false
 
-abbrev pub is_rsize : MediaAttribute → Bool
-is_rsize media.RtcpRsize = true
-is_rsize _ = false
+abbrev pub is_offer_rsize_line : MediaAttribute → Bool
+is_offer_rsize_line media.RtcpRsize = true
+is_offer_rsize_line _ = false
 
 abbrev pub is_extension : ℕ → List ℕ → MediaAttribute → Bool
 is_extension number uri (media.ExtMap id ext) = id == number && bytes_eq ext.uri uri
 is_extension number uri _ = false
 
-abbrev pub is_same : MediaAttribute → MediaAttribute → Bool
-is_same media.RtcpMux other = is_mux other
-is_same media.RtcpRsize other = is_rsize other
-is_same (media.ExtMap id ext) other = is_extension id ext.uri other
-is_same _ other = false
+abbrev pub is_same_shared_offer_line : MediaAttribute → MediaAttribute → Bool
+is_same_shared_offer_line media.RtcpMux other = is_offer_mux_line other
+is_same_shared_offer_line media.RtcpRsize other = is_offer_rsize_line other
+is_same_shared_offer_line (media.ExtMap id ext) other = is_extension id ext.uri other
+is_same_shared_offer_line _ other = false
 
-abbrev pub is_said : Option MediaLine → MediaAttribute → Bool
-is_said None line = false
-is_said (Some theirs) line = list_any (is_same line) theirs.attrs
+abbrev pub is_offer_line_said_by_theirs : Option MediaLine → MediaAttribute → Bool
+is_offer_line_said_by_theirs None line = false
+is_offer_line_said_by_theirs (Some theirs) line = list_any (is_same_shared_offer_line line) theirs.attrs
 
 -- those that this side says alone: its layers (RFC 8851; RFC 8853), and that extensions of both lengths may be mixed (RFC 8285,
 -- section 6)
@@ -94,16 +94,16 @@ is_own (media.Unused text) = bytes_eq text EXTMAP_ALLOW_MIXED.now
 is_own _ = false
 
 -- what this side said last and goes on saying: of what both have to say, what both said
-abbrev pub is_said_again : Option MediaLine → MediaAttribute → Bool
-is_said_again theirs line = is_said theirs line || is_own line
+abbrev pub is_offer_line_said_again : Option MediaLine → MediaAttribute → Bool
+is_offer_line_said_again theirs line = is_offer_line_said_by_theirs theirs line || is_own line
 
-abbrev pub kept_lines : Option MediaLine → MediaLine → List MediaAttribute
-kept_lines theirs mine = filter (is_said_again theirs) mine.attrs
+abbrev pub kept_section_lines : Option MediaLine → MediaLine → List MediaAttribute
+kept_section_lines theirs mine = filter (is_offer_line_said_again theirs) mine.attrs
 
 -- by its name, its type and its protocol, which stay (RFC 3264, section 8; RFC 8829, section 5.2.2)
 abbrev pub section_by : Exchange → List SectionDirection → Option MediaLine → MediaLine → Option (List ℕ) → MediaType → Proto → MediaLine
-section_by old ready theirs mine (Some mid) Audio Srtp = offered_media old ready kind.Audio mid (kept_lines theirs mine)
-section_by old ready theirs mine (Some mid) Video Srtp = offered_media old ready kind.Video mid (kept_lines theirs mine)
+section_by old ready theirs mine (Some mid) Audio Srtp = offered_media old ready kind.Audio mid (kept_section_lines theirs mine)
+section_by old ready theirs mine (Some mid) Video Srtp = offered_media old ready kind.Video mid (kept_section_lines theirs mine)
 section_by old ready theirs mine (Some mid) Application Sctp = offered_channels old.own mine mid old.own.channels
 section_by old ready theirs mine _ _ _ = rejecting mine
 

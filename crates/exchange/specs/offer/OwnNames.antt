@@ -1,5 +1,5 @@
 -- Sections that share a name (RFC 5888, section 4).
-use Rattle.exchange.specs.Prelude.{AreDistinct, MediaLine, is_listed, section_mids}
+use Rattle.exchange.specs.Prelude.{AreMidsDistinct, MediaLine, is_group_listed, section_mids}
 use Rattle.exchange.specs.section.Stopped.{name_of}
 use Rattle.std.specs.Prelude.{◌≡◌, ℕ, true, List, Some, take, slice_get}
 
@@ -7,5 +7,5 @@ use Rattle.std.specs.Prelude.{◌≡◌, ℕ, true, List, Some, take, slice_get}
 pub record IsNamedAgain (sections : List MediaLine) (at : ℕ) : Type 0 where
   pub m : MediaLine
   pub stands : slice_get sections at ≡ Some m
-  pub again : is_listed (section_mids (take at sections)) (name_of m) ≡ true
-  pub differ : AreDistinct (section_mids (take at sections))
+  pub again : is_group_listed (section_mids (take at sections)) (name_of m) ≡ true
+  pub differ : AreMidsDistinct (section_mids (take at sections))

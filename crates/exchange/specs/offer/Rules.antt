@@ -1,5 +1,5 @@
 -- The rules that each section of an answer keeps, beside the section that it answers.
-use Rattle.exchange.specs.Prelude.{AnswersDirection, AnswersRole, MediaAttribute, MediaLine, MediaType, PayloadParams, Proto, Sdp, Setup, first, is_media, media_creds, media_fingerprint, media_setup, section_direction, types}
+use Rattle.exchange.specs.Prelude.{AnswersDirection, AnswersSetupRole, MediaAttribute, MediaLine, MediaType, PayloadParams, Proto, Sdp, Setup, first, is_media, media_creds, media_fingerprint, media_setup, section_direction, types}
 use Rattle.exchange.specs.answer.Accepted.{setup_in_force}
 use Rattle.exchange.specs.answer.Rows.{answered_rows}
 use Rattle.exchange.specs.declared.state.own_side.OwnSide.{OwnSide}
@@ -40,7 +40,7 @@ pub record IsReachable (own : OwnSide) (offer : Sdp) (offered answered : MediaLi
   pub fingerprint : first (filter_map media_fingerprint answered.attrs) ≡ Some own.fingerprint
   pub role : Setup
   pub says_role : first (filter_map media_setup answered.attrs) ≡ Some role
-  pub answers_role : AnswersRole (setup_in_force offer offered) role
+  pub answers_role : AnswersSetupRole (setup_in_force offer offered) role
 
 -- media flows where both sides are ready for it (RFC 3264, section 6.1)
 abbrev pub FlowsSo : OwnSide → MediaLine → MediaLine → Type 0
@@ -59,7 +59,7 @@ abbrev pub SaysOnlyOffered : MediaLine → MediaLine → Type 0
 SaysOnlyOffered offered answered = All (λ line. needs_offer line ≡ true → Contains offered.attrs line) answered.attrs
 
 -- the rules of an accepted section
-pub record KeepsAccepted (own : OwnSide) (ours : List PayloadParams) (offer : Sdp) (offered answered : MediaLine) : Type 0 where
+pub record KeepsAcceptedRules (own : OwnSide) (ours : List PayloadParams) (offer : Sdp) (offered answered : MediaLine) : Type 0 where
   pub reachable : IsReachable own offer offered answered
   pub flows : is_media offered.typ ≡ true → FlowsSo own offered answered
   -- the rows that answer it stand in its m-line, in order, and there is one (RFC 3264, section 6.1)
@@ -70,4 +70,4 @@ pub record KeepsAccepted (own : OwnSide) (ours : List PayloadParams) (offer : Sd
 pub record KeepsRules (own : OwnSide) (ours : List PayloadParams) (offer : Sdp) (offered answered : MediaLine) : Type 0 where
   pub shape : HasShapeOf offered answered
   pub exactly : IsAcceptedExactly own ours offer offered answered
-  pub accepted : answered.disabled ≡ false → KeepsAccepted own ours offer offered answered
+  pub accepted : answered.disabled ≡ false → KeepsAcceptedRules own ours offer offered answered

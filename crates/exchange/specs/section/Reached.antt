@@ -5,13 +5,13 @@ use Rattle.std.specs.Prelude.{◌||◌, ◌&&◌, Bool, true, false}
 use Rattle.str0m_sdp.specs.declared.attribute.MediaAttribute.TheVariants as media
 use Rattle.str0m_sdp.specs.declared.attribute.SessionAttribute.TheVariants as session
 
-abbrev pub is_ufrag : MediaAttribute → Bool
-is_ufrag (media.IceUfrag text) = true
-is_ufrag _ = false
+abbrev pub is_section_ufrag : MediaAttribute → Bool
+is_section_ufrag (media.IceUfrag text) = true
+is_section_ufrag _ = false
 
-abbrev pub is_pwd : MediaAttribute → Bool
-is_pwd (media.IcePwd text) = true
-is_pwd _ = false
+abbrev pub is_section_pwd : MediaAttribute → Bool
+is_section_pwd (media.IcePwd text) = true
+is_section_pwd _ = false
 
 abbrev pub is_fingerprint : MediaAttribute → Bool
 is_fingerprint (media.Fingerprint hash) = true
@@ -29,15 +29,15 @@ abbrev pub is_session_fingerprint : SessionAttribute → Bool
 is_session_fingerprint (session.Fingerprint hash) = true
 is_session_fingerprint _ = false
 
-abbrev pub has_ufrag : Session → MediaLine → Bool
-has_ufrag session m = list_any is_ufrag m.attrs || list_any is_session_ufrag session.attrs
+abbrev pub section_has_ufrag : Session → MediaLine → Bool
+section_has_ufrag session m = list_any is_section_ufrag m.attrs || list_any is_session_ufrag session.attrs
 
-abbrev pub has_pwd : Session → MediaLine → Bool
-has_pwd session m = list_any is_pwd m.attrs || list_any is_session_pwd session.attrs
+abbrev pub section_has_pwd : Session → MediaLine → Bool
+section_has_pwd session m = list_any is_section_pwd m.attrs || list_any is_session_pwd session.attrs
 
 -- credentials are in force (RFC 8839, section 5.4)
 abbrev pub has_creds : Session → MediaLine → Bool
-has_creds session m = has_ufrag session m && has_pwd session m
+has_creds session m = section_has_ufrag session m && section_has_pwd session m
 
 -- a fingerprint is in force (RFC 8122, section 5)
 abbrev pub has_fingerprint : Session → MediaLine → Bool

@@ -4,9 +4,9 @@ use Rattle.std.specs.List.{starts_with}
 use Rattle.std.specs.Prelude.{ℕ, List, [], ◌++◌, codes, nat_eq, if◌then◌else◌}
 
 -- the text as a line of a description, which begins with `a=`
-abbrev pub as_line : List ℕ → List ℕ
-as_line text = if starts_with nat_eq text (codes "a=") then text else codes "a=" ++ text
+abbrev pub trickled_as_line : List ℕ → List ℕ
+trickled_as_line text = if starts_with nat_eq text (codes "a=") then text else codes "a=" ++ text
 
 -- the text is one line, which is the candidate's, and nothing is left
 abbrev pub IsTrickled : List ℕ → Candidate → Type 0
-IsTrickled text candidate = FirstLine IsCandidateLine (as_line text) (candidate, [])
+IsTrickled text candidate = FirstLine IsCandidateLine (trickled_as_line text) (candidate, [])

@@ -1,8 +1,8 @@
 -- What an exchange of offers and answers comes to.
-use Rattle.exchange.specs.Prelude.{AreDistinct, MediaKind, MediaLine, PayloadParams, Sdp, kind_rows, section_mids, versioned_text}
+use Rattle.exchange.specs.Prelude.{AreMidsDistinct, MediaKind, MediaLine, PayloadParams, Sdp, kind_rows, section_mids, versioned_text}
 use Rattle.exchange.specs.answer.AnsweredSection.{AnswersSection}
 use Rattle.exchange.specs.answer.AnsweredSession.{answered_session}
-use Rattle.exchange.specs.answer.Offered.{IsOffer, NegotiatesOffer, RefusesText}
+use Rattle.exchange.specs.answer.Offered.{IsOffer, NegotiatesOffer, RefusesOfferedText}
 use Rattle.exchange.specs.declared.offer.rule.Rule.{Rule}
 use Rattle.exchange.specs.declared.offer.rule.Rule.TheVariants.{OwnName, Place}
 use Rattle.exchange.specs.declared.state.exchange.Exchange.{Exchange}
@@ -10,10 +10,10 @@ use Rattle.exchange.specs.declared.state.exchange_error.ExchangeError.{ExchangeE
 use Rattle.exchange.specs.declared.state.exchange_error.ExchangeError.TheVariants.{NotRead, Unread, WrongState, DoesNotFit, NoRows, NoChannels, NoName, NotPrintable, Memory}
 use Rattle.exchange.specs.declared.state.own_side.OwnSide.{OwnSide}
 use Rattle.exchange.specs.declared.state.signaling_state.SignalingState.TheVariants.{Stable}
-use Rattle.exchange.specs.offer.FreshNames.{AreFresh, AreTooFew}
+use Rattle.exchange.specs.offer.FreshNames.{AreFresh, AreFreshNamesTooFew}
 use Rattle.exchange.specs.offer.MadeOffer.{MakesOffer}
 use Rattle.exchange.specs.offer.OwnNames.{IsNamedAgain}
-use Rattle.exchange.specs.section.Places.{MovesAt}
+use Rattle.exchange.specs.section.Places.{MovesPlaceAt}
 use Rattle.exchange.specs.state.ReadBack.{IsReadBack}
 use Rattle.exchange.specs.state.State.{sections_of, state_of, taken_names}
 use Rattle.std.specs.List.{AllZip}
@@ -41,7 +41,7 @@ RefusesToAnswer exchange ours offer Memory = Unit {0}
 RefusesToAnswer exchange ours offer _ = ⊥
 
 -- some answer to the text isn't read back
-pub record IsUnprintable (old : Exchange) (text : List ℕ) : Type 0 where
+pub record IsNotReadBack (old : Exchange) (text : List ℕ) : Type 0 where
   pub offer : Sdp
   pub is_offer : IsOffer text offer
   pub ours : List PayloadParams
@@ -52,8 +52,8 @@ pub record IsUnprintable (old : Exchange) (text : List ℕ) : Type 0 where
 -- and it isn't in its place after the last exchange
 abbrev pub OfferBreaksAt : List (List ℕ) → List MediaLine → Option Sdp → Sdp → ℕ → Rule → Type 0
 OfferBreaksAt names local remote offer section OwnName = IsNamedAgain offer.media_lines section
-OfferBreaksAt names local remote offer section Place = AreDistinct (section_mids offer.media_lines)
-    × MovesAt names local remote offer section
+OfferBreaksAt names local remote offer section Place = AreMidsDistinct (section_mids offer.media_lines)
+    × MovesPlaceAt names local remote offer section
 OfferBreaksAt names local remote offer section _ = ⊥
 
 -- why the sections of an offer aren't taken
@@ -63,21 +63,21 @@ RefusesSections names local remote offer Memory = Unit {0}
 RefusesSections names local remote offer _ = ⊥
 
 -- the offer that the text is has a section that isn't taken
-pub record IsRefusedAt (old : Exchange) (text : List ℕ) (section : ℕ) (broken : Rule) : Type 0 where
+pub record IsExchangeRefusedAt (old : Exchange) (text : List ℕ) (section : ℕ) (broken : Rule) : Type 0 where
   pub offer : Sdp
   pub is_offer : IsOffer text offer
   pub breaks : OfferBreaksAt old.names (sections_of old.local) old.remote offer section broken
 
 -- why an offer isn't answered
 abbrev pub RefusesOffer : Exchange → List ℕ → ExchangeError → Type 0
-RefusesOffer old text (NotRead cause) = RefusesText text (NotRead cause)
-RefusesOffer old text (Unread line content) = RefusesText text (Unread line content)
+RefusesOffer old text (NotRead cause) = RefusesOfferedText text (NotRead cause)
+RefusesOffer old text (Unread line content) = RefusesOfferedText text (Unread line content)
 RefusesOffer old text (WrongState state) = (state ≡ state_of old) × (state ≢ Stable)
-RefusesOffer old text (DoesNotFit section broken) = IsRefusedAt old text section broken
+RefusesOffer old text (DoesNotFit section broken) = IsExchangeRefusedAt old text section broken
 RefusesOffer old text NoRows = ⊥
 RefusesOffer old text NoChannels = ⊥
 RefusesOffer old text NoName = ⊥
-RefusesOffer old text NotPrintable = IsUnprintable old text
+RefusesOffer old text NotPrintable = IsNotReadBack old text
 RefusesOffer old text Memory = Unit {0}
 
 -- why media isn't added
@@ -87,10 +87,10 @@ RefusesMedia old kind Memory = Unit {0}
 RefusesMedia old kind _ = ⊥
 
 -- why data channels aren't
-abbrev pub RefusesChannels : Exchange → ExchangeError → Type 0
-RefusesChannels old NoChannels = old.own.channels ≡ None
-RefusesChannels old Memory = Unit {0}
-RefusesChannels old _ = ⊥
+abbrev pub ExchangeRefusesChannels : Exchange → ExchangeError → Type 0
+ExchangeRefusesChannels old NoChannels = old.own.channels ≡ None
+ExchangeRefusesChannels old Memory = Unit {0}
+ExchangeRefusesChannels old _ = ⊥
 
 -- some offer that this side could make isn't read back
 pub record IsLostOffer (old : Exchange) : Type 0 where
@@ -105,7 +105,7 @@ pub record IsLostOffer (old : Exchange) : Type 0 where
 -- why no offer is made
 abbrev pub RefusesToOffer : Exchange → ExchangeError → Type 0
 RefusesToOffer old (WrongState state) = (state ≡ state_of old) × (state ≢ Stable)
-RefusesToOffer old NoName = AreTooFew (taken_names old) (length old.added)
+RefusesToOffer old NoName = AreFreshNamesTooFew (taken_names old) (length old.added)
 RefusesToOffer old NotPrintable = IsLostOffer old
 RefusesToOffer old Memory = Unit {0}
 RefusesToOffer old _ = ⊥

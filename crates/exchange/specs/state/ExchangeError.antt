@@ -5,6 +5,6 @@ use Rattle.str0m_sdp.specs.declared.session.error.SdpError.{SdpError}
 use Rattle.str0m_sdp.specs.declared.session.error.SdpError.TheVariants as sdp
 
 -- what a reader refuses, but for refused memory
-abbrev pub not_read : SdpError → ExchangeError
-not_read sdp.Memory = Memory
-not_read cause = NotRead cause
+abbrev pub not_read_error : SdpError → ExchangeError
+not_read_error sdp.Memory = Memory
+not_read_error cause = NotRead cause

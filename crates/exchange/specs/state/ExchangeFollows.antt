@@ -1,5 +1,5 @@
 -- What holds over any list of calls of an exchange (RFC 3264, section 8; RFC 8829, section 5.2.2).
-use Rattle.exchange.specs.Prelude.{AreDistinct, LockedStay, MediaLine, is_listed, section_mids}
+use Rattle.exchange.specs.Prelude.{AreMidsDistinct, LockedStay, MediaLine, is_group_listed, section_mids}
 use Rattle.exchange.specs.declared.offer.pending.Pending.{Pending}
 use Rattle.exchange.specs.declared.state.exchange.Exchange.{Exchange}
 use Rattle.exchange.specs.section.Places.{FollowsPlaces}
@@ -8,29 +8,29 @@ use Rattle.exchange.specs.state.State.{sections_of}
 use Rattle.std.specs.Prelude.{◌≡◌, ◌≢◌, ℕ, true, List, Option, None, All, IfSome, length}
 
 -- each name that was there is there
-abbrev pub Grows : List (List ℕ) → List (List ℕ) → Type 0
-Grows before after = (name : Option (List ℕ)) → is_listed before name ≡ true → is_listed after name ≡ true
+abbrev pub ExchangeNamesGrow : List (List ℕ) → List (List ℕ) → Type 0
+ExchangeNamesGrow before after = (name : Option (List ℕ)) → is_group_listed before name ≡ true → is_group_listed after name ≡ true
 
 -- one state of an exchange after another: names are never forgotten, no section moves, a section in a place has the name of the
 -- one that was there or one that none has had, and rows that are agreed on stay under their types
 pub record Follows (before after : Exchange) : Type 0 where
-  pub names : Grows before.names after.names
+  pub names : ExchangeNamesGrow before.names after.names
   pub places : FollowsPlaces before.names (sections_of before.local) (sections_of after.local)
   pub rows : length after.config.params.items ≡ length before.config.params.items
   pub stay : LockedStay before.config.params.items after.config.params.items
 
 -- a section's name is among those that sections have had
-abbrev pub IsKnownName : List (List ℕ) → MediaLine → Type 0
-IsKnownName names m = name_of m ≢ None → is_listed names (name_of m) ≡ true
+abbrev pub IsExchangeNameKnown : List (List ℕ) → MediaLine → Type 0
+IsExchangeNameKnown names m = name_of m ≢ None → is_group_listed names (name_of m) ≡ true
 
 -- the sections of an open offer are in the places of the last exchange, and no two have one name
-abbrev pub IsPlacedSo : Exchange → Pending → Type 0
-IsPlacedSo exchange pending =
-    FollowsPlaces exchange.names (sections_of exchange.local) pending.sdp.media_lines × AreDistinct (section_mids pending.sdp.media_lines)
+abbrev pub IsExchangePlacedSo : Exchange → Pending → Type 0
+IsExchangePlacedSo exchange pending =
+    FollowsPlaces exchange.names (sections_of exchange.local) pending.sdp.media_lines × AreMidsDistinct (section_mids pending.sdp.media_lines)
 
 -- what holds of each exchange from the first call on: no two of its sections have one name, it knows those names, and an open
 -- offer of this side moves no section
 pub record IsSound (exchange : Exchange) : Type 0 where
-  pub own_names : AreDistinct (section_mids (sections_of exchange.local))
-  pub known : All (IsKnownName exchange.names) (sections_of exchange.local)
-  pub placed : IfSome exchange.pending (IsPlacedSo exchange)
+  pub own_names : AreMidsDistinct (section_mids (sections_of exchange.local))
+  pub known : All (IsExchangeNameKnown exchange.names) (sections_of exchange.local)
+  pub placed : IfSome exchange.pending (IsExchangePlacedSo exchange)

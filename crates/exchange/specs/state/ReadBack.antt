@@ -5,21 +5,21 @@ use Rattle.std.specs.Prelude.{◌≡◌, ℕ, Bool, true, false, List, []}
 use Rattle.str0m_sdp.specs.declared.attribute.MediaAttribute.TheVariants.{Fmtp, Simulcast as SimulcastLine}
 
 -- the same m-line (RFC 8866, section 5.14): type, port 0 or not, protocol and payload types
-pub record IsSameHead (said read : MediaLine) : Type 0 where
+pub record IsSameReadHead (said read : MediaLine) : Type 0 where
   pub typ : read.typ ≡ said.typ
   pub disabled : read.disabled ≡ said.disabled
   pub proto : read.proto ≡ said.proto
   pub types : read.pts ≡ said.pts
 
 -- lines that differ may be alike: fmtp lines, and those of layers
-abbrev pub may_differ : MediaAttribute → Bool
-may_differ (Fmtp pt values) = true
-may_differ (SimulcastLine layers) = true
-may_differ _ = false
+abbrev pub read_back_may_differ : MediaAttribute → Bool
+read_back_may_differ (Fmtp pt values) = true
+read_back_may_differ (SimulcastLine layers) = true
+read_back_may_differ _ = false
 
 -- a section with the same m-line and the same bandwidth, whose attributes are alike one by one
 pub record IsSectionReadAs (said read : MediaLine) : Type 0 where
-  pub head : IsSameHead said read
+  pub head : IsSameReadHead said read
   pub bandwidth : read.bw ≡ said.bw
   pub attributes : AllZip Alike said.attrs read.attrs
 

@@ -1,10 +1,10 @@
 //! Sections that accept.
 ghost use Rattle.exchange.specs.Prelude.{is_of_type, made, row_attrs, types, types_of};
-ghost use Rattle.exchange.specs.answer.Accepted.{AcceptsChannels, AcceptsMedia, are_layers_told, candidate_line, channel_lines, first_lines, framed, layer_lines, media_lines, msid_lines, setup_in_force, tells_layer, track_id};
+ghost use Rattle.exchange.specs.answer.Accepted.{AcceptsChannels, AcceptsMedia, are_layers_told, candidate_line, channel_lines, first_lines, accepted_frame, layer_lines, media_lines, msid_lines, setup_in_force, tells_layer, track_id};
 ghost use Rattle.std.specs.Prelude.{◌≡◌, ◌++◌, IfOk, OnOk, filter, map, not, flat_map};
 
 use crate::answer::layers::answered_layers;
-use crate::section::repeated_lines::{is_repeated, repeated};
+use crate::section::repeated_lines::{is_repeated, push_repeated};
 use crate::state::own_side::{DataChannels, OwnSide};
 use std::alloc::{AllocError, Global};
 use str0m_signal::{
@@ -49,18 +49,17 @@ pub(crate) fn first_lines(
     Ok(lines)
 }
 
-/// Where this side is reached.
-pub(crate) fn candidate_lines(
-    alloc: Global,
+/// Puts where this side is reached behind other lines.
+pub(crate) fn push_candidates(
+    lines: &mut Vec<MediaAttribute>,
     own: &OwnSide,
-) -> Result<Vec<MediaAttribute>, AllocError>
-    ensures { IfOk result (λ lines. lines.items ≡ map candidate_line own.now.candidates) }
+) -> Result<(), AllocError>
+    ensures { OnOk result (lines.new.items ≡ lines.old.items ++ map candidate_line own.now.candidates) }
 {
-    let mut lines = Vec::new(alloc);
     for candidate in own.candidates.as_slice() {
         lines.push(MediaAttribute::Candidate(candidate.clone()?))?;
     }
-    Ok(lines)
+    Ok(())
 }
 
 /// The most bytes that the id of a track has: a name has sixteen at most.
@@ -147,12 +146,12 @@ pub(crate) fn channel_lines(
 }
 
 /// A section of the type and the protocol of another, with these lines.
-fn framed(
+fn accepted_frame(
     alloc: Global,
     offered: &MediaLine,
     lines: Vec<MediaAttribute>,
 ) -> Result<MediaLine, AllocError>
-    ensures { IfOk result (λ frame. frame ≡ framed offered.now lines.items) }
+    ensures { IfOk result (λ frame. frame ≡ accepted_frame offered.now lines.items) }
 {
     let mut frame = MediaLine::new(alloc);
     frame.typ = offered.typ.clone()?;
@@ -174,8 +173,8 @@ fn push_media(
 {
     let alloc = *lines.allocator();
     lines.push(MediaAttribute::from(direction))?;
-    lines.append(&mut candidate_lines(alloc, own)?)?;
-    lines.append(&mut repeated(alloc, own.extensions.as_slice(), offered)?)?;
+    push_candidates(lines, own)?;
+    push_repeated(lines, own.extensions.as_slice(), offered)?;
     push_msid(lines, own, direction, mid)?;
     lines.append(&mut layer_lines(alloc, own, direction, offered, rows)?)?;
     Ok(())
@@ -183,7 +182,7 @@ fn push_media(
 
 /// How many lines a section may have, as a guess that most don't pass: no answer depends on it. A stranger's long section doesn't
 /// ask for room that its answer won't take.
-fn likely_lines(own: &OwnSide, offered: &MediaLine) -> usize {
+fn likely_accepted_lines(own: &OwnSide, offered: &MediaLine) -> usize {
     let extra = own.candidates.as_slice().len().saturating_add(8);
     offered
         .attrs
@@ -200,12 +199,12 @@ fn types_of_rows(alloc: Global, rows: &[PayloadParams]) -> Result<Vec<Pt>, Alloc
     let likely = rows.len().saturating_mul(2);
     let mut pts = Vec::with_capacity(alloc, likely)?;
     for row in rows {
-        push_types(&mut pts, row)?;
+        push_accepted_types(&mut pts, row)?;
     }
     Ok(pts)
 }
 
-fn push_types(pts: &mut Vec<Pt>, row: &PayloadParams) -> Result<(), AllocError>
+fn push_accepted_types(pts: &mut Vec<Pt>, row: &PayloadParams) -> Result<(), AllocError>
     ensures { OnOk result (pts.new.items ≡ pts.old.items ++ types_of row.now) }
 {
     pts.push(row.pt())?;
@@ -219,7 +218,7 @@ fn push_types(pts: &mut Vec<Pt>, row: &PayloadParams) -> Result<(), AllocError>
 }
 
 /// Leaves those lines that describe no payload type: the rows have lines of their own.
-fn keep_frame(lines: &mut Vec<MediaAttribute>)
+fn keep_accepted_frame(lines: &mut Vec<MediaAttribute>)
     ensures { lines.new.items ≡ filter (λ attr. not (is_of_type attr)) lines.old.items }
 {
     lines.retain(|attr| !attr.is_of_type());
@@ -242,11 +241,11 @@ fn made(
     mut lines: Vec<MediaAttribute>,
     rows: &[PayloadParams],
 ) -> Result<MediaLine, AllocError>
-    ensures { IfOk result (λ section. section ≡ made (framed offered.now lines.items) rows.now) }
+    ensures { IfOk result (λ section. section ≡ made (accepted_frame offered.now lines.items) rows.now) }
 {
-    keep_frame(&mut lines);
+    keep_accepted_frame(&mut lines);
     push_rows(&mut lines, rows)?;
-    let mut section = framed(alloc, offered, lines)?;
+    let mut section = accepted_frame(alloc, offered, lines)?;
     section.pts = Items::from(types_of_rows(alloc, rows)?);
     Ok(section)
 }
@@ -264,8 +263,8 @@ pub(crate) fn accepted_media(
 {
     let role = Setup::answer(setup_in_force(offer, offered));
     let direction = offered.direction().answer(own.direction_for(offered));
-    let mut lines = Vec::with_capacity(alloc, likely_lines(own, offered))?;
-    lines.append(&mut first_lines(alloc, own, mid, role)?)?;
+    let mut lines = first_lines(alloc, own, mid, role)?;
+    lines.reserve(likely_accepted_lines(own, offered))?;
     push_media(&mut lines, own, offered, mid, direction, rows)?;
     made(alloc, offered, lines, rows)
 }
@@ -284,6 +283,6 @@ pub(crate) fn accepted_channels(
     let role = Setup::answer(setup_in_force(offer, offered));
     let mut lines = first_lines(alloc, own, mid, role)?;
     lines.append(&mut channel_lines(alloc, channels)?)?;
-    lines.append(&mut candidate_lines(alloc, own)?)?;
-    framed(alloc, offered, lines)
+    push_candidates(&mut lines, own)?;
+    accepted_frame(alloc, offered, lines)
 }

@@ -1,10 +1,10 @@
 //! Answers of this side to offers.
-ghost use Rattle.exchange.specs.Prelude.{AllDistinct, AreDistinct, HasBoundedRows, IsPlain, LockedStay, section_mids, types, versioned_text};
+ghost use Rattle.exchange.specs.Prelude.{AllTypesDistinct, AreMidsDistinct, HasBoundedRows, IsPlain, LockedStay, section_mids, types, versioned_text};
 ghost use Rattle.exchange.specs.answer.AcceptedOffer.{IsAnsweredWith, tracks};
 ghost use Rattle.exchange.specs.answer.AnsweredSession.{BundlesAccepted};
 ghost use Rattle.exchange.specs.answer.Offered.{AreOfferRounds, IsOffer, NegotiatesOffer};
 ghost use Rattle.exchange.specs.declared.state.signaling_state.SignalingState.TheVariants.{Stable};
-ghost use Rattle.exchange.specs.offer.Names.{grown};
+ghost use Rattle.exchange.specs.offer.Names.{grown_names};
 ghost use Rattle.exchange.specs.offer.Rules.{HasShapeOf, IsAcceptedExactly, KeepsRules};
 ghost use Rattle.exchange.specs.section.Places.{StaysInPlaces};
 ghost use Rattle.exchange.specs.state.Exchange.{AnswersOffer, EachSection, RefusesOffer, RefusesSections, RefusesToAnswer};
@@ -17,12 +17,12 @@ ghost use Rattle.std.specs.Prelude.{All, ◌≡◌, ◌+◌, ◌-◌, ◌^◌, �
 use crate::answer::Answer;
 use crate::answer::answered_section::answered_sections;
 use crate::answer::answered_session::answered_session;
-use crate::answer::offered::{rounds_of, whole_description};
-use crate::offer::names::grown;
+use crate::answer::offered::{rounds_of, whole_offered_description};
+use crate::offer::names::grown_names;
 use crate::offer::own_names::first_named_again;
 use crate::offer::rule::Rule;
-use crate::section::places::{first_moved, sections_of};
-use crate::state::exchange::{Exchange, negotiated_by, next_version, printable_copy};
+use crate::section::places::{first_moved_place, sections_of};
+use crate::state::exchange::{Exchange, negotiated_by, next_exchange_version, read_back_copy};
 use crate::state::exchange_error::ExchangeError;
 use crate::state::own_side::OwnSide;
 use std::alloc::{AllocError, Global};
@@ -43,7 +43,7 @@ struct Answering {
 
 /// The description that answers an offer.
 #[tactic(auto, using(crate::proofs::answer::BundleLaws::bundles))]
-fn description_for(
+fn answer_description_for(
     alloc: Global,
     own: &OwnSide,
     config: &CodecConfig,
@@ -57,7 +57,7 @@ fn description_for(
     ensures rules { IfOk result (λ answer. AllZip (KeepsRules own.now config.now.params.items offer.now) offer.now.media_lines answer.media_lines) }
     ensures bundle { IfOk result (BundlesAccepted offer.now) }
     ensures names { IfOk result (λ answer. section_mids answer.media_lines ≡ section_mids offer.now.media_lines) }
-    ensures tracks { AreDistinct (section_mids offer.now.media_lines) → IfOk result (λ answer. AreDistinct (tracks answer)) }
+    ensures tracks { AreMidsDistinct (section_mids offer.now.media_lines) → IfOk result (λ answer. AreMidsDistinct (tracks answer)) }
 {
     let media_lines = answered_sections(alloc, own, config, offer, rounds)?;
     let session = answered_session(alloc, own, offer, media_lines.as_slice())?;
@@ -75,7 +75,7 @@ fn check_sections(
     remote: &Option<Sdp>,
     offer: &Sdp,
 ) -> Result<(), ExchangeError>
-    ensures different { OnOk result (AreDistinct (section_mids offer.now.media_lines)) }
+    ensures different { OnOk result (AreMidsDistinct (section_mids offer.now.media_lines)) }
     ensures placed { OnOk result (StaysInPlaces names.now (sections_of local.now) remote.now offer.now) }
     ensures refused { IfErr result (RefusesSections names.now (sections_of local.now) remote.now offer.now) }
 {
@@ -85,7 +85,7 @@ fn check_sections(
             rule: Rule::OwnName,
         });
     }
-    match first_moved(alloc, names.as_slice(), sections_of(local), remote, offer)? {
+    match first_moved_place(alloc, names.as_slice(), sections_of(local), remote, offer)? {
         None => Ok(()),
         Some(section) => Err(ExchangeError::DoesNotFit {
             section,
@@ -99,12 +99,12 @@ impl Exchange {
     fn placed_offer(&self, text: &str) -> Result<Sdp, ExchangeError>
         ensures read { IfOk result (IsOffer text.now) }
         ensures bounded { IfOk result (λ offer. All HasBoundedRows offer.media_lines) }
-        ensures different { IfOk result (λ offer. AreDistinct (section_mids offer.media_lines)) }
+        ensures different { IfOk result (λ offer. AreMidsDistinct (section_mids offer.media_lines)) }
         ensures placed { IfOk result (StaysInPlaces self.now.names (sections_of self.now.local) self.now.remote) }
         ensures refused { IfErr result (RefusesOffer self.now text.now) }
     {
         let alloc = *self.config.allocator();
-        let offer = whole_description(alloc, text)?;
+        let offer = whole_offered_description(alloc, text)?;
         check_sections(alloc, &self.names, &self.local, &self.remote, &offer)?;
         Ok(offer)
     }
@@ -122,7 +122,7 @@ impl Exchange {
         ensures refused { IfErr result (RefusesToAnswer self.now config.now.params.items offer.now) }
     {
         let alloc = *self.config.allocator();
-        match printable_copy(alloc, answer, self.version)? {
+        match read_back_copy(alloc, answer, self.version)? {
             Some(copy) => Ok(copy),
             None => Err(ExchangeError::NotPrintable),
         }
@@ -132,16 +132,16 @@ impl Exchange {
     fn answering(&self, offer: &str) -> Result<Answering, ExchangeError>
         ensures answered { IfOk result (λ it. IsAnsweredWith self.now offer.now it.remote it.config it.sdp) }
         ensures same { IfOk result (λ it. it.local ≡ it.sdp) }
-        ensures names { IfOk result (λ it. it.names ≡ grown self.now.names it.sdp.media_lines) }
+        ensures names { IfOk result (λ it. it.names ≡ grown_names self.now.names it.sdp.media_lines) }
         ensures refused { IfErr result (RefusesOffer self.now offer.now) }
     {
         let remote = self.placed_offer(offer)?;
         let alloc = *self.config.allocator();
         let rounds = rounds_of(alloc, &remote)?;
         let config = negotiated_by(&self.config, &remote, rounds.as_slice())?;
-        let sdp = description_for(alloc, &self.own, &config, &remote, rounds.as_slice())?;
+        let sdp = answer_description_for(alloc, &self.own, &config, &remote, rounds.as_slice())?;
         let local = self.printable_answer(&config, &remote, &sdp)?;
-        let names = grown(alloc, &self.names, local.media_lines.as_slice())?;
+        let names = grown_names(alloc, &self.names, local.media_lines.as_slice())?;
         Ok(Answering {
             remote,
             config,
@@ -171,7 +171,7 @@ impl Exchange {
     pub fn accept_offer(&mut self, offer: &str) -> Result<Answer, ExchangeError>
         ensures stable { IfOk result (λ answer. state_of self.old ≡ Stable) }
         ensures read { IfOk result (λ answer. IsSomeAnd self.new.remote (IsOffer offer.now)) }
-        ensures different { IfOk result (λ answer. IsSomeAnd self.new.remote (λ remote. AreDistinct (section_mids remote.media_lines))) }
+        ensures different { IfOk result (λ answer. IsSomeAnd self.new.remote (λ remote. AreMidsDistinct (section_mids remote.media_lines))) }
         ensures placed { IfOk result (λ answer. IsSomeAnd self.new.remote
             (StaysInPlaces self.old.names (sections_of self.old.local) self.old.remote)) }
         // Section by section: the shape, which are accepted, and the rules of the table.
@@ -182,12 +182,12 @@ impl Exchange {
         ensures answers { IfOk result (λ answer. IsSomeAnd self.new.remote (λ remote.
             AnswersOffer self.old.own self.new.config.params.items remote answer.sdp)) }
         ensures bundle { IfOk result (λ answer. IsSomeAnd self.new.remote (λ remote. BundlesAccepted remote answer.sdp)) }
-        ensures tracks { IfOk result (λ answer. AreDistinct (tracks answer.sdp)) }
+        ensures tracks { IfOk result (λ answer. AreMidsDistinct (tracks answer.sdp)) }
         ensures read_back { IfOk result (λ answer. IsReadBack answer.sdp (versioned_text answer.version answer.sdp)) }
         ensures negotiated { IfOk result (λ answer. IsSomeAnd self.new.remote (λ remote.
             NegotiatesOffer remote self.old.config.params.items self.new.config.params.items)) }
         ensures stay { IfOk result (λ answer. LockedStay self.old.config.params.items self.new.config.params.items) }
-        ensures distinct { AllDistinct (types self.old.config.params.items) → IfOk result (λ answer. AllDistinct (types self.new.config.params.items)) }
+        ensures distinct { AllTypesDistinct (types self.old.config.params.items) → IfOk result (λ answer. AllTypesDistinct (types self.new.config.params.items)) }
         ensures plain { All IsPlain self.old.config.params.items → IfOk result (λ answer. All IsPlain self.new.config.params.items) }
         ensures local { IfOk result (λ answer. self.new.local ≡ Some answer.sdp) }
         ensures version { IfOk result (λ answer. answer.version ≡ self.old.version) }
@@ -195,7 +195,7 @@ impl Exchange {
         ensures distances { self.new.config.red_distances ≡ self.old.config.red_distances }
         ensures own_same { self.new.own ≡ self.old.own }
         ensures else_same { IfOk result (λ answer. (self.new.pending ≡ self.old.pending) × (self.new.added ≡ self.old.added)) }
-        ensures names { IfOk result (λ answer. self.new.names ≡ grown self.old.names answer.sdp.media_lines) }
+        ensures names { IfOk result (λ answer. self.new.names ≡ grown_names self.old.names answer.sdp.media_lines) }
         ensures sound { IsSound self.old → IsSound self.new }
         ensures follows { Follows self.old self.new }
         ensures refused { IfErr result (RefusesOffer self.old offer.now) }
@@ -205,7 +205,7 @@ impl Exchange {
         let made = self.answering(offer)?;
         let answer = Answer::new(made.sdp, self.version);
         self.settle(Some(made.local), made.remote, made.config, made.names);
-        self.version = next_version(self.version);
+        self.version = next_exchange_version(self.version);
         Ok(answer)
     }
 }

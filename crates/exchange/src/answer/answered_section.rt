@@ -1,6 +1,6 @@
 //! The sections of an answer.
-ghost use Rattle.exchange.specs.Prelude.{Holds, rows};
-ghost use Rattle.exchange.specs.answer.AnsweredSection.{AnswersSection, SaysChoice};
+ghost use Rattle.exchange.specs.Prelude.{HoldsMids, rows};
+ghost use Rattle.exchange.specs.answer.AnsweredSection.{AnswersSection, SaysSectionChoice};
 ghost use Rattle.exchange.specs.answer.InBundle.{bundle_names};
 ghost use Rattle.exchange.specs.answer.Offered.{AreOfferRounds, BringsRound};
 ghost use Rattle.exchange.specs.offer.Rules.{HasShapeOf, IsAcceptedExactly, KeepsRules};
@@ -25,7 +25,7 @@ fn section_of_choice(
     offered: &MediaLine,
     choice: &Choice,
 ) -> Result<MediaLine, AllocError>
-    ensures { IfOk result (SaysChoice own.now offer.now offered.now choice.now) }
+    ensures { IfOk result (SaysSectionChoice own.now offer.now offered.now choice.now) }
 {
     match choice {
         Choice::Rejected => rejected(alloc, offered),
@@ -49,7 +49,7 @@ fn answered_section(
     offered: &MediaLine,
     theirs: &[PayloadParams],
 ) -> Result<MediaLine, AllocError>
-    requires group { Holds group.now (bundle_names offer.now) }
+    requires group { HoldsMids group.now (bundle_names offer.now) }
     requires rows { BringsRound offer.now offered.now → theirs.now ≡ rows offered.now }
     ensures { IfOk result (AnswersSection own.now config.now.params.items offer.now offered.now) }
 {

@@ -1,5 +1,5 @@
 //! What an answer says of the session as a whole.
-ghost use Rattle.exchange.specs.answer.AnsweredSession.{allows_mixed, answered_session, group_lines, is_accepted, mixed_lines};
+ghost use Rattle.exchange.specs.answer.AnsweredSession.{session_allows_mixed, answered_session, group_lines, is_section_accepted, mixed_lines};
 ghost use Rattle.std.specs.List.{list_any};
 ghost use Rattle.std.specs.Prelude.{◌≡◌, IfOk, map};
 
@@ -9,8 +9,11 @@ use std::alloc::{AllocError, Global};
 use str0m_signal::{Items, MediaLine, Mid, Sdp, Session, SessionAttribute, Text};
 
 /// Whether each section is accepted.
-pub(crate) fn are_accepted(alloc: Global, sections: &[MediaLine]) -> Result<Vec<bool>, AllocError>
-    ensures { IfOk result (λ accepted. accepted.items ≡ map is_accepted sections.now) }
+pub(crate) fn session_sections_accepted(
+    alloc: Global,
+    sections: &[MediaLine],
+) -> Result<Vec<bool>, AllocError>
+    ensures { IfOk result (λ accepted. accepted.items ≡ map is_section_accepted sections.now) }
 {
     let mut accepted = Vec::new(alloc);
     for section in sections {
@@ -34,17 +37,17 @@ pub(crate) fn group_lines(
     Ok(lines)
 }
 
-fn allows_mixed(attr: &SessionAttribute) -> bool
-    ensures { result ≡ allows_mixed attr.now }
+fn session_allows_mixed(attr: &SessionAttribute) -> bool
+    ensures { result ≡ session_allows_mixed attr.now }
 {
     matches!(attr, SessionAttribute::AllowMixedExts)
 }
 
 /// Whether an attribute allows header extensions of both lengths.
-fn has_mixed(attrs: &[SessionAttribute]) -> bool
-    ensures { result ≡ list_any allows_mixed attrs.now }
+fn session_has_mixed(attrs: &[SessionAttribute]) -> bool
+    ensures { result ≡ list_any session_allows_mixed attrs.now }
 {
-    attrs.iter().any(|attr| allows_mixed(attr))
+    attrs.iter().any(|attr| session_allows_mixed(attr))
 }
 
 pub(crate) fn mixed_lines(
@@ -53,7 +56,7 @@ pub(crate) fn mixed_lines(
 ) -> Result<Vec<SessionAttribute>, AllocError>
     ensures { IfOk result (λ lines. lines.items ≡ mixed_lines offered.now) }
 {
-    if !has_mixed(offered) {
+    if !session_has_mixed(offered) {
         return Ok(Vec::new(alloc));
     }
     let lines = vec![in alloc; SessionAttribute::AllowMixedExts]?;
@@ -69,7 +72,7 @@ pub(crate) fn answered_session(
 ) -> Result<Session, AllocError>
     ensures { IfOk result (λ session. session ≡ answered_session own.now offer.now sections.now) }
 {
-    let accepted = are_accepted(alloc, sections)?;
+    let accepted = session_sections_accepted(alloc, sections)?;
     let mids = answered_bundle(alloc, offer, accepted.as_slice())?;
     let mut attrs = group_lines(alloc, mids)?;
     attrs.append(&mut mixed_lines(alloc, offer.session.attrs.as_slice())?)?;

@@ -1,28 +1,28 @@
 //! The names that the group of an answer lists.
 
-ghost use Rattle.exchange.specs.Prelude.{Holds, is_listed};
-ghost use Rattle.exchange.specs.answer.Bundle.{accepted_names, answered_bundle, listed_among, name_if_accepted};
+ghost use Rattle.exchange.specs.Prelude.{HoldsMids, is_group_listed};
+ghost use Rattle.exchange.specs.answer.Bundle.{answered_bundle_names, answered_bundle, answered_bundle_among, answered_bundle_name};
 ghost use Rattle.std.specs.Prelude.{◌≡◌, IfOk, Some};
 
-use crate::offer::names::{is_held, ordered};
+use crate::offer::names::{is_mid_held, ordered_names};
 use crate::section::stopped::name_of;
 use std::alloc::{AllocError, Global};
 use std::collections::BTreeSet;
 use str0m_signal::{Items, MediaLine, Mid, Sdp};
 
-fn name_if_accepted(section: &MediaLine, is_accepted: bool) -> Option<Mid>
-    ensures { result ≡ name_if_accepted (section.now, is_accepted) }
+fn answered_bundle_name(section: &MediaLine, is_accepted: bool) -> Option<Mid>
+    ensures { result ≡ answered_bundle_name (section.now, is_accepted) }
 {
     if is_accepted { name_of(section) } else { None }
 }
 
 /// The names of the accepted sections, in order.
-pub(crate) fn accepted_names(
+pub(crate) fn answered_bundle_names(
     alloc: Global,
     sections: &[MediaLine],
     accepted: &[bool],
 ) -> Result<Vec<Mid>, AllocError>
-    ensures { IfOk result (λ names. names.items ≡ accepted_names sections.now accepted.now) }
+    ensures { IfOk result (λ names. names.items ≡ answered_bundle_names sections.now accepted.now) }
 {
     let mut names = Vec::new(alloc);
     let (mut left, mut marks) = (sections, accepted);
@@ -30,7 +30,7 @@ pub(crate) fn accepted_names(
         let Some((is_accepted, more)) = marks.split_first() else {
             return Ok(names);
         };
-        if let Some(name) = name_if_accepted(section, *is_accepted) {
+        if let Some(name) = answered_bundle_name(section, *is_accepted) {
             names.push(name)?;
         }
         left = later;
@@ -40,21 +40,25 @@ pub(crate) fn accepted_names(
 }
 
 /// Whether a name is among others, which `listed` has in order.
-fn is_listed(names: &[Mid], listed: &BTreeSet<&str>, mid: Mid) -> bool
-    requires { Holds listed.now names.now }
-    ensures { result ≡ is_listed names.now (Some mid) }
+fn is_group_listed(names: &[Mid], listed: &BTreeSet<&str>, mid: Mid) -> bool
+    requires { HoldsMids listed.now names.now }
+    ensures { result ≡ is_group_listed names.now (Some mid) }
 {
-    is_held(listed, Some(mid))
+    is_mid_held(listed, Some(mid))
 }
 
 /// The names of a group that are among others, in the group's order.
-fn listed_among(alloc: Global, names: &[Mid], group: &[Mid]) -> Result<Vec<Mid>, AllocError>
-    ensures { IfOk result (λ mids. mids.items ≡ listed_among names.now (Some group.now)) }
+fn answered_bundle_among(
+    alloc: Global,
+    names: &[Mid],
+    group: &[Mid],
+) -> Result<Vec<Mid>, AllocError>
+    ensures { IfOk result (λ mids. mids.items ≡ answered_bundle_among names.now (Some group.now)) }
 {
-    let listed = ordered(alloc, names)?;
+    let listed = ordered_names(alloc, names)?;
     let mut mids = Vec::new(alloc);
     for mid in group {
-        if is_listed(names, &listed, *mid) {
+        if is_group_listed(names, &listed, *mid) {
             mids.push(*mid)?;
         }
     }
@@ -75,7 +79,7 @@ pub fn answered_bundle(
     let Some(group) = offer.bundle_mids() else {
         return Ok(Items::empty(alloc));
     };
-    let names = accepted_names(alloc, offer.media_lines.as_slice(), accepted)?;
-    let mids = listed_among(alloc, names.as_slice(), group)?;
+    let names = answered_bundle_names(alloc, offer.media_lines.as_slice(), accepted)?;
+    let mids = answered_bundle_among(alloc, names.as_slice(), group)?;
     Ok(Items::from(mids))
 }

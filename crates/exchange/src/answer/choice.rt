@@ -1,6 +1,6 @@
 //! What a section is answered with.
-ghost use Rattle.exchange.specs.Prelude.{Holds, is_media, rows};
-ghost use Rattle.exchange.specs.answer.Choice.{IsSectionChoice, channels_or_none, open_choice, rows_or_none};
+ghost use Rattle.exchange.specs.Prelude.{HoldsMids, is_media, rows};
+ghost use Rattle.exchange.specs.answer.Choice.{IsSectionChoice, channels_choice, open_choice, rows_or_none};
 ghost use Rattle.exchange.specs.answer.InBundle.{bundle_names};
 ghost use Rattle.exchange.specs.answer.Offered.{BringsRound};
 ghost use Rattle.exchange.specs.answer.Rows.{answered_rows};
@@ -25,8 +25,8 @@ pub(crate) enum Choice {
     Channels(Mid, DataChannels),
 }
 
-fn channels_or_none(mid: Mid, channels: Option<DataChannels>) -> Choice
-    ensures { result ≡ channels_or_none mid channels }
+fn channels_choice(mid: Mid, channels: Option<DataChannels>) -> Choice
+    ensures { result ≡ channels_choice mid channels }
 {
     match channels {
         Some(channels) => Choice::Channels(mid, channels),
@@ -67,7 +67,7 @@ fn open_choice(
         (MediaType::Audio | MediaType::Video, Proto::Srtp) => {
             rows_or_none(config, section, mid, theirs)
         }
-        (MediaType::Application, Proto::Sctp) => Ok(channels_or_none(mid, own.channels)),
+        (MediaType::Application, Proto::Sctp) => Ok(channels_choice(mid, own.channels)),
         _ => Ok(Choice::Rejected),
     }
 }
@@ -83,7 +83,7 @@ pub(crate) fn choice_of(
     section: &MediaLine,
     theirs: &[PayloadParams],
 ) -> Result<Choice, AllocError>
-    requires group { Holds group.now (bundle_names offer.now) }
+    requires group { HoldsMids group.now (bundle_names offer.now) }
     requires rows { BringsRound offer.now section.now → theirs.now ≡ rows section.now }
     ensures { IfOk result (IsSectionChoice own.now config.now.params.items offer.now section.now) }
 {

@@ -1,7 +1,7 @@
 //! What is in force at a section: what it says itself, else what the session says for all sections.
 
 ghost use Rattle.exchange.specs.Prelude.{IsPreferred, first, media_pwd, media_ufrag, session_pwd, session_ufrag};
-ghost use Rattle.exchange.specs.answer.InForce.{creds_at, fingerprints_at, fingerprints_of, pwd_at, setup_at, ufrag_at};
+ghost use Rattle.exchange.specs.answer.InForce.{creds_at, fingerprints_at, fingerprints_of, pwd_in_force, setup_at, ufrag_in_force};
 ghost use Rattle.std.specs.Prelude.{◌≡◌, IfOk, Some, filter_map, option_copied};
 
 use std::alloc::AllocError;
@@ -73,8 +73,8 @@ fn session_pwd(session: &Session) -> Option<&Text>
     attrs.iter().find_map(|attr| session_pwd_of(attr))
 }
 
-fn ufrag_at(sdp: &Sdp, at: usize) -> Option<&Text>
-    ensures { option_copied result ≡ ufrag_at sdp.now at }
+fn ufrag_in_force(sdp: &Sdp, at: usize) -> Option<&Text>
+    ensures { option_copied result ≡ ufrag_in_force sdp.now at }
 {
     let section = sdp.media_lines.get(at)?;
     match section_ufrag(section) {
@@ -83,8 +83,8 @@ fn ufrag_at(sdp: &Sdp, at: usize) -> Option<&Text>
     }
 }
 
-fn pwd_at(sdp: &Sdp, at: usize) -> Option<&Text>
-    ensures { option_copied result ≡ pwd_at sdp.now at }
+fn pwd_in_force(sdp: &Sdp, at: usize) -> Option<&Text>
+    ensures { option_copied result ≡ pwd_in_force sdp.now at }
 {
     let section = sdp.media_lines.get(at)?;
     match section_pwd(section) {
@@ -94,7 +94,10 @@ fn pwd_at(sdp: &Sdp, at: usize) -> Option<&Text>
 }
 
 /// The preferred fingerprint of the section, else of the session.
-fn preferred(section: &MediaLine, session: &Session) -> Result<Option<Fingerprint>, AllocError>
+fn preferred_in_force(
+    section: &MediaLine,
+    session: &Session,
+) -> Result<Option<Fingerprint>, AllocError>
     ensures { IfOk result (IsPreferred (fingerprints_of session.now.attrs (Some section.now))) }
 {
     match section.fingerprint()? {
@@ -123,7 +126,7 @@ pub fn setup_at(sdp: &Sdp, at: usize) -> Option<Setup>
 pub fn creds_at(sdp: &Sdp, at: usize) -> Result<Option<IceCreds>, AllocError>
     ensures { IfOk result (λ found. found ≡ creds_at sdp.now at) }
 {
-    let (Some(ufrag), Some(pass)) = (ufrag_at(sdp, at), pwd_at(sdp, at)) else {
+    let (Some(ufrag), Some(pass)) = (ufrag_in_force(sdp, at), pwd_in_force(sdp, at)) else {
         return Ok(None);
     };
     let ufrag = ufrag.clone()?;
@@ -141,5 +144,5 @@ pub fn fingerprint_at(sdp: &Sdp, at: usize) -> Result<Option<Fingerprint>, Alloc
     let Some(section) = sdp.media_lines.get(at) else {
         return Ok(None);
     };
-    preferred(section, &sdp.session)
+    preferred_in_force(section, &sdp.session)
 }

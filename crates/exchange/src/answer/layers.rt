@@ -1,6 +1,6 @@
 //! The layers of a stream that is received in several.
 ghost use Rattle.exchange.specs.Prelude.{rid_name_of};
-ghost use Rattle.exchange.specs.answer.Layers.{IsTurned, answered_layers, answered_rid, answered_rids, has_name, is_rid_answered, is_left, is_named, is_type_of, layers_line, received_layers, sent_layers, types_left};
+ghost use Rattle.exchange.specs.answer.Layers.{IsTurnedLine, answered_layers, answered_rid, answered_rids, is_rid_named, is_rid_answered, is_rid_left, is_layer_named, is_row_type, layers_line, received_layers, sent_layers, rid_types_left};
 ghost use Rattle.std.specs.List.{list_any};
 ghost use Rattle.std.specs.Prelude.{◌≡◌, ◌++◌, ◌==◌, ℕ, IfOk, List, OnOk, filter, filter_map, option_to_list, All, []};
 
@@ -26,43 +26,43 @@ pub(crate) fn sent_layers(
     }
 }
 
-fn is_named(layer: &SimulcastLayer, name: &str) -> bool
-    ensures { result ≡ is_named name.now layer.now }
+fn is_layer_named(layer: &SimulcastLayer, name: &str) -> bool
+    ensures { result ≡ is_layer_named name.now layer.now }
 {
     layer.restriction_id.0.as_str() == name
 }
 
-pub(crate) fn is_sent(layers: &[SimulcastLayer], name: &str) -> bool
-    ensures { result ≡ list_any (is_named name.now) layers.now }
+pub(crate) fn is_layer_sent(layers: &[SimulcastLayer], name: &str) -> bool
+    ensures { result ≡ list_any (is_layer_named name.now) layers.now }
 {
-    layers.iter().any(|layer| is_named(layer, name))
+    layers.iter().any(|layer| is_layer_named(layer, name))
 }
 
-fn is_type_of(rows: &[PayloadParams], pt: Pt) -> bool
-    ensures { result ≡ is_type_of rows.now pt }
+fn is_row_type(rows: &[PayloadParams], pt: Pt) -> bool
+    ensures { result ≡ is_row_type rows.now pt }
 {
     rows.iter().any(|row| row.pt() == pt)
 }
 
-fn has_type_of(rows: &[PayloadParams], pts: &[Pt]) -> bool
-    ensures { result ≡ list_any (is_type_of rows.now) pts.now }
+fn has_row_type(rows: &[PayloadParams], pts: &[Pt]) -> bool
+    ensures { result ≡ list_any (is_row_type rows.now) pts.now }
 {
-    pts.iter().any(|pt| is_type_of(rows, *pt))
+    pts.iter().any(|pt| is_row_type(rows, *pt))
 }
 
 /// Whether a rid line with these types stays: it lists none, or some of them stand among the rows.
-fn is_left(rows: &[PayloadParams], pts: &[Pt]) -> bool
-    ensures { result ≡ is_left rows.now pts.now }
+fn is_rid_left(rows: &[PayloadParams], pts: &[Pt]) -> bool
+    ensures { result ≡ is_rid_left rows.now pts.now }
 {
-    pts.is_empty() || has_type_of(rows, pts)
+    pts.is_empty() || has_row_type(rows, pts)
 }
 
-fn types_left(alloc: Global, rows: &[PayloadParams], pts: &[Pt]) -> Result<Vec<Pt>, AllocError>
-    ensures { IfOk result (λ left. left.items ≡ types_left rows.now pts.now) }
+fn rid_types_left(alloc: Global, rows: &[PayloadParams], pts: &[Pt]) -> Result<Vec<Pt>, AllocError>
+    ensures { IfOk result (λ left. left.items ≡ rid_types_left rows.now pts.now) }
 {
     let mut left = Vec::new(alloc);
     for pt in pts {
-        if is_type_of(rows, *pt) {
+        if is_row_type(rows, *pt) {
             left.push(*pt)?;
         }
     }
@@ -86,11 +86,14 @@ fn answered_rid(
             restriction,
         } => {
             let (name, listed) = (id.0.as_str(), pt.as_slice());
-            if direction.as_str() == "send" && is_sent(sent, name) && is_left(rows, listed) {
+            if direction.as_str() == "send"
+                && is_layer_sent(sent, name)
+                && is_rid_left(rows, listed)
+            {
                 Ok(Some(MediaAttribute::Rid {
                     id: id.clone()?,
                     direction: Word("recv"),
-                    pt: Items(types_left(alloc, rows, listed)?),
+                    pt: Items(rid_types_left(alloc, rows, listed)?),
                     restriction: restriction.clone()?,
                 }))
             } else {
@@ -127,8 +130,8 @@ fn answered_rids(
     Ok(rids)
 }
 
-fn has_name(rid: &MediaAttribute, name: &str) -> bool
-    ensures { result ≡ has_name name.now (rid_name_of rid.now) }
+fn is_rid_named(rid: &MediaAttribute, name: &str) -> bool
+    ensures { result ≡ is_rid_named name.now (rid_name_of rid.now) }
 {
     match rid {
         MediaAttribute::Rid { id, .. } => id.0.as_str() == name,
@@ -140,7 +143,7 @@ fn is_rid_answered(rids: &[MediaAttribute], layer: &SimulcastLayer) -> bool
     ensures { result ≡ is_rid_answered rids.now layer.now }
 {
     let name = layer.restriction_id.0.as_str();
-    rids.iter().any(|rid| has_name(rid, name))
+    rids.iter().any(|rid| is_rid_named(rid, name))
 }
 
 fn received_layers(
@@ -206,7 +209,7 @@ pub fn answered_layers(
     rows: &[PayloadParams],
 ) -> Result<Vec<MediaAttribute>, AllocError>
     ensures exact { IfOk result (λ lines. lines.items ≡ answered_layers rows.now offered.now) }
-    ensures turned { IfOk result (λ lines. All (IsTurned rows.now offered.now) lines.items) }
+    ensures turned { IfOk result (λ lines. All (IsTurnedLine rows.now offered.now) lines.items) }
     ensures none { sent_layers offered.now ≡ [] → IfOk result (λ lines. lines.items ≡ []) }
 {
     let lines = lines_of_layers(alloc, offered, rows)?;

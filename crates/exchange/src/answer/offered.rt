@@ -1,7 +1,7 @@
 //! Offers that are read whole, and their rounds.
-ghost use Rattle.exchange.specs.Prelude.{AllDistinct, HasBoundedRows, Holds, IsFromLine, IsPlain, LockedStay, MediaLine, rows, types};
+ghost use Rattle.exchange.specs.Prelude.{AllTypesDistinct, HasBoundedRows, HoldsMids, IsFromLine, IsPlain, LockedStay, MediaLine, rows, types};
 ghost use Rattle.exchange.specs.answer.InBundle.{bundle_names};
-ghost use Rattle.exchange.specs.answer.Offered.{AreOfferRounds, BringsRound, IsOffer, IsRoundOf, NegotiatesOffer, RefusesText};
+ghost use Rattle.exchange.specs.answer.Offered.{AreOfferRounds, BringsRound, IsOffer, IsRoundOf, NegotiatesOffer, RefusesOfferedText};
 ghost use Rattle.std.specs.Prelude.{◌≡◌, ◌≢◌, ◌==◌, ◌+◌, ◌∷◌, ◌↔◌, [], IfErr, IfOk, IsTrue, List, OnOk, All, count_by, length};
 
 use crate::answer::in_bundle::ordered_bundle;
@@ -13,30 +13,30 @@ use str0m_signal::{
     CodecConfig, MediaLine, NegotiationError, PayloadParams, Proto, Round, Sdp, Text, sdp_parser,
 };
 
-fn line_feeds(bytes: &[u8]) -> usize
+fn offered_line_feeds(bytes: &[u8]) -> usize
     ensures { result ≡ count_by (λ byte. byte == 10) bytes.now }
 {
     bytes.iter().filter(|byte| **byte == b'\n').count()
 }
 
 /// The number, counted from 1, of the line at which the rest of a text begins.
-fn line_of(text: &str, rest: &str) -> usize
+fn offered_rest_line_number(text: &str, rest: &str) -> usize
     ensures { (from : IsFromLine text.now rest.now) → rest.now ≢ [] → result ≡ length from.before + 1 }
 {
     let read = text.len().saturating_sub(rest.len());
     let (before, _rest) = text.as_bytes().split_at(read);
-    line_feeds(before).saturating_add(1)
+    offered_line_feeds(before).saturating_add(1)
 }
 
 /// Its first line, without the end.
-fn first_line(alloc: Global, rest: &str) -> Result<Text, AllocError> {
+fn first_offered_rest_line(alloc: Global, rest: &str) -> Result<Text, AllocError> {
     Text::from_str(alloc, rest.lines().next().unwrap_or(""))
 }
 
 /// The description that the whole text is.
-pub(crate) fn whole_description(alloc: Global, text: &str) -> Result<Sdp, ExchangeError>
+pub(crate) fn whole_offered_description(alloc: Global, text: &str) -> Result<Sdp, ExchangeError>
     ensures read { IfOk result (IsOffer text.now) }
-    ensures refused { IfErr result (RefusesText text.now) }
+    ensures refused { IfErr result (RefusesOfferedText text.now) }
     ensures bounded { IfOk result (λ offer. All HasBoundedRows offer.media_lines) }
 {
     let (offer, rest) = sdp_parser(alloc, text)?;
@@ -44,14 +44,14 @@ pub(crate) fn whole_description(alloc: Global, text: &str) -> Result<Sdp, Exchan
         return Ok(offer);
     }
     Err(ExchangeError::Unread {
-        line: line_of(text, rest),
-        text: first_line(alloc, rest)?,
+        line: offered_rest_line_number(text, rest),
+        text: first_offered_rest_line(alloc, rest)?,
     })
 }
 
 /// Whether a section brings a round, where `group` has the names of the offer's group in order.
 fn is_negotiated(group: &BTreeSet<&str>, offer: &Sdp, section: &MediaLine) -> bool
-    requires { Holds group.now (bundle_names offer.now) }
+    requires { HoldsMids group.now (bundle_names offer.now) }
     ensures { IsTrue result ↔ BringsRound offer.now section.now }
 {
     !is_stopped_in(group, offer, section)
@@ -83,7 +83,7 @@ pub(crate) fn rounds_of(alloc: Global, offer: &Sdp) -> Result<Vec<Round>, AllocE
     Ok(rounds)
 }
 
-fn lacked_memory(outcomes: &[Result<(), NegotiationError>]) -> bool {
+fn round_lacked_memory(outcomes: &[Result<(), NegotiationError>]) -> bool {
     outcomes
         .iter()
         .any(|outcome| matches!(outcome, Err(NegotiationError::Memory)))
@@ -97,7 +97,7 @@ pub(crate) fn rows_of_next<'a>(
     section: &MediaLine,
     rounds: &'a [Round],
 ) -> (&'a [PayloadParams], &'a [Round])
-    requires { Holds group.now (bundle_names offer.now) }
+    requires { HoldsMids group.now (bundle_names offer.now) }
     ensures rows { (later : List MediaLine) → AreOfferRounds offer.now (section.now ∷ later) rounds.now → BringsRound offer.now section.now
         → result.0.now ≡ rows section.now }
     ensures later { (later : List MediaLine) → AreOfferRounds offer.now (section.now ∷ later) rounds.now → AreOfferRounds offer.now later result.1.now }
@@ -120,12 +120,12 @@ pub(crate) fn negotiate(
     requires { AreOfferRounds offer.now offer.now.media_lines rounds.now }
     ensures ok { OnOk result (NegotiatesOffer offer.now config.old.params.items config.new.params.items) }
     ensures stay { OnOk result (LockedStay config.old.params.items config.new.params.items) }
-    ensures distinct { AllDistinct (types config.old.params.items) → OnOk result (AllDistinct (types config.new.params.items)) }
+    ensures distinct { AllTypesDistinct (types config.old.params.items) → OnOk result (AllTypesDistinct (types config.new.params.items)) }
     ensures plain { All HasBoundedRows offer.now.media_lines → All IsPlain config.old.params.items → OnOk result (All IsPlain config.new.params.items) }
     ensures else_same { config.new ≡ record config.old { params = config.new.params } }
 {
     let outcomes = config.update_all(rounds)?;
-    if lacked_memory(outcomes.as_slice()) {
+    if round_lacked_memory(outcomes.as_slice()) {
         return Err(AllocError);
     }
     Ok(())

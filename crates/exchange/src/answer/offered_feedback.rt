@@ -1,5 +1,5 @@
 //! The feedback that a section offers for each payload type, by one pass over its lines.
-ghost use Rattle.exchange.specs.answer.OfferedFeedback.{IsGathered, TellsOf, either_offered, named_offered, none_offered, offered_feedback, with_offered, value_for_all};
+ghost use Rattle.exchange.specs.answer.OfferedFeedback.{IsFeedbackGathered, TellsFeedbackOf, either_offered, named_offered, none_offered, offered_feedback, with_offered, feedback_for_all};
 ghost use Rattle.std.specs.Prelude.{◌≡◌, ◌<◌, get_or, set, option_copied};
 
 use str0m_sdp::label::{FIR, NACK, PLI, REMB, TRANSPORT_CC};
@@ -7,7 +7,7 @@ use str0m_signal::{MediaAttribute, MediaLine, Pt};
 use str0m_values::cuts::strip;
 
 /// As many payload types as have a place in a table: eight bits hold their numbers.
-const TYPES: usize = 256;
+const FEEDBACK_TYPES: usize = 256;
 
 /// What is offered for a payload type.
 #[derive(Clone, Copy)]
@@ -23,14 +23,14 @@ pub(crate) struct OfferedFeedback {
 #[derive(Drop)]
 pub(crate) struct SectionFeedback {
     /// By lines of the type.
-    of_types: [OfferedFeedback; TYPES],
+    of_types: [OfferedFeedback; FEEDBACK_TYPES],
     /// By lines of all types.
     of_all: OfferedFeedback,
 }
 
 /// The value of a line that offers feedback for all types.
-fn value_for_all(attr: &MediaAttribute) -> Option<&str>
-    ensures { option_copied result ≡ value_for_all attr.now }
+fn feedback_for_all(attr: &MediaAttribute) -> Option<&str>
+    ensures { option_copied result ≡ feedback_for_all attr.now }
 {
     match attr {
         MediaAttribute::Unused(text) => strip(text.as_str(), "rtcp-fb:* "),
@@ -78,9 +78,9 @@ impl OfferedFeedback {
 
     /// With what a line offers for all types.
     fn with_line(self, attr: &MediaAttribute) -> OfferedFeedback
-        ensures { result ≡ with_offered self (value_for_all attr.now) }
+        ensures { result ≡ with_offered self (feedback_for_all attr.now) }
     {
-        match value_for_all(attr) {
+        match feedback_for_all(attr) {
             Some(words) => self.or(OfferedFeedback::named(words)),
             None => self,
         }
@@ -96,7 +96,7 @@ fn place(pt: Pt) -> usize
 }
 
 /// Adds what the value of a line names to the feedback of its payload type.
-fn add_value(table: &mut [OfferedFeedback; TYPES], pt: Pt, words: &str)
+fn add_feedback_value(table: &mut [OfferedFeedback; FEEDBACK_TYPES], pt: Pt, words: &str)
     ensures added { table.new ≡ set table.old pt (either_offered (get_or table.old pt none_offered) (named_offered words.now)) }
     ensures within { pt < 256 }
 {
@@ -105,15 +105,19 @@ fn add_value(table: &mut [OfferedFeedback; TYPES], pt: Pt, words: &str)
 }
 
 /// What these lines offer.
-fn gathered(attrs: &[MediaAttribute]) -> SectionFeedback
-    ensures { IsGathered attrs.now result.of_types result.of_all }
+fn gathered_feedback(attrs: &[MediaAttribute]) -> SectionFeedback
+    ensures { IsFeedbackGathered attrs.now result.of_types result.of_all }
 {
     let nothing = OfferedFeedback::none();
-    let mut of_types = [nothing; TYPES];
+    let mut of_types = [nothing; FEEDBACK_TYPES];
     let mut of_all = nothing;
     for attr in attrs {
         match attr {
-            MediaAttribute::RtcpFb { pt, value } => add_value(&mut of_types, *pt, value.as_str()),
+            MediaAttribute::RtcpFb { pt, value } => add_feedback_value(
+                &mut of_types,
+                *pt,
+                value.as_str(),
+            ),
             _ => of_all = of_all.with_line(attr),
         }
     }
@@ -122,16 +126,16 @@ fn gathered(attrs: &[MediaAttribute]) -> SectionFeedback
 
 /// What a section offers.
 pub(crate) fn section_feedback(section: &MediaLine) -> SectionFeedback
-    ensures { TellsOf section.now result }
+    ensures { TellsFeedbackOf section.now result }
 {
-    gathered(section.attrs.as_slice())
+    gathered_feedback(section.attrs.as_slice())
 }
 
 impl SectionFeedback {
     /// What the section offers for a payload type, by lines of its own or of all types.
     #[tactic(auto, using(crate::proofs::answer::OfferedFeedbackLaws::feedback_told))]
     pub(crate) fn for_type(&self, section: &MediaLine, pt: Pt) -> OfferedFeedback
-        requires { TellsOf section.now self.now }
+        requires { TellsFeedbackOf section.now self.now }
         ensures { result ≡ offered_feedback section.now.attrs pt }
     {
         let own = self.of_types[place(pt)];

@@ -1,6 +1,6 @@
 //! The section that rejects an offered one.
 ghost use Rattle.exchange.specs.Prelude.{Consistent, is_mid, maps};
-ghost use Rattle.exchange.specs.answer.RejectedSection.{direction_over, first_type, line_that, listed_alone, rejecting};
+ghost use Rattle.exchange.specs.answer.RejectedSection.{direction_over, first_rejected_type, first_rejected_line, rejected_type_alone, rejecting};
 ghost use Rattle.std.specs.Prelude.{◌≡◌, ◌++◌, IfOk, OnOk, find, option_to_list, option_copied};
 
 use std::alloc::{AllocError, Global};
@@ -29,14 +29,14 @@ fn mid_line(lines: &[MediaAttribute]) -> Option<&MediaAttribute>
 }
 
 /// The line that maps a payload type.
-fn mapping(lines: &[MediaAttribute], pt: Pt) -> Option<&MediaAttribute>
+fn rejected_mapping_line(lines: &[MediaAttribute], pt: Pt) -> Option<&MediaAttribute>
     ensures { option_copied result ≡ find (maps pt) lines.now }
 {
     lines.iter().find(|line| maps(line, pt))
 }
 
-fn first_type(listed: &[Pt]) -> Pt
-    ensures { result ≡ first_type listed.now }
+fn first_rejected_type(listed: &[Pt]) -> Pt
+    ensures { result ≡ first_rejected_type listed.now }
 {
     match listed {
         [pt, ..] => *pt,
@@ -45,19 +45,19 @@ fn first_type(listed: &[Pt]) -> Pt
 }
 
 /// The payload types that the m-line lists.
-fn listed_alone(alloc: Global, typ: &MediaType, listed: &[Pt]) -> Result<Vec<Pt>, AllocError>
-    ensures { IfOk result (λ alone. alone.items ≡ listed_alone typ.now listed.now) }
+fn rejected_type_alone(alloc: Global, typ: &MediaType, listed: &[Pt]) -> Result<Vec<Pt>, AllocError>
+    ensures { IfOk result (λ alone. alone.items ≡ rejected_type_alone typ.now listed.now) }
 {
     let mut alone = Vec::new(alloc);
     match typ {
         MediaType::Application => {}
-        _ => alone.push(first_type(listed))?,
+        _ => alone.push(first_rejected_type(listed))?,
     }
     Ok(alone)
 }
 
 /// A copy of a line, where there is one, after the others.
-fn push_copy(
+fn push_rejected_copy(
     lines: &mut Vec<MediaAttribute>,
     line: Option<&MediaAttribute>,
 ) -> Result<(), AllocError>
@@ -87,12 +87,12 @@ fn rejecting_lines(
     lines: &[MediaAttribute],
     pt: Pt,
 ) -> Result<Vec<MediaAttribute>, AllocError>
-    ensures { IfOk result (λ attrs. attrs.items ≡ line_that is_mid lines.now ++ (direction_over proto ++ line_that (maps pt) lines.now)) }
+    ensures { IfOk result (λ attrs. attrs.items ≡ first_rejected_line is_mid lines.now ++ (direction_over proto ++ first_rejected_line (maps pt) lines.now)) }
 {
     let mut attrs = Vec::new(alloc);
-    push_copy(&mut attrs, mid_line(lines))?;
+    push_rejected_copy(&mut attrs, mid_line(lines))?;
     push_direction(&mut attrs, proto)?;
-    push_copy(&mut attrs, mapping(lines, pt))?;
+    push_rejected_copy(&mut attrs, rejected_mapping_line(lines, pt))?;
     Ok(attrs)
 }
 
@@ -100,13 +100,13 @@ fn rejecting(alloc: Global, offered: &MediaLine) -> Result<MediaLine, AllocError
     ensures { IfOk result (λ section. section ≡ rejecting offered.now) }
 {
     let listed = offered.pts.as_slice();
-    let pt = first_type(listed);
+    let pt = first_rejected_type(listed);
     let attrs = rejecting_lines(alloc, offered.proto, offered.attrs.as_slice(), pt)?;
     Ok(MediaLine {
         typ: offered.typ.clone()?,
         disabled: true,
         proto: offered.proto,
-        pts: Items(listed_alone(alloc, &offered.typ, listed)?),
+        pts: Items(rejected_type_alone(alloc, &offered.typ, listed)?),
         bw: None,
         attrs: Items(attrs),
     })

@@ -1,26 +1,26 @@
 //! The rows that answer a section.
-ghost use Rattle.exchange.specs.Prelude.{AllDistinct, IsPlain, PayloadParams, distinct, has, locked_types, rows, types};
-ghost use Rattle.exchange.specs.answer.OfferedFeedback.{TellsOf};
-ghost use Rattle.exchange.specs.answer.Rows.{IsAgreed, Belongs, KeepsPlain, SaysWhatIsOffered, agreed_type, as_answered, is_answered, is_carried_in, matches, answer_to, answer_under, answered_rows, own_types};
+ghost use Rattle.exchange.specs.Prelude.{AllTypesDistinct, IsPlain, PayloadParams, distinct, has, locked_types, rows, types};
+ghost use Rattle.exchange.specs.answer.OfferedFeedback.{TellsFeedbackOf};
+ghost use Rattle.exchange.specs.answer.Rows.{IsAgreedRow, BelongsInAnswer, KeepsRowPlain, SaysWhatIsOffered, agreed_row_type, as_answered, is_answered, is_row_carried_in, row_matches, answer_to, answer_under, answered_rows, own_types};
 ghost use Rattle.std.specs.Prelude.{◌≡◌, ◌==◌, ◌++◌, ◌∷◌, [], All, Contains, IfOk, OnOk, filter, filter_map, find, if◌then◌else◌, option_to_list, option_copied};
 
 use crate::answer::offered_feedback::{SectionFeedback, section_feedback};
 use std::alloc::{AllocError, Global};
 use str0m_signal::{CodecConfig, MediaLine, MediaType, PayloadParams, Pt};
 
-fn is_type_listed(listed: &[Pt], pt: Pt) -> bool
+fn is_answered_type_listed(listed: &[Pt], pt: Pt) -> bool
     ensures { result ≡ has listed.now pt }
 {
     listed.iter().any(|other| *other == pt)
 }
 
 /// The type that both sides have in a role, where the m-line lists it.
-fn agreed_type(listed: &[Pt], ours: Option<Pt>, theirs: Option<Pt>) -> Option<Pt>
-    ensures { result ≡ agreed_type listed.now ours theirs }
+fn agreed_row_type(listed: &[Pt], ours: Option<Pt>, theirs: Option<Pt>) -> Option<Pt>
+    ensures { result ≡ agreed_row_type listed.now ours theirs }
 {
     match (ours, theirs) {
         (Some(ours), Some(theirs)) => {
-            if ours == theirs && is_type_listed(listed, ours) {
+            if ours == theirs && is_answered_type_listed(listed, ours) {
                 Some(ours)
             } else {
                 None
@@ -38,13 +38,13 @@ fn as_answered(
     theirs: &PayloadParams,
     ours: &PayloadParams,
 ) -> PayloadParams
-    requires { TellsOf section.now feedback.now }
+    requires { TellsFeedbackOf section.now feedback.now }
     ensures { result ≡ as_answered section.now theirs.now ours.now }
 {
     let (pt, listed) = (ours.pt(), section.pts.as_slice());
     let offered = feedback.for_type(section, pt);
-    let resend = agreed_type(listed, ours.resend(), theirs.resend());
-    let red = agreed_type(listed, ours.red(), theirs.red());
+    let resend = agreed_row_type(listed, ours.resend(), theirs.resend());
+    let red = agreed_row_type(listed, ours.red(), theirs.red());
     let mut row = PayloadParams::new(pt, resend, ours.spec()).with_red(red);
     row.set_fb_transport_cc(ours.fb_transport_cc() && offered.transport_cc);
     row.set_fb_fir(ours.fb_fir() && offered.fir);
@@ -55,8 +55,8 @@ fn as_answered(
 }
 
 /// Whether sections of this type carry what the row is of.
-fn is_carried(typ: &MediaType, row: &PayloadParams) -> bool
-    ensures { result ≡ is_carried_in typ.now row.now }
+fn is_row_carried(typ: &MediaType, row: &PayloadParams) -> bool
+    ensures { result ≡ is_row_carried_in typ.now row.now }
 {
     let codec = row.spec().codec;
     match typ {
@@ -67,12 +67,12 @@ fn is_carried(typ: &MediaType, row: &PayloadParams) -> bool
 }
 
 /// Whether our row answers an offered one.
-fn matches(typ: &MediaType, theirs: &PayloadParams, ours: &PayloadParams) -> bool
-    ensures { result ≡ matches typ.now theirs.now ours.now }
+fn row_matches(typ: &MediaType, theirs: &PayloadParams, ours: &PayloadParams) -> bool
+    ensures { result ≡ row_matches typ.now theirs.now ours.now }
 {
     ours.locked()
         && ours.pt() == theirs.pt()
-        && is_carried(typ, ours)
+        && is_row_carried(typ, ours)
         && ours.match_score(theirs).is_some()
 }
 
@@ -84,14 +84,14 @@ fn offered_under(offered: &[PayloadParams], pt: Pt) -> Option<&PayloadParams>
 }
 
 /// Our row that answers an offered one.
-fn our_match<'a>(
+fn our_row_match<'a>(
     own: &'a [PayloadParams],
     typ: &MediaType,
     theirs: &PayloadParams,
 ) -> Option<&'a PayloadParams>
-    ensures { option_copied result ≡ find (matches typ.now theirs.now) own.now }
+    ensures { option_copied result ≡ find (row_matches typ.now theirs.now) own.now }
 {
-    own.iter().find(|ours| matches(typ, theirs, ours))
+    own.iter().find(|ours| row_matches(typ, theirs, ours))
 }
 
 /// What the answer says of an offered row.
@@ -101,10 +101,10 @@ fn answer_to(
     feedback: &SectionFeedback,
     theirs: &PayloadParams,
 ) -> Option<PayloadParams>
-    requires { TellsOf section.now feedback.now }
+    requires { TellsFeedbackOf section.now feedback.now }
     ensures { result ≡ answer_to own.now section.now theirs.now }
 {
-    match our_match(own, &section.typ, theirs) {
+    match our_row_match(own, &section.typ, theirs) {
         Some(ours) => Some(as_answered(section, feedback, theirs, ours)),
         None => None,
     }
@@ -119,7 +119,7 @@ fn answer_under(
     offered: &[PayloadParams],
     pt: Pt,
 ) -> Option<PayloadParams>
-    requires { TellsOf section.now feedback.now }
+    requires { TellsFeedbackOf section.now feedback.now }
     ensures { result ≡ answer_under own.now section.now offered.now pt }
 {
     match offered_under(offered, pt) {
@@ -129,22 +129,22 @@ fn answer_under(
 }
 
 /// A payload type after the others, unless it stands among them.
-fn push_new(once: &mut Vec<Pt>, pt: Pt) -> Result<(), AllocError>
+fn push_answered_type(once: &mut Vec<Pt>, pt: Pt) -> Result<(), AllocError>
     ensures { OnOk result (once.new.items ≡ once.old.items ++ (if has once.old.items pt then [] else pt ∷ [])) }
 {
-    if !is_type_listed(once.as_slice(), pt) {
+    if !is_answered_type_listed(once.as_slice(), pt) {
         once.push(pt)?;
     }
     Ok(())
 }
 
 /// The payload types of an m-line, each where it stands first.
-fn each_once(alloc: Global, listed: &[Pt]) -> Result<Vec<Pt>, AllocError>
+fn answered_types_once(alloc: Global, listed: &[Pt]) -> Result<Vec<Pt>, AllocError>
     ensures { IfOk result (λ once. once.items ≡ distinct ◌==◌ listed.now) }
 {
     let mut once = Vec::with_capacity(alloc, listed.len())?;
     for pt in listed {
-        push_new(&mut once, *pt)?;
+        push_answered_type(&mut once, *pt)?;
     }
     Ok(once)
 }
@@ -169,7 +169,7 @@ fn answers_under(
     offered: &[PayloadParams],
     listed: &[Pt],
 ) -> Result<Vec<PayloadParams>, AllocError>
-    requires { TellsOf section.now feedback.now }
+    requires { TellsFeedbackOf section.now feedback.now }
     ensures { IfOk result (λ rows. rows.items ≡ filter_map (answer_under own.now section.now offered.now) listed.now) }
 {
     let mut rows = Vec::with_capacity(*section.attrs.allocator(), offered.len())?;
@@ -190,7 +190,7 @@ pub(crate) fn answered_rows(
     requires { offered.now ≡ rows section.now }
     ensures { IfOk result (λ answer. answer.items ≡ answered_rows own.now section.now) }
 {
-    let listed = each_once(*section.attrs.allocator(), section.pts.as_slice())?;
+    let listed = answered_types_once(*section.attrs.allocator(), section.pts.as_slice())?;
     let feedback = section_feedback(section);
     let answer = answers_under(own, section, &feedback, offered, listed.as_slice())?;
     Ok(answer)
@@ -207,18 +207,18 @@ pub(crate) fn answered_rows(
 /// `rtp_params` answers, no row is locked.
 ///
 /// The only error is that memory was refused. Configuration and section stay as they are.
-#[tactic(auto, using(crate::proofs::answer::RowLaws::all_agreed, crate::proofs::answer::RowLaws::in_order))]
+#[tactic(auto, using(crate::proofs::answer::RowLaws::all_rows_agreed, crate::proofs::answer::RowLaws::rows_in_order))]
 pub fn rows_for(config: &CodecConfig, section: &MediaLine) -> Result<Vec<PayloadParams>, AllocError>
     ensures exact { IfOk result (λ rows. rows.items ≡ answered_rows config.now.params.items section.now) }
-    ensures agreed { IfOk result (λ rows. All (IsAgreed config.now.params.items section.now) rows.items) }
+    ensures agreed { IfOk result (λ rows. All (IsAgreedRow config.now.params.items section.now) rows.items) }
     ensures offered { IfOk result (λ rows. All (SaysWhatIsOffered section.now) rows.items) }
     ensures ordered { IfOk result (λ rows. own_types rows.items ≡ filter (is_answered config.now.params.items section.now) (distinct ◌==◌ section.now.pts)) }
-    ensures distinct { IfOk result (λ rows. AllDistinct (own_types rows.items)) }
+    ensures distinct { IfOk result (λ rows. AllTypesDistinct (own_types rows.items)) }
     // So no type of any role stands twice, where rounds have locked the rows.
-    ensures apart { AllDistinct (locked_types config.now.params.items) → IfOk result (λ rows. AllDistinct (types rows.items)) }
+    ensures apart { AllTypesDistinct (locked_types config.now.params.items) → IfOk result (λ rows. AllTypesDistinct (types rows.items)) }
     // Rows of video need all their feedback for that, and not each section offers it.
-    ensures plain { All IsPlain config.now.params.items → IfOk result (λ rows. All KeepsPlain rows.items) }
-    ensures complete { IfOk result (λ rows. (ours : PayloadParams) → Belongs config.now.params.items section.now ours → Contains (own_types rows.items) ours.pt) }
+    ensures plain { All IsPlain config.now.params.items → IfOk result (λ rows. All KeepsRowPlain rows.items) }
+    ensures complete { IfOk result (λ rows. (ours : PayloadParams) → BelongsInAnswer config.now.params.items section.now ours → Contains (own_types rows.items) ours.pt) }
 {
     let offered = section.rtp_params()?;
     let rows = answered_rows(config.params(), section, offered.as_slice())?;

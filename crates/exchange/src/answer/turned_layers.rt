@@ -1,36 +1,36 @@
 //! Layers of an answer beside those of its offer.
-ghost use Rattle.exchange.specs.answer.Layers.{is_named};
-ghost use Rattle.exchange.specs.answer.TurnedLayers.{AreAmong, TurnsLayers, are_opposite, is_opposite, is_turned, layers_received};
+ghost use Rattle.exchange.specs.answer.Layers.{is_layer_named};
+ghost use Rattle.exchange.specs.answer.TurnedLayers.{AreLayersAmong, TurnsLayers, are_rids_opposite, is_rid_opposite, is_turned, layers_received};
 ghost use Rattle.std.specs.List.{list_any};
 ghost use Rattle.std.specs.Prelude.{◌≡◌, ◌↔◌, IfOk, IsTrue, All, true};
 
-use crate::answer::layers::{is_sent, sent_layers};
+use crate::answer::layers::{is_layer_sent, sent_layers};
 use std::alloc::{AllocError, Global};
 use str0m_signal::{Items, MediaAttribute, MediaLine, Simulcast, SimulcastLayer};
 
 /// Whether the word of one rid line says that it sends what the other receives.
-fn are_opposite(way: &str, other: &str) -> bool
-    ensures { result ≡ are_opposite way.now other.now }
+fn are_rids_opposite(way: &str, other: &str) -> bool
+    ensures { result ≡ are_rids_opposite way.now other.now }
 {
     (way == "send" && other == "recv") || (way == "recv" && other == "send")
 }
 
-fn is_opposite(name: &str, way: &str, line: &MediaAttribute) -> bool
-    ensures { result ≡ is_opposite name.now way.now line.now }
+fn is_rid_opposite(name: &str, way: &str, line: &MediaAttribute) -> bool
+    ensures { result ≡ is_rid_opposite name.now way.now line.now }
 {
     match line {
         MediaAttribute::Rid { id, direction, .. } => {
-            id.0.as_str() == name && are_opposite(way, direction.as_str())
+            id.0.as_str() == name && are_rids_opposite(way, direction.as_str())
         }
         _ => false,
     }
 }
 
 /// Whether a rid line of this name goes the other way.
-fn has_opposite(lines: &[MediaAttribute], name: &str, way: &str) -> bool
-    ensures { result ≡ list_any (is_opposite name.now way.now) lines.now }
+fn has_opposite_rid(lines: &[MediaAttribute], name: &str, way: &str) -> bool
+    ensures { result ≡ list_any (is_rid_opposite name.now way.now) lines.now }
 {
-    lines.iter().any(|line| is_opposite(name, way, line))
+    lines.iter().any(|line| is_rid_opposite(name, way, line))
 }
 
 /// Whether a rid line turns one of the offer round; `true` of other lines.
@@ -39,7 +39,7 @@ fn is_turned(offered: &[MediaAttribute], line: &MediaAttribute) -> bool
 {
     match line {
         MediaAttribute::Rid { id, direction, .. } => {
-            has_opposite(offered, id.0.as_str(), direction.as_str())
+            has_opposite_rid(offered, id.0.as_str(), direction.as_str())
         }
         _ => true,
     }
@@ -64,17 +64,17 @@ fn layers_received(alloc: Global, section: &MediaLine) -> Result<Items<Simulcast
     }
 }
 
-fn is_among(others: &[SimulcastLayer], layer: &SimulcastLayer) -> bool
-    ensures { result ≡ list_any (is_named layer.now.restriction_id.0) others.now }
+fn is_layer_among(others: &[SimulcastLayer], layer: &SimulcastLayer) -> bool
+    ensures { result ≡ list_any (is_layer_named layer.now.restriction_id.0) others.now }
 {
-    is_sent(others, layer.restriction_id.0.as_str())
+    is_layer_sent(others, layer.restriction_id.0.as_str())
 }
 
 /// Whether each layer has the name of one of the others.
-fn are_among(others: &[SimulcastLayer], layers: &[SimulcastLayer]) -> bool
-    ensures { IsTrue result ↔ AreAmong others.now layers.now }
+fn are_layers_among(others: &[SimulcastLayer], layers: &[SimulcastLayer]) -> bool
+    ensures { IsTrue result ↔ AreLayersAmong others.now layers.now }
 {
-    layers.iter().all(|layer| is_among(others, layer))
+    layers.iter().all(|layer| is_layer_among(others, layer))
 }
 
 /// Whether the rids and the layers of an answer are those of the offer, received where they are sent there.
@@ -91,7 +91,7 @@ pub(crate) fn turns_layers(
     let may_receive = sent_layers(alloc, offered)?;
     Ok(
         are_turned(offered.attrs.as_slice(), answered.attrs.as_slice())
-            && are_among(may_send.as_slice(), sent.as_slice())
-            && are_among(may_receive.as_slice(), received.as_slice()),
+            && are_layers_among(may_send.as_slice(), sent.as_slice())
+            && are_layers_among(may_receive.as_slice(), received.as_slice()),
     )
 }

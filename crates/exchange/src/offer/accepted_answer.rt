@@ -1,19 +1,19 @@
 //! Answers to offers of this side.
-ghost use Rattle.exchange.specs.Prelude.{AllDistinct, IsPlain, LockedStay, types};
+ghost use Rattle.exchange.specs.Prelude.{AllTypesDistinct, IsPlain, LockedStay, types};
 ghost use Rattle.exchange.specs.answer.Offered.{NegotiatesOffer};
 ghost use Rattle.exchange.specs.declared.state.signaling_state.SignalingState.TheVariants.{HaveLocalOffer, Stable};
-ghost use Rattle.exchange.specs.offer.AcceptedAnswer.{IsAnswer, IsTakenWith, RefusesAnswer, RefusesFit, placed_of};
-ghost use Rattle.exchange.specs.offer.Added.{with_placed};
+ghost use Rattle.exchange.specs.offer.AcceptedAnswer.{IsAnswer, IsAnswerTakenWith, RefusesAnswer, RefusesOfferFit, offer_placed_of};
+ghost use Rattle.exchange.specs.offer.Added.{with_offer_placed};
 ghost use Rattle.exchange.specs.offer.Fits.{FitsOffer};
-ghost use Rattle.exchange.specs.offer.Names.{grown};
+ghost use Rattle.exchange.specs.offer.Names.{grown_names};
 ghost use Rattle.exchange.specs.state.ExchangeFollows.{Follows, IsSound};
 ghost use Rattle.exchange.specs.state.State.{pending_sdp, sections_of, state_of};
 ghost use Rattle.std.specs.Prelude.{All, ◌≡◌, IfErr, IfOk, IsSomeAnd, None, OnErr, OnOk, drop, length, option_map};
 
-use crate::answer::offered::whole_description;
-use crate::offer::added::{Added, with_placed};
-use crate::offer::fits::first_misfit;
-use crate::offer::names::grown;
+use crate::answer::offered::whole_offered_description;
+use crate::offer::added::{Added, with_offer_placed};
+use crate::offer::fits::first_offer_misfit;
+use crate::offer::names::grown_names;
 use crate::offer::pending::Pending;
 use crate::state::exchange::{Exchange, negotiated};
 use crate::state::exchange_error::ExchangeError;
@@ -23,16 +23,16 @@ use std::alloc::{AllocError, Global};
 use str0m_signal::{CodecConfig, Items, Mid, Sdp};
 
 /// An error where an answer doesn't fit an offer of this side, which has this configuration after the rounds of the answer.
-fn check_fit(
+fn check_offer_fit(
     alloc: Global,
     ours: &CodecConfig,
     offer: &Sdp,
     answer: &Sdp,
 ) -> Result<(), ExchangeError>
     ensures fits { OnOk result (FitsOffer ours.now.params.items offer.now answer.now) }
-    ensures refused { IfErr result (RefusesFit ours.now.params.items offer.now answer.now) }
+    ensures refused { IfErr result (RefusesOfferFit ours.now.params.items offer.now answer.now) }
 {
-    match first_misfit(alloc, ours, offer, answer)? {
+    match first_offer_misfit(alloc, ours, offer, answer)? {
         None => Ok(()),
         Some(misfit) => Err(ExchangeError::DoesNotFit {
             section: misfit.section,
@@ -42,7 +42,11 @@ fn check_fit(
 }
 
 /// What was added after the first so many.
-fn added_behind(alloc: Global, added: &[Added], placed: usize) -> Result<Items<Added>, AllocError>
+fn added_sections_behind(
+    alloc: Global,
+    added: &[Added],
+    placed: usize,
+) -> Result<Items<Added>, AllocError>
     ensures { IfOk result (λ left. left ≡ drop placed added.now) }
 {
     if added.len() <= placed {
@@ -53,7 +57,7 @@ fn added_behind(alloc: Global, added: &[Added], placed: usize) -> Result<Items<A
 }
 
 /// The offer that waits for its answer, which waits no longer.
-fn taken(pending: &mut Option<Pending>) -> Option<Sdp>
+fn taken_offer(pending: &mut Option<Pending>) -> Option<Sdp>
     ensures was { result ≡ option_map (λ offer. offer.sdp) pending.old }
     ensures none { pending.new ≡ None }
 {
@@ -65,7 +69,7 @@ fn taken(pending: &mut Option<Pending>) -> Option<Sdp>
 
 /// An answer that fits the open offer, and what it leads to, of which nothing is in force yet.
 #[derive(Drop)]
-struct Fitting {
+struct OfferFitting {
     remote: Sdp,
     /// The rows after the rounds of the answer.
     config: CodecConfig,
@@ -78,25 +82,25 @@ struct Fitting {
 
 impl Exchange {
     /// The answer that a text is, where it fits the open offer.
-    fn fitting(&self, answer: &str) -> Result<Fitting, ExchangeError>
-        ensures taken { IfOk result (λ it. IsTakenWith self.now answer.now it.remote it.config) }
-        ensures names { IfOk result (λ it. it.names ≡ grown self.now.names (sections_of (pending_sdp self.now))) }
-        ensures directions { IfOk result (λ it. it.directions ≡ with_placed self.now.own.directions (placed_of self.now)) }
-        ensures added { IfOk result (λ it. it.added ≡ drop (length (placed_of self.now)) self.now.added) }
+    fn fitting(&self, answer: &str) -> Result<OfferFitting, ExchangeError>
+        ensures taken { IfOk result (λ it. IsAnswerTakenWith self.now answer.now it.remote it.config) }
+        ensures names { IfOk result (λ it. it.names ≡ grown_names self.now.names (sections_of (pending_sdp self.now))) }
+        ensures directions { IfOk result (λ it. it.directions ≡ with_offer_placed self.now.own.directions (offer_placed_of self.now)) }
+        ensures added { IfOk result (λ it. it.added ≡ drop (length (offer_placed_of self.now)) self.now.added) }
         ensures refused { IfErr result (RefusesAnswer self.now answer.now) }
     {
         let Some(pending) = &self.pending else {
             return Err(ExchangeError::WrongState(SignalingState::Stable));
         };
         let alloc = *self.config.allocator();
-        let remote = whole_description(alloc, answer)?;
+        let remote = whole_offered_description(alloc, answer)?;
         let config = negotiated(&self.config, &remote)?;
-        check_fit(alloc, &config, &pending.sdp, &remote)?;
-        let names = grown(alloc, &self.names, pending.sdp.media_lines.as_slice())?;
+        check_offer_fit(alloc, &config, &pending.sdp, &remote)?;
+        let names = grown_names(alloc, &self.names, pending.sdp.media_lines.as_slice())?;
         let placed = pending.placed.as_slice();
-        let directions = with_placed(alloc, self.own.directions.as_slice(), placed)?;
-        let added = added_behind(alloc, self.added.as_slice(), placed.len())?;
-        Ok(Fitting {
+        let directions = with_offer_placed(alloc, self.own.directions.as_slice(), placed)?;
+        let added = added_sections_behind(alloc, self.added.as_slice(), placed.len())?;
+        Ok(OfferFitting {
             remote,
             config,
             names,
@@ -127,14 +131,14 @@ impl Exchange {
         ensures negotiated { OnOk result (IsSomeAnd self.new.remote (λ remote.
             NegotiatesOffer remote self.old.config.params.items self.new.config.params.items)) }
         ensures stay { OnOk result (LockedStay self.old.config.params.items self.new.config.params.items) }
-        ensures distinct { AllDistinct (types self.old.config.params.items) → OnOk result (AllDistinct (types self.new.config.params.items)) }
+        ensures distinct { AllTypesDistinct (types self.old.config.params.items) → OnOk result (AllTypesDistinct (types self.new.config.params.items)) }
         ensures plain { All IsPlain self.old.config.params.items → OnOk result (All IsPlain self.new.config.params.items) }
         ensures distances { self.new.config.red_distances ≡ self.old.config.red_distances }
         ensures local { OnOk result (self.new.local ≡ pending_sdp self.old) }
         ensures stable { OnOk result (state_of self.new ≡ Stable) }
-        ensures names { OnOk result (self.new.names ≡ grown self.old.names (sections_of self.new.local)) }
-        ensures own { OnOk result (self.new.own ≡ record self.old.own { directions = with_placed self.old.own.directions (placed_of self.old) }) }
-        ensures added { OnOk result (self.new.added ≡ drop (length (placed_of self.old)) self.old.added) }
+        ensures names { OnOk result (self.new.names ≡ grown_names self.old.names (sections_of self.new.local)) }
+        ensures own { OnOk result (self.new.own ≡ record self.old.own { directions = with_offer_placed self.old.own.directions (offer_placed_of self.old) }) }
+        ensures added { OnOk result (self.new.added ≡ drop (length (offer_placed_of self.old)) self.old.added) }
         ensures version_same { self.new.version ≡ self.old.version }
         ensures sound { IsSound self.old → IsSound self.new }
         ensures follows { IsSound self.old → Follows self.old self.new }
@@ -142,7 +146,7 @@ impl Exchange {
         ensures unchanged { OnErr result (self.new ≡ self.old) }
     {
         let found = self.fitting(answer)?;
-        let local = taken(&mut self.pending);
+        let local = taken_offer(&mut self.pending);
         self.settle(local, found.remote, found.config, found.names);
         self.own.directions = found.directions;
         self.added = found.added;

@@ -1,5 +1,5 @@
 //! What is added to a session, and where an offer places it.
-ghost use Rattle.exchange.specs.offer.Added.{placed_direction, placed_under, with_placed};
+ghost use Rattle.exchange.specs.offer.Added.{placed_direction, offer_placed_under, with_offer_placed};
 ghost use Rattle.std.specs.Prelude.{◌≡◌, IfOk};
 
 use crate::state::own_side::SectionDirection;
@@ -23,12 +23,12 @@ pub(crate) struct Placed {
 }
 
 /// What was added, each under its name.
-pub(crate) fn placed_under(
+pub(crate) fn offer_placed_under(
     alloc: Global,
     names: &[Mid],
     added: &[Added],
 ) -> Result<Vec<Placed>, AllocError>
-    ensures { IfOk result (λ placed. placed.items ≡ placed_under names.now added.now) }
+    ensures { IfOk result (λ placed. placed.items ≡ offer_placed_under names.now added.now) }
 {
     let mut placed = Vec::new(alloc);
     let (mut left, mut more) = (names, added);
@@ -59,12 +59,12 @@ fn placed_direction(placed: &Placed) -> Option<SectionDirection>
 }
 
 /// What this side is ready for, with that of what is placed after it.
-pub(crate) fn with_placed(
+pub(crate) fn with_offer_placed(
     alloc: Global,
     entries: &[SectionDirection],
     placed: &[Placed],
 ) -> Result<Items<SectionDirection>, AllocError>
-    ensures { IfOk result (λ after. after ≡ with_placed entries.now placed.now) }
+    ensures { IfOk result (λ after. after ≡ with_offer_placed entries.now placed.now) }
 {
     let mut after = Vec::from_slice(alloc, entries)?;
     for it in placed {

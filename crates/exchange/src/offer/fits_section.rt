@@ -2,10 +2,10 @@
 ghost use Rattle.exchange.specs.Prelude.{is_media, section_direction};
 ghost use Rattle.exchange.specs.answer.Accepted.{setup_in_force};
 ghost use Rattle.exchange.specs.answer.Bundled.{IsBundledBy};
-ghost use Rattle.exchange.specs.answer.InBundle.{is_so_for};
+ghost use Rattle.exchange.specs.answer.InBundle.{is_so_in_bundle};
 ghost use Rattle.exchange.specs.answer.Rows.{answered_rows};
 ghost use Rattle.exchange.specs.answer.TurnedLayers.{TurnsLayers};
-ghost use Rattle.exchange.specs.offer.Fits.{BreaksFirst, KeepsEveryRule, FlowsWithin, IfAccepted, Keeps, rules_asked};
+ghost use Rattle.exchange.specs.offer.Fits.{BreaksRuleFirst, KeepsEveryRule, FlowsWithinOffer, FitsIfAccepted, KeepsRule, rules_asked};
 ghost use Rattle.exchange.specs.offer.Rules.{SaysOnlyOffered};
 ghost use Rattle.exchange.specs.section.Reached.{has_creds, has_fingerprint};
 ghost use Rattle.std.specs.Prelude.{◌≡◌, ◌≢◌, ◌↔◌, [], IfOk, IsTrue, MatchOption, Some, true};
@@ -17,7 +17,7 @@ use crate::answer::offered_lines::says_only_offered;
 use crate::answer::rows::rows_for;
 use crate::answer::turned_layers::turns_layers;
 use crate::offer::rule::Rule;
-use crate::section::places::are_same_names;
+use crate::section::places::are_same_section_names;
 use crate::section::stopped::name_of;
 use crate::state::read_back::{is_same_proto, is_same_type};
 use std::alloc::AllocError;
@@ -45,31 +45,31 @@ fn rules() -> &'static [Rule]
 }
 
 /// Whether media flows only in ways that the offer leaves open.
-fn flows_within(offered: Direction, answered: Direction) -> bool
-    ensures { IsTrue result ↔ FlowsWithin offered answered }
+fn flows_within_offer(offered: Direction, answered: Direction) -> bool
+    ensures { IsTrue result ↔ FlowsWithinOffer offered answered }
 {
     (!answered.sends() || offered.receives()) && (!answered.receives() || offered.sends())
 }
 
 /// Whether an accepted section of media flows so.
 fn keeps_direction(offered: &MediaLine, answered: &MediaLine) -> bool
-    ensures { IsTrue result ↔ IfAccepted answered.now (is_media answered.now.typ ≡ true → FlowsWithin (section_direction offered.now.attrs) (section_direction answered.now.attrs)) }
+    ensures { IsTrue result ↔ FitsIfAccepted answered.now (is_media answered.now.typ ≡ true → FlowsWithinOffer (section_direction offered.now.attrs) (section_direction answered.now.attrs)) }
 {
     answered.disabled
         || !answered.typ.is_media()
-        || flows_within(offered.direction(), answered.direction())
+        || flows_within_offer(offered.direction(), answered.direction())
 }
 
 /// Whether one of the two roles is said for an accepted section, or none.
 fn keeps_role(answer: &Sdp, answered: &MediaLine) -> bool
-    ensures { IsTrue result ↔ IfAccepted answered.now (setup_in_force answer.now answered.now ≢ Some ActPass) }
+    ensures { IsTrue result ↔ FitsIfAccepted answered.now (setup_in_force answer.now answered.now ≢ Some ActPass) }
 {
     answered.disabled || !matches!(setup_in_force(answer, answered), Some(Setup::ActPass))
 }
 
 /// Whether an accepted section of media has rows that both sides have.
-fn keeps_formats(ours: &CodecConfig, answered: &MediaLine) -> Result<bool, AllocError>
-    ensures { IfOk result (λ keeps. IsTrue keeps ↔ IfAccepted answered.now (is_media answered.now.typ ≡ true → answered_rows ours.now.params.items answered.now ≢ [])) }
+fn fit_keeps_formats(ours: &CodecConfig, answered: &MediaLine) -> Result<bool, AllocError>
+    ensures { IfOk result (λ keeps. IsTrue keeps ↔ FitsIfAccepted answered.now (is_media answered.now.typ ≡ true → answered_rows ours.now.params.items answered.now ≢ [])) }
 {
     if answered.disabled || !answered.typ.is_media() {
         return Ok(true);
@@ -78,14 +78,14 @@ fn keeps_formats(ours: &CodecConfig, answered: &MediaLine) -> Result<bool, Alloc
     Ok(!rows.is_empty())
 }
 
-fn keeps_lines(offered: &MediaLine, answered: &MediaLine) -> bool
-    ensures { IsTrue result ↔ IfAccepted answered.now (SaysOnlyOffered offered.now answered.now) }
+fn fit_keeps_lines(offered: &MediaLine, answered: &MediaLine) -> bool
+    ensures { IsTrue result ↔ FitsIfAccepted answered.now (SaysOnlyOffered offered.now answered.now) }
 {
     answered.disabled || says_only_offered(offered, answered)
 }
 
 fn keeps_layers(offered: &MediaLine, answered: &MediaLine) -> Result<bool, AllocError>
-    ensures { IfOk result (λ keeps. IsTrue keeps ↔ IfAccepted answered.now (TurnsLayers offered.now answered.now)) }
+    ensures { IfOk result (λ keeps. IsTrue keeps ↔ FitsIfAccepted answered.now (TurnsLayers offered.now answered.now)) }
 {
     if answered.disabled {
         return Ok(true);
@@ -93,21 +93,21 @@ fn keeps_layers(offered: &MediaLine, answered: &MediaLine) -> Result<bool, Alloc
     turns_layers(*answered.attrs.allocator(), offered, answered)
 }
 
-fn keeps_creds(answer: &Sdp, bundled: &Bundled<'_>, answered: &MediaLine) -> bool
+fn fit_keeps_creds(answer: &Sdp, bundled: &Bundled<'_>, answered: &MediaLine) -> bool
     requires { IsBundledBy answer.now bundled.now }
-    ensures { IsTrue result ↔ IfAccepted answered.now (is_so_for (has_creds answer.now.session) answer.now answered.now ≡ true) }
+    ensures { IsTrue result ↔ FitsIfAccepted answered.now (is_so_in_bundle (has_creds answer.now.session) answer.now answered.now ≡ true) }
 {
     answered.disabled || bundled.have_creds(answer, answered)
 }
 
 fn keeps_fingerprint(answer: &Sdp, bundled: &Bundled<'_>, answered: &MediaLine) -> bool
     requires { IsBundledBy answer.now bundled.now }
-    ensures { IsTrue result ↔ IfAccepted answered.now (is_so_for (has_fingerprint answer.now.session) answer.now answered.now ≡ true) }
+    ensures { IsTrue result ↔ FitsIfAccepted answered.now (is_so_in_bundle (has_fingerprint answer.now.session) answer.now answered.now ≡ true) }
 {
     answered.disabled || bundled.have_fingerprint(answer, answered)
 }
 
-fn keeps_stopped(offered: &MediaLine, answered: &MediaLine) -> bool
+fn fit_keeps_stopped(offered: &MediaLine, answered: &MediaLine) -> bool
     ensures { IsTrue result ↔ (offered.now.disabled ≡ true → answered.now.disabled ≡ true) }
 {
     !offered.disabled || answered.disabled
@@ -123,19 +123,19 @@ fn keeps(
     answered: &MediaLine,
 ) -> Result<bool, AllocError>
     requires { IsBundledBy answer.now bundled.now }
-    ensures { IfOk result (λ keeps. IsTrue keeps ↔ Keeps ours.now.params.items answer.now offered.now answered.now rule) }
+    ensures { IfOk result (λ keeps. IsTrue keeps ↔ KeepsRule ours.now.params.items answer.now offered.now answered.now rule) }
 {
     match rule {
         Rule::MediaType => Ok(is_same_type(&answered.typ, &offered.typ)),
         Rule::Protocol => Ok(is_same_proto(answered.proto, offered.proto)),
-        Rule::Name => Ok(are_same_names(name_of(answered), name_of(offered))),
-        Rule::Stopped => Ok(keeps_stopped(offered, answered)),
+        Rule::Name => Ok(are_same_section_names(name_of(answered), name_of(offered))),
+        Rule::Stopped => Ok(fit_keeps_stopped(offered, answered)),
         Rule::Direction => Ok(keeps_direction(offered, answered)),
         Rule::Role => Ok(keeps_role(answer, answered)),
-        Rule::Formats => Ok(keeps_formats(ours, answered)?),
-        Rule::Lines => Ok(keeps_lines(offered, answered)),
+        Rule::Formats => Ok(fit_keeps_formats(ours, answered)?),
+        Rule::Lines => Ok(fit_keeps_lines(offered, answered)),
         Rule::Layers => Ok(keeps_layers(offered, answered)?),
-        Rule::Credentials => Ok(keeps_creds(answer, bundled, answered)),
+        Rule::Credentials => Ok(fit_keeps_creds(answer, bundled, answered)),
         Rule::Fingerprint => Ok(keeps_fingerprint(answer, bundled, answered)),
         Rule::Sections | Rule::Bundle | Rule::OwnName | Rule::Place => Ok(true),
     }
@@ -151,7 +151,7 @@ pub(crate) fn broken_rule(
 ) -> Result<Option<Rule>, AllocError>
     requires { IsBundledBy answer.now bundled.now }
     ensures { IfOk result (λ found. MatchOption found (KeepsEveryRule ours.now.params.items answer.now offered.now answered.now)
-        (BreaksFirst ours.now.params.items answer.now offered.now answered.now)) }
+        (BreaksRuleFirst ours.now.params.items answer.now offered.now answered.now)) }
 {
     for rule in rules() {
         if !keeps(*rule, ours, answer, bundled, offered, answered)? {

@@ -1,37 +1,41 @@
 //! The names of what is added to a session.
-ghost use Rattle.exchange.specs.Prelude.{AreDistinct, Holds, is_held, is_listed};
+ghost use Rattle.exchange.specs.Prelude.{AreMidsDistinct, HoldsMids, is_mid_held, is_group_listed};
 ghost use Rattle.exchange.specs.declared.state.exchange_error.ExchangeError.TheVariants.{Memory, NoName};
-ghost use Rattle.exchange.specs.offer.FreshNames.{AreAllTaken, AreFresh, AreTooFew, IsNextFree};
+ghost use Rattle.exchange.specs.offer.FreshNames.{AreAllNameNumbersTaken, AreFresh, AreFreshNamesTooFew, IsNextFreshNumber};
 ghost use Rattle.std.specs.Prelude.{◌≡◌, ◌<◌, ◌⊎◌, ◌^◌, false, All, IfErr, IfOk, MatchOption, ℕ, Some, decimal, length};
 
-use crate::offer::names::ordered;
+use crate::offer::names::ordered_names;
 use crate::state::exchange_error::ExchangeError;
 use std::alloc::{AllocError, Global};
 use std::collections::BTreeSet;
 use str0m_signal::{Items, Mid};
 
 /// Sections are named by numbers below this one.
-const NUMBERS: u64 = 0x1_0000_0000;
+const NAME_NUMBERS: u64 = 0x1_0000_0000;
 
-fn is_taken(alloc: Global, held: &BTreeSet<&str>, number: u64) -> Result<bool, AllocError>
-    ensures { IfOk result (λ answer. answer ≡ is_held held.now (Some (decimal number))) }
+fn is_name_number_taken(
+    alloc: Global,
+    held: &BTreeSet<&str>,
+    number: u64,
+) -> Result<bool, AllocError>
+    ensures { IfOk result (λ answer. answer ≡ is_mid_held held.now (Some (decimal number))) }
 {
     let name = format!(in alloc; "{number}")?;
     Ok(held.contains(name.as_str()))
 }
 
 /// The least number from one on that names no section.
-fn next_free(
+fn next_fresh_number(
     alloc: Global,
     taken: &[Mid],
     held: &BTreeSet<&str>,
     from: u64,
 ) -> Result<Option<u64>, AllocError>
-    requires { Holds held.now taken.now }
-    ensures { IfOk result (λ found. MatchOption found (AreAllTaken taken.now from) (IsNextFree taken.now from)) }
+    requires { HoldsMids held.now taken.now }
+    ensures { IfOk result (λ found. MatchOption found (AreAllNameNumbersTaken taken.now from) (IsNextFreshNumber taken.now from)) }
 {
-    for number in from..NUMBERS {
-        if !is_taken(alloc, held, number)? {
+    for number in from..NAME_NUMBERS {
+        if !is_name_number_taken(alloc, held, number)? {
             return Ok(Some(number));
         }
     }
@@ -56,15 +60,15 @@ pub(crate) fn fresh_names(
 ) -> Result<Items<Mid>, ExchangeError>
     ensures fresh { IfOk result (λ names. (to : ℕ) × AreFresh taken.now 0 names to) }
     ensures as_many { IfOk result (λ names. length names ≡ count) }
-    ensures new { IfOk result (All (λ name. is_listed taken.now (Some name) ≡ false)) }
-    ensures different { IfOk result AreDistinct }
-    ensures refused { IfErr result (λ error. (error ≡ Memory) ⊎ ((error ≡ NoName) × AreTooFew taken.now count)) }
+    ensures new { IfOk result (All (λ name. is_group_listed taken.now (Some name) ≡ false)) }
+    ensures different { IfOk result AreMidsDistinct }
+    ensures refused { IfErr result (λ error. (error ≡ Memory) ⊎ ((error ≡ NoName) × AreFreshNamesTooFew taken.now count)) }
 {
-    let held = ordered(alloc, taken)?;
+    let held = ordered_names(alloc, taken)?;
     let mut names = Items::empty(alloc);
     let mut from = 0;
     while names.len() < count {
-        let Some(number) = next_free(alloc, taken, &held, from)? else {
+        let Some(number) = next_fresh_number(alloc, taken, &held, from)? else {
             return Err(ExchangeError::NoName);
         };
         names.push(number_name(alloc, number)?)?;

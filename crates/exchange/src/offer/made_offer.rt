@@ -1,16 +1,16 @@
 //! The offer that this side makes.
-ghost use Rattle.exchange.specs.Prelude.{AreDistinct, section_mids};
-ghost use Rattle.exchange.specs.offer.MadeOffer.{MakesOffer, bundled_names, offer_session, placed_as, ready_with};
+ghost use Rattle.exchange.specs.Prelude.{AreMidsDistinct, section_mids};
+ghost use Rattle.exchange.specs.offer.MadeOffer.{MakesOffer, bundled_names, offer_session, offer_placed_as, offer_ready_with};
 ghost use Rattle.exchange.specs.offer.OfferExtensions.{extension_lines};
-ghost use Rattle.exchange.specs.offer.OfferRules.{IsNewName, IsOffered, KeepsPlaces};
+ghost use Rattle.exchange.specs.offer.OfferRules.{IsNewOfferName, IsOffered, KeepsOfferPlaces};
 ghost use Rattle.exchange.specs.offer.OfferSection.{new_section};
 ghost use Rattle.exchange.specs.section.Places.{FollowsPlaces};
 ghost use Rattle.exchange.specs.state.State.{sections_of, session_of, taken_names};
 ghost use Rattle.std.specs.Prelude.{◌≡◌, All, IfOk, map};
 
-use crate::answer::answered_session::{are_accepted, group_lines, mixed_lines};
-use crate::answer::bundle::accepted_names;
-use crate::offer::added::{Placed, placed_under, with_placed};
+use crate::answer::answered_session::{group_lines, mixed_lines, session_sections_accepted};
+use crate::answer::bundle::answered_bundle_names;
+use crate::offer::added::{Placed, offer_placed_under, with_offer_placed};
 use crate::offer::offer_extensions::extension_lines;
 use crate::offer::offer_places::{filled_places, new_sections};
 use crate::section::places::sections_of;
@@ -57,8 +57,8 @@ pub(crate) fn taken_names(exchange: &Exchange) -> Result<Vec<Mid>, AllocError>
 fn bundled_names(alloc: Global, sections: &[MediaLine]) -> Result<Items<Mid>, AllocError>
     ensures { IfOk result (λ names. names ≡ bundled_names sections.now) }
 {
-    let accepted = are_accepted(alloc, sections)?;
-    let names = accepted_names(alloc, sections, accepted.as_slice())?;
+    let accepted = session_sections_accepted(alloc, sections)?;
+    let names = answered_bundle_names(alloc, sections, accepted.as_slice())?;
     Ok(Items::from(names))
 }
 
@@ -78,11 +78,14 @@ fn offer_session(exchange: &Exchange, sections: &[MediaLine]) -> Result<Session,
 }
 
 /// What was added, under these names.
-pub(crate) fn placed_as(exchange: &Exchange, names: &[Mid]) -> Result<Items<Placed>, AllocError>
-    ensures { IfOk result (λ placed. placed ≡ placed_as exchange.now names.now) }
+pub(crate) fn offer_placed_as(
+    exchange: &Exchange,
+    names: &[Mid],
+) -> Result<Items<Placed>, AllocError>
+    ensures { IfOk result (λ placed. placed ≡ offer_placed_as exchange.now names.now) }
 {
     let alloc = *exchange.config.allocator();
-    let placed = placed_under(alloc, names, exchange.added.as_slice())?;
+    let placed = offer_placed_under(alloc, names, exchange.added.as_slice())?;
     Ok(Items::from(placed))
 }
 
@@ -106,8 +109,8 @@ fn offer_under(exchange: &Exchange, names: &[Mid]) -> Result<Sdp, AllocError>
     ensures { IfOk result (MakesOffer exchange.now names.now) }
 {
     let alloc = *exchange.config.allocator();
-    let placed = placed_as(exchange, names)?;
-    let ready = with_placed(alloc, exchange.own.directions.as_slice(), placed.as_slice())?;
+    let placed = offer_placed_as(exchange, names)?;
+    let ready = with_offer_placed(alloc, exchange.own.directions.as_slice(), placed.as_slice())?;
     let added = sections_added(exchange, ready.as_slice(), placed.as_slice())?;
     let places = sections_of(&exchange.local);
     let sections = filled_places(exchange, ready.as_slice(), places, added.as_slice())?;
@@ -121,13 +124,13 @@ fn offer_under(exchange: &Exchange, names: &[Mid]) -> Result<Sdp, AllocError>
 /// The offer in which what was added has these names, which are new and different: it keeps the rules.
 #[tactic(auto, using(crate::proofs::offer::OfferRuleLaws::offer_places, crate::proofs::offer::OfferNameLaws::offer_names, crate::proofs::offer::OfferFollows::offer_follows))]
 pub(crate) fn made_offer(exchange: &Exchange, names: &[Mid]) -> Result<Sdp, AllocError>
-    requires new { All (IsNewName exchange.now) names.now }
-    requires different { AreDistinct names.now }
+    requires new { All (IsNewOfferName exchange.now) names.now }
+    requires different { AreMidsDistinct names.now }
     ensures makes { IfOk result (MakesOffer exchange.now names.now) }
-    ensures places { IfOk result (λ offer. KeepsPlaces exchange.now 0 (sections_of exchange.now.local) offer.media_lines) }
+    ensures places { IfOk result (λ offer. KeepsOfferPlaces exchange.now 0 (sections_of exchange.now.local) offer.media_lines) }
     ensures follows { IfOk result (λ offer. FollowsPlaces exchange.now.names (sections_of exchange.now.local) offer.media_lines) }
-    ensures rules { IfOk result (λ offer. All (IsOffered exchange.now (ready_with exchange.now names.now)) offer.media_lines) }
-    ensures different { AreDistinct (section_mids (sections_of exchange.now.local)) → IfOk result (λ offer. AreDistinct (section_mids offer.media_lines)) }
+    ensures rules { IfOk result (λ offer. All (IsOffered exchange.now (offer_ready_with exchange.now names.now)) offer.media_lines) }
+    ensures different { AreMidsDistinct (section_mids (sections_of exchange.now.local)) → IfOk result (λ offer. AreMidsDistinct (section_mids offer.media_lines)) }
 {
     let offer = offer_under(exchange, names)?;
     Ok(offer)

@@ -1,5 +1,5 @@
 //! The places of an offer.
-ghost use Rattle.exchange.specs.offer.OfferPlaces.{FillsAll, but_first, over_section, theirs_at};
+ghost use Rattle.exchange.specs.offer.OfferPlaces.{FillsAllPlaces, offer_added_tail, over_section, their_section_at};
 ghost use Rattle.exchange.specs.offer.OfferSection.{new_section, next_section};
 ghost use Rattle.std.specs.Prelude.{◌≡◌, ◌++◌, IfOk, if◌then◌else◌, map, option_copied};
 
@@ -12,8 +12,8 @@ use crate::state::own_side::SectionDirection;
 use std::alloc::{AllocError, Global};
 use str0m_signal::{MediaAttribute, MediaLine, Sdp};
 
-fn theirs_at(remote: &Option<Sdp>, at: usize) -> Option<&MediaLine>
-    ensures { option_copied result ≡ theirs_at remote.now at }
+fn their_section_at(remote: &Option<Sdp>, at: usize) -> Option<&MediaLine>
+    ensures { option_copied result ≡ their_section_at remote.now at }
 {
     match remote {
         Some(remote) => remote.media_lines.get(at),
@@ -35,8 +35,8 @@ fn over_section(
     }
 }
 
-fn but_first(added: &[MediaLine]) -> &[MediaLine]
-    ensures { result.now ≡ but_first added.now }
+fn offer_added_tail(added: &[MediaLine]) -> &[MediaLine]
+    ensures { result.now ≡ offer_added_tail added.now }
 {
     match added.split_first() {
         Some((_, more)) => more,
@@ -54,22 +54,31 @@ fn place_section(
     added: &[MediaLine],
 ) -> Result<MediaLine, AllocError>
     ensures { IfOk result (λ section. section ≡ (if is_over then over_section added.now mine.now
-        else next_section exchange.now ready.now (theirs_at exchange.now.remote at) mine.now)) }
+        else next_section exchange.now ready.now (their_section_at exchange.now.remote at) mine.now)) }
 {
     if is_over {
         return over_section(*exchange.config.allocator(), added, mine);
     }
-    next_section(exchange, ready, theirs_at(&exchange.remote, at), mine)
+    next_section(
+        exchange,
+        ready,
+        their_section_at(&exchange.remote, at),
+        mine,
+    )
 }
 
-fn left_of(is_over: bool, added: &[MediaLine]) -> &[MediaLine]
-    ensures { result.now ≡ (if is_over then but_first added.now else added.now) }
+fn offer_added_left(is_over: bool, added: &[MediaLine]) -> &[MediaLine]
+    ensures { result.now ≡ (if is_over then offer_added_tail added.now else added.now) }
 {
-    if is_over { but_first(added) } else { added }
+    if is_over {
+        offer_added_tail(added)
+    } else {
+        added
+    }
 }
 
 /// Copies of sections after others.
-fn with_copies(
+fn with_section_copies(
     mut sections: Vec<MediaLine>,
     behind: &[MediaLine],
 ) -> Result<Vec<MediaLine>, AllocError>
@@ -82,14 +91,14 @@ fn with_copies(
 }
 
 /// The sections of an offer: at each place of the last exchange, and after them what is left of what is added.
-#[tactic(auto, using(crate::proofs::section::PlaceLaws::fills_more))]
+#[tactic(auto, using(crate::proofs::section::PlaceLaws::place_fills_more))]
 pub(crate) fn filled_places(
     exchange: &Exchange,
     ready: &[SectionDirection],
     places: &[MediaLine],
     added: &[MediaLine],
 ) -> Result<Vec<MediaLine>, AllocError>
-    ensures { IfOk result (λ sections. FillsAll exchange.now ready.now places.now added.now sections.items) }
+    ensures { IfOk result (λ sections. FillsAllPlaces exchange.now ready.now places.now added.now sections.items) }
 {
     let alloc = *exchange.config.allocator();
     let group = remote_bundle(alloc, &exchange.remote)?;
@@ -98,9 +107,9 @@ pub(crate) fn filled_places(
     for (at, mine) in places.iter().enumerate() {
         let is_over = is_over(&exchange.remote, &group, at, mine);
         sections.push(place_section(exchange, ready, at, mine, is_over, left)?)?;
-        left = left_of(is_over, left);
+        left = offer_added_left(is_over, left);
     }
-    with_copies(sections, left)
+    with_section_copies(sections, left)
 }
 
 /// The sections of what is added.

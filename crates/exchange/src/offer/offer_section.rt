@@ -1,10 +1,10 @@
 //! The sections of an offer.
 ghost use Rattle.exchange.specs.Prelude.{kind_rows};
-ghost use Rattle.exchange.specs.offer.OfferSection.{asked_lines, flow_lines, is_extension, is_mux, is_own, is_rsize, is_said, is_same, kept_lines, new_section, next_section, offered_channels, offered_media, section_with, type_of};
+ghost use Rattle.exchange.specs.offer.OfferSection.{asked_section_lines, flow_lines, is_extension, is_offer_mux_line, is_own, is_offer_rsize_line, is_offer_line_said_by_theirs, is_same_shared_offer_line, kept_section_lines, new_section, next_section, offered_channels, offered_media, section_with, offer_type_of_kind};
 ghost use Rattle.std.specs.List.{list_any};
 ghost use Rattle.std.specs.Prelude.{◌≡◌, ◌≢◌, [], IfOk, false, true, option_copied};
 
-use crate::answer::accepted::{candidate_lines, channel_lines, first_lines, push_msid};
+use crate::answer::accepted::{channel_lines, first_lines, push_candidates, push_msid};
 use crate::answer::rejected_section::rejected;
 use crate::offer::added::{Added, Placed};
 use crate::section::stopped::name_of;
@@ -32,8 +32,8 @@ fn section_with(
     section
 }
 
-fn type_of(kind: MediaKind) -> MediaType
-    ensures { result ≡ type_of kind }
+fn offer_type_of_kind(kind: MediaKind) -> MediaType
+    ensures { result ≡ offer_type_of_kind kind }
 {
     match kind {
         MediaKind::Audio => MediaType::Audio,
@@ -72,7 +72,7 @@ fn flow_lines(
     ensures { IfOk result (λ lines. lines.items ≡ flow_lines own.now mid direction asked.items) }
 {
     let mut lines = vec![in alloc; MediaAttribute::from(direction)]?;
-    lines.append(&mut candidate_lines(alloc, own)?)?;
+    push_candidates(&mut lines, own)?;
     lines.append(&mut asked)?;
     push_msid(&mut lines, own, direction, mid)?;
     Ok(lines)
@@ -90,7 +90,7 @@ fn offered_media(
 {
     let (own, config) = (&exchange.own, &exchange.config);
     let alloc = *config.allocator();
-    let typ = type_of(kind);
+    let typ = offer_type_of_kind(kind);
     let direction = own.direction_among(ready, Some(mid), &typ);
     let mut lines = first_lines(alloc, own, mid, Setup::ActPass)?;
     lines.append(&mut flow_lines(alloc, own, mid, direction, asked)?)?;
@@ -113,16 +113,16 @@ fn offered_channels(
     };
     let mut lines = first_lines(alloc, own, mid, Setup::ActPass)?;
     lines.append(&mut channel_lines(alloc, channels)?)?;
-    lines.append(&mut candidate_lines(alloc, own)?)?;
+    push_candidates(&mut lines, own)?;
     Ok(section_with(alloc, MediaType::Application, Proto::Sctp, lines))
 }
 
 /// The lines that a new section of media asks for.
-fn asked_lines(
+fn asked_section_lines(
     alloc: Global,
     extensions: &[MediaAttribute],
 ) -> Result<Vec<MediaAttribute>, AllocError>
-    ensures { IfOk result (λ lines. lines.items ≡ asked_lines extensions.now) }
+    ensures { IfOk result (λ lines. lines.items ≡ asked_section_lines extensions.now) }
 {
     let mut lines = vec![in alloc; MediaAttribute::RtcpMux, MediaAttribute::RtcpRsize]?;
     for line in extensions {
@@ -144,7 +144,7 @@ pub(crate) fn new_section(
     let mid = placed.mid;
     match placed.added {
         Added::Media(kind, _) => {
-            let asked = asked_lines(alloc, extensions)?;
+            let asked = asked_section_lines(alloc, extensions)?;
             offered_media(exchange, ready, kind, mid, asked)
         }
         Added::Channels => {
@@ -155,14 +155,14 @@ pub(crate) fn new_section(
     }
 }
 
-fn is_mux(line: &MediaAttribute) -> bool
-    ensures { result ≡ is_mux line.now }
+fn is_offer_mux_line(line: &MediaAttribute) -> bool
+    ensures { result ≡ is_offer_mux_line line.now }
 {
     matches!(line, MediaAttribute::RtcpMux)
 }
 
-fn is_rsize(line: &MediaAttribute) -> bool
-    ensures { result ≡ is_rsize line.now }
+fn is_offer_rsize_line(line: &MediaAttribute) -> bool
+    ensures { result ≡ is_offer_rsize_line line.now }
 {
     matches!(line, MediaAttribute::RtcpRsize)
 }
@@ -179,29 +179,31 @@ fn is_extension(number: u8, ext: &Extension, line: &MediaAttribute) -> bool
 }
 
 /// Whether both are one line of those that both sides have to say.
-fn is_same(line: &MediaAttribute, other: &MediaAttribute) -> bool
-    ensures { result ≡ is_same line.now other.now }
+fn is_same_shared_offer_line(line: &MediaAttribute, other: &MediaAttribute) -> bool
+    ensures { result ≡ is_same_shared_offer_line line.now other.now }
 {
     match line {
-        MediaAttribute::RtcpMux => is_mux(other),
-        MediaAttribute::RtcpRsize => is_rsize(other),
+        MediaAttribute::RtcpMux => is_offer_mux_line(other),
+        MediaAttribute::RtcpRsize => is_offer_rsize_line(other),
         MediaAttribute::ExtMap { id, ext } => is_extension(*id, ext, other),
         _ => false,
     }
 }
 
-fn says(section: &MediaLine, line: &MediaAttribute) -> bool
-    ensures { result ≡ list_any (is_same line.now) section.now.attrs }
+fn offer_says_line(section: &MediaLine, line: &MediaAttribute) -> bool
+    ensures { result ≡ list_any (is_same_shared_offer_line line.now) section.now.attrs }
 {
     let attrs = section.attrs.as_slice();
-    attrs.iter().any(|other| is_same(line, other))
+    attrs
+        .iter()
+        .any(|other| is_same_shared_offer_line(line, other))
 }
 
-fn is_said(theirs: Option<&MediaLine>, line: &MediaAttribute) -> bool
-    ensures { result ≡ is_said (option_copied theirs.entry) line.now }
+fn is_offer_line_said_by_theirs(theirs: Option<&MediaLine>, line: &MediaAttribute) -> bool
+    ensures { result ≡ is_offer_line_said_by_theirs (option_copied theirs.entry) line.now }
 {
     match theirs {
-        Some(theirs) => says(theirs, line),
+        Some(theirs) => offer_says_line(theirs, line),
         None => false,
     }
 }
@@ -218,16 +220,16 @@ fn is_own(line: &MediaAttribute) -> bool
 }
 
 /// The lines of this side's section that it goes on saying.
-fn kept_lines(
+fn kept_section_lines(
     alloc: Global,
     theirs: Option<&MediaLine>,
     mine: &MediaLine,
 ) -> Result<Vec<MediaAttribute>, AllocError>
-    ensures { IfOk result (λ lines. lines.items ≡ kept_lines (option_copied theirs.entry) mine.now) }
+    ensures { IfOk result (λ lines. lines.items ≡ kept_section_lines (option_copied theirs.entry) mine.now) }
 {
     let mut lines = Vec::new(alloc);
     for line in mine.attrs.as_slice() {
-        if is_said(theirs, line) || is_own(line) {
+        if is_offer_line_said_by_theirs(theirs, line) || is_own(line) {
             lines.push(line.clone()?)?;
         }
     }
@@ -255,6 +257,6 @@ pub(crate) fn next_section(
         }
         _ => return rejected(alloc, mine),
     };
-    let kept = kept_lines(alloc, theirs, mine)?;
+    let kept = kept_section_lines(alloc, theirs, mine)?;
     offered_media(exchange, ready, kind, mid, kept)
 }

@@ -1,5 +1,5 @@
 //! Whether each section of a description has a name of its own (RFC 5888, section 4).
-ghost use Rattle.exchange.specs.Prelude.{AreDistinct, section_mids};
+ghost use Rattle.exchange.specs.Prelude.{AreMidsDistinct, section_mids};
 ghost use Rattle.exchange.specs.offer.OwnNames.{IsNamedAgain};
 ghost use Rattle.exchange.specs.section.Stopped.{name_of};
 ghost use Rattle.std.specs.Prelude.{◌≡◌, IfOk, MatchOption, map};
@@ -10,7 +10,7 @@ use std::collections::BTreeSet;
 use str0m_signal::{MediaLine, Mid};
 
 /// The names of sections, in order; `None` where a section says none.
-fn names_of(alloc: Global, sections: &[MediaLine]) -> Result<Vec<Option<Mid>>, AllocError>
+fn added_names_of(alloc: Global, sections: &[MediaLine]) -> Result<Vec<Option<Mid>>, AllocError>
     ensures { IfOk result (λ names. names.items ≡ map name_of sections.now) }
 {
     let mut names = Vec::new(alloc);
@@ -25,9 +25,9 @@ pub(crate) fn first_named_again(
     alloc: Global,
     sections: &[MediaLine],
 ) -> Result<Option<usize>, AllocError>
-    ensures { IfOk result (λ found. MatchOption found (AreDistinct (section_mids sections.now)) (IsNamedAgain sections.now)) }
+    ensures { IfOk result (λ found. MatchOption found (AreMidsDistinct (section_mids sections.now)) (IsNamedAgain sections.now)) }
 {
-    let names = names_of(alloc, sections)?;
+    let names = added_names_of(alloc, sections)?;
     let mut before = BTreeSet::new(alloc);
     for (at, name) in names.iter().enumerate() {
         if let Some(name) = name {

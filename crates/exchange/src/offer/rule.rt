@@ -58,7 +58,7 @@ pub enum Rule {
 /// What doesn't fit: a rule, and the section that breaks it, counted from 0. The number of sections where a rule of the whole
 /// description is broken.
 #[derive(Clone, Copy, Debug, PartialEq, Eq)]
-pub(crate) struct Misfit {
+pub(crate) struct RuleMisfit {
     pub(crate) section: usize,
     pub(crate) rule: Rule,
 }

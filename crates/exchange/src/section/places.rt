@@ -1,12 +1,12 @@
 //! The places of sections over several exchanges.
-ghost use Rattle.exchange.specs.Prelude.{Holds};
-ghost use Rattle.exchange.specs.section.Places.{HasNameAt, HoldsGroup, IsFree, IsOver, StaysInPlace, StaysInPlaceAt, StaysInPlaces, MovesAt};
+ghost use Rattle.exchange.specs.Prelude.{HoldsMids};
+ghost use Rattle.exchange.specs.section.Places.{HasPlaceNameAt, HoldsGroup, IsPlaceFree, IsPlaceOver, StaysInPlace, StaysInPlaceAt, StaysInPlaces, MovesPlaceAt};
 ghost use Rattle.exchange.specs.section.Stopped.{IsStoppedAt};
 ghost use Rattle.exchange.specs.state.State.{sections_of};
 ghost use Rattle.std.specs.Prelude.{◌≡◌, ◌↔◌, IfOk, IsSomeAnd, IsTrue, MatchOption};
 
 use crate::answer::in_bundle::ordered_bundle;
-use crate::offer::names::{is_held, ordered};
+use crate::offer::names::{is_mid_held, ordered_names};
 use crate::section::stopped::{is_stopped_at, name_of};
 use std::alloc::{AllocError, Global};
 use std::collections::BTreeSet;
@@ -35,7 +35,7 @@ pub(crate) fn remote_bundle(
     }
 }
 
-fn is_stopped_by(remote: &Option<Sdp>, group: &BTreeSet<&str>, at: usize) -> bool
+fn is_place_stopped(remote: &Option<Sdp>, group: &BTreeSet<&str>, at: usize) -> bool
     requires { HoldsGroup remote.now group.now }
     ensures { IsTrue result ↔ IsSomeAnd remote.now (λ sdp. IsStoppedAt sdp at) }
 {
@@ -54,14 +54,19 @@ pub(crate) fn is_over(
     mine: &MediaLine,
 ) -> bool
     requires { HoldsGroup remote.now group.now }
-    ensures { IsTrue result ↔ IsOver remote.now at mine.now }
+    ensures { IsTrue result ↔ IsPlaceOver remote.now at mine.now }
 {
-    mine.disabled || is_stopped_by(remote, group, at)
+    mine.disabled || is_place_stopped(remote, group, at)
 }
 
-fn is_free(local: &[MediaLine], remote: &Option<Sdp>, group: &BTreeSet<&str>, at: usize) -> bool
+fn is_place_free(
+    local: &[MediaLine],
+    remote: &Option<Sdp>,
+    group: &BTreeSet<&str>,
+    at: usize,
+) -> bool
     requires { HoldsGroup remote.now group.now }
-    ensures { IsTrue result ↔ IsFree local.now remote.now at }
+    ensures { IsTrue result ↔ IsPlaceFree local.now remote.now at }
 {
     match local.get(at) {
         Some(mine) => is_over(remote, group, at, mine),
@@ -69,7 +74,7 @@ fn is_free(local: &[MediaLine], remote: &Option<Sdp>, group: &BTreeSet<&str>, at
     }
 }
 
-pub(crate) fn are_same_names(name: Option<Mid>, other: Option<Mid>) -> bool
+pub(crate) fn are_same_section_names(name: Option<Mid>, other: Option<Mid>) -> bool
     ensures { IsTrue result ↔ (name ≡ other) }
 {
     match (name, other) {
@@ -79,11 +84,11 @@ pub(crate) fn are_same_names(name: Option<Mid>, other: Option<Mid>) -> bool
     }
 }
 
-fn has_name_at(sections: &[MediaLine], at: usize, section: &MediaLine) -> bool
-    ensures { IsTrue result ↔ HasNameAt sections.now at section.now }
+fn has_place_name_at(sections: &[MediaLine], at: usize, section: &MediaLine) -> bool
+    ensures { IsTrue result ↔ HasPlaceNameAt sections.now at section.now }
 {
     match sections.get(at) {
-        Some(earlier) => are_same_names(name_of(section), name_of(earlier)),
+        Some(earlier) => are_same_section_names(name_of(section), name_of(earlier)),
         None => false,
     }
 }
@@ -98,12 +103,12 @@ fn keeps_place(
     at: usize,
     section: &MediaLine,
 ) -> bool
-    requires names { Holds names.now had.now }
+    requires names { HoldsMids names.now had.now }
     requires group { HoldsGroup remote.now group.now }
     ensures { IsTrue result ↔ StaysInPlace had.now local.now remote.now at section.now }
 {
-    has_name_at(local, at, section)
-        || (is_free(local, remote, group, at) && !is_held(names, name_of(section)))
+    has_place_name_at(local, at, section)
+        || (is_place_free(local, remote, group, at) && !is_mid_held(names, name_of(section)))
 }
 
 fn keeps_place_at(
@@ -115,7 +120,7 @@ fn keeps_place_at(
     offer: &Sdp,
     at: usize,
 ) -> bool
-    requires names { Holds names.now had.now }
+    requires names { HoldsMids names.now had.now }
     requires group { HoldsGroup remote.now group.now }
     ensures { IsTrue result ↔ StaysInPlaceAt had.now local.now remote.now offer.now at }
 {
@@ -127,16 +132,16 @@ fn keeps_place_at(
 
 /// The first section of an offer that isn't in its place after the last exchange, with these sections of this side
 /// and this description of the other, where sections have had these names; where it has too few sections, their number.
-pub(crate) fn first_moved(
+pub(crate) fn first_moved_place(
     alloc: Global,
     had: &[Mid],
     local: &[MediaLine],
     remote: &Option<Sdp>,
     offer: &Sdp,
 ) -> Result<Option<usize>, AllocError>
-    ensures { IfOk result (λ found. MatchOption found (StaysInPlaces had.now local.now remote.now offer.now) (MovesAt had.now local.now remote.now offer.now)) }
+    ensures { IfOk result (λ found. MatchOption found (StaysInPlaces had.now local.now remote.now offer.now) (MovesPlaceAt had.now local.now remote.now offer.now)) }
 {
-    let names = ordered(alloc, had)?;
+    let names = ordered_names(alloc, had)?;
     let group = remote_bundle(alloc, remote)?;
     let many = offer.media_lines.len();
     for at in 0..many {

@@ -1,18 +1,18 @@
 //! Sections that say how their transport is reached, or for which the session says so.
-ghost use Rattle.exchange.specs.section.Reached.{has_creds, has_fingerprint, has_pwd, has_ufrag, is_fingerprint, is_pwd, is_session_fingerprint, is_session_pwd, is_session_ufrag, is_ufrag};
+ghost use Rattle.exchange.specs.section.Reached.{has_creds, has_fingerprint, section_has_pwd, section_has_ufrag, is_fingerprint, is_section_pwd, is_session_fingerprint, is_session_pwd, is_session_ufrag, is_section_ufrag};
 ghost use Rattle.std.specs.List.{list_any};
 ghost use Rattle.std.specs.Prelude.{◌≡◌};
 
 use str0m_signal::{MediaAttribute, MediaLine, Session, SessionAttribute};
 
-fn is_ufrag(attr: &MediaAttribute) -> bool
-    ensures { result ≡ is_ufrag attr.now }
+fn is_section_ufrag(attr: &MediaAttribute) -> bool
+    ensures { result ≡ is_section_ufrag attr.now }
 {
     matches!(attr, MediaAttribute::IceUfrag(_))
 }
 
-fn is_pwd(attr: &MediaAttribute) -> bool
-    ensures { result ≡ is_pwd attr.now }
+fn is_section_pwd(attr: &MediaAttribute) -> bool
+    ensures { result ≡ is_section_pwd attr.now }
 {
     matches!(attr, MediaAttribute::IcePwd(_))
 }
@@ -41,16 +41,16 @@ fn is_session_fingerprint(attr: &SessionAttribute) -> bool
     matches!(attr, SessionAttribute::Fingerprint(_))
 }
 
-fn say_ufrag(attrs: &[MediaAttribute]) -> bool
-    ensures { result ≡ list_any is_ufrag attrs.now }
+fn section_says_ufrag(attrs: &[MediaAttribute]) -> bool
+    ensures { result ≡ list_any is_section_ufrag attrs.now }
 {
-    attrs.iter().any(|attr| is_ufrag(attr))
+    attrs.iter().any(|attr| is_section_ufrag(attr))
 }
 
-fn say_pwd(attrs: &[MediaAttribute]) -> bool
-    ensures { result ≡ list_any is_pwd attrs.now }
+fn section_says_pwd(attrs: &[MediaAttribute]) -> bool
+    ensures { result ≡ list_any is_section_pwd attrs.now }
 {
-    attrs.iter().any(|attr| is_pwd(attr))
+    attrs.iter().any(|attr| is_section_pwd(attr))
 }
 
 fn say_fingerprint(attrs: &[MediaAttribute]) -> bool
@@ -59,13 +59,13 @@ fn say_fingerprint(attrs: &[MediaAttribute]) -> bool
     attrs.iter().any(|attr| is_fingerprint(attr))
 }
 
-fn share_ufrag(attrs: &[SessionAttribute]) -> bool
+fn sections_share_ufrag(attrs: &[SessionAttribute]) -> bool
     ensures { result ≡ list_any is_session_ufrag attrs.now }
 {
     attrs.iter().any(|attr| is_session_ufrag(attr))
 }
 
-fn share_pwd(attrs: &[SessionAttribute]) -> bool
+fn sections_share_pwd(attrs: &[SessionAttribute]) -> bool
     ensures { result ≡ list_any is_session_pwd attrs.now }
 {
     attrs.iter().any(|attr| is_session_pwd(attr))
@@ -77,23 +77,23 @@ fn share_fingerprint(attrs: &[SessionAttribute]) -> bool
     attrs.iter().any(|attr| is_session_fingerprint(attr))
 }
 
-fn has_ufrag(session: &Session, section: &MediaLine) -> bool
-    ensures { result ≡ has_ufrag session.now section.now }
+fn section_has_ufrag(session: &Session, section: &MediaLine) -> bool
+    ensures { result ≡ section_has_ufrag session.now section.now }
 {
-    say_ufrag(section.attrs.as_slice()) || share_ufrag(session.attrs.as_slice())
+    section_says_ufrag(section.attrs.as_slice()) || sections_share_ufrag(session.attrs.as_slice())
 }
 
-fn has_pwd(session: &Session, section: &MediaLine) -> bool
-    ensures { result ≡ has_pwd session.now section.now }
+fn section_has_pwd(session: &Session, section: &MediaLine) -> bool
+    ensures { result ≡ section_has_pwd session.now section.now }
 {
-    say_pwd(section.attrs.as_slice()) || share_pwd(session.attrs.as_slice())
+    section_says_pwd(section.attrs.as_slice()) || sections_share_pwd(session.attrs.as_slice())
 }
 
 /// Whether credentials of ICE are in force at the section: a name fragment and a password, each of its own or the session's.
 pub(crate) fn has_creds(session: &Session, section: &MediaLine) -> bool
     ensures { result ≡ has_creds session.now section.now }
 {
-    has_ufrag(session, section) && has_pwd(session, section)
+    section_has_ufrag(session, section) && section_has_pwd(session, section)
 }
 
 /// Whether a fingerprint is in force at the section, of its own or the session's.

@@ -7,8 +7,8 @@ use crate::answer::in_force::creds_at;
 use std::alloc::AllocError;
 use str0m_signal::{IceCreds, Sdp};
 
-#[tactic(auto, using(crate::proofs::state::ReadBackEqual::creds_Decides))]
-fn are_same_creds(creds: &IceCreds, other: &IceCreds) -> bool
+#[tactic(auto, using(crate::proofs::state::ReadBackEqual::read_back_creds_Decides))]
+fn are_same_restart_creds(creds: &IceCreds, other: &IceCreds) -> bool
     ensures { IsTrue result ↔ (creds.now ≡ other.now) }
 {
     creds == other
@@ -20,7 +20,7 @@ fn is_restarted_at(before: &Sdp, now: &Sdp, at: usize) -> Result<bool, AllocErro
     let old = creds_at(before, at)?;
     let new = creds_at(now, at)?;
     match (&old, &new) {
-        (Some(old), Some(new)) => Ok(!are_same_creds(old, new)),
+        (Some(old), Some(new)) => Ok(!are_same_restart_creds(old, new)),
         _ => Ok(false),
     }
 }

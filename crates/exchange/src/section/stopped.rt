@@ -1,12 +1,12 @@
 //! Which sections of an offer are stopped.
 
-ghost use Rattle.exchange.specs.Prelude.{Holds, mid_of};
+ghost use Rattle.exchange.specs.Prelude.{HoldsMids, mid_of};
 ghost use Rattle.exchange.specs.answer.InBundle.{bundle_names};
 ghost use Rattle.exchange.specs.section.Stopped.{IsBundled, IsBundleOnly, IsStopped, IsStoppedAt, name_of};
 ghost use Rattle.std.specs.Prelude.{◌≡◌, ◌↔◌, IsTrue, Some, codes, Contains};
 ghost use Rattle.str0m_sdp.specs.declared.attribute.MediaAttribute.TheVariants.{Unused};
 
-use crate::offer::names::is_held;
+use crate::offer::names::is_mid_held;
 use std::collections::BTreeSet;
 use str0m_signal::{MediaAttribute, MediaLine, Mid, Sdp};
 
@@ -54,7 +54,7 @@ fn is_one_mid(mid: Mid, other: Mid) -> bool
     mid == other
 }
 
-fn lists(group: &[Mid], mid: Mid) -> bool
+fn group_lists(group: &[Mid], mid: Mid) -> bool
     ensures { IsTrue result ↔ Contains group.now mid }
 {
     group.iter().any(|other| is_one_mid(*other, mid))
@@ -65,7 +65,7 @@ fn is_bundled(sdp: &Sdp, section: &MediaLine) -> bool
     ensures { IsTrue result ↔ IsBundled sdp.now section.now }
 {
     match (sdp.bundle_mids(), name_of(section)) {
-        (Some(group), Some(mid)) => lists(group, mid),
+        (Some(group), Some(mid)) => group_lists(group, mid),
         _ => false,
     }
 }
@@ -78,15 +78,15 @@ fn is_section_stopped(offer: &Sdp, section: &MediaLine) -> bool
 
 /// Whether the group names the section, where `group` has its names in order.
 fn is_bundled_in(group: &BTreeSet<&str>, sdp: &Sdp, section: &MediaLine) -> bool
-    requires { Holds group.now (bundle_names sdp.now) }
+    requires { HoldsMids group.now (bundle_names sdp.now) }
     ensures { IsTrue result ↔ IsBundled sdp.now section.now }
 {
-    is_held(group, name_of(section))
+    is_mid_held(group, name_of(section))
 }
 
 /// Whether a section is stopped, where `group` has the names of the group in order: of many sections none looks through it.
 pub(crate) fn is_stopped_in(group: &BTreeSet<&str>, offer: &Sdp, section: &MediaLine) -> bool
-    requires { Holds group.now (bundle_names offer.now) }
+    requires { HoldsMids group.now (bundle_names offer.now) }
     ensures { IsTrue result ↔ IsStopped offer.now section.now }
 {
     section.disabled && !(is_bundle_only(section) && is_bundled_in(group, offer, section))
@@ -94,7 +94,7 @@ pub(crate) fn is_stopped_in(group: &BTreeSet<&str>, offer: &Sdp, section: &Media
 
 /// `is_stopped`, where `group` has the names of the group in order.
 pub(crate) fn is_stopped_at(group: &BTreeSet<&str>, offer: &Sdp, at: usize) -> bool
-    requires { Holds group.now (bundle_names offer.now) }
+    requires { HoldsMids group.now (bundle_names offer.now) }
     ensures { IsTrue result ↔ IsStoppedAt offer.now at }
 {
     match offer.media_lines.get(at) {

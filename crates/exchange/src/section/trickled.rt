@@ -1,15 +1,15 @@
 //! Candidates as they are trickled.
 
-ghost use Rattle.exchange.specs.Prelude.{Answers, AtMostOne, FirstLine, IsCandidateLine, IsRefusal};
-ghost use Rattle.exchange.specs.section.Trickled.{IsTrickled, as_line};
+ghost use Rattle.exchange.specs.Prelude.{Answers, AtMostOne, FirstLine, IsCandidateLine, IsReaderRefusal};
+ghost use Rattle.exchange.specs.section.Trickled.{IsTrickled, trickled_as_line};
 ghost use Rattle.std.specs.Prelude.{◌≡◌, IfOk, [], string_bytes};
 
 use std::alloc::{AllocError, Global};
 use str0m_signal::{Candidate, SdpError, candidate_attribute};
 
 /// The text as a line of a description.
-fn as_line(alloc: Global, text: &str) -> Result<String, AllocError>
-    ensures { IfOk result (λ line. string_bytes line ≡ as_line text.now) }
+fn trickled_as_line(alloc: Global, text: &str) -> Result<String, AllocError>
+    ensures { IfOk result (λ line. string_bytes line ≡ trickled_as_line text.now) }
 {
     if text.starts_with("a=") {
         return String::from_str(alloc, text);
@@ -17,8 +17,8 @@ fn as_line(alloc: Global, text: &str) -> Result<String, AllocError>
     format!(in alloc; "a={text}")
 }
 
-fn refusal(alloc: Global, message: &str) -> SdpError
-    ensures { IsRefusal result }
+fn trickle_refusal(alloc: Global, message: &str) -> SdpError
+    ensures { IsReaderRefusal result }
 {
     match String::from_str(alloc, message) {
         Ok(message) => SdpError::ParseError(message),
@@ -27,13 +27,13 @@ fn refusal(alloc: Global, message: &str) -> SdpError
 }
 
 /// The candidate, where nothing stands after it.
-fn alone(alloc: Global, candidate: Candidate, rest: &str) -> Result<Candidate, SdpError>
+fn trickled_alone(alloc: Global, candidate: Candidate, rest: &str) -> Result<Candidate, SdpError>
     ensures { Answers (λ read. read) result (λ read. (read ≡ candidate) × (rest.now ≡ [])) }
 {
     if rest.is_empty() {
         Ok(candidate)
     } else {
-        Err(refusal(alloc, "text behind the candidate"))
+        Err(trickle_refusal(alloc, "text behind the candidate"))
     }
 }
 
@@ -42,7 +42,7 @@ fn only_candidate(alloc: Global, line: &str) -> Result<Candidate, SdpError>
     ensures { Answers (λ candidate. candidate) result (λ candidate. FirstLine IsCandidateLine line.now (candidate, [])) }
 {
     match candidate_attribute(alloc, line) {
-        Ok((candidate, rest)) => alone(alloc, candidate, rest),
+        Ok((candidate, rest)) => trickled_alone(alloc, candidate, rest),
         Err(error) => Err(error),
     }
 }
@@ -58,6 +58,6 @@ pub fn trickled_candidate(alloc: Global, text: &str) -> Result<Candidate, SdpErr
     ensures read { Answers (λ candidate. candidate) result (IsTrickled text.now) }
     ensures one { AtMostOne (IsTrickled text.now) }
 {
-    let line = as_line(alloc, text)?;
+    let line = trickled_as_line(alloc, text)?;
     only_candidate(alloc, line.as_str())
 }

@@ -1,6 +1,6 @@
 //! Descriptions that were read back, made equal to those that were said, at the cost of what may differ.
 ghost use Rattle.exchange.specs.Prelude.{Alike};
-ghost use Rattle.exchange.specs.state.ReadBack.{IsWholeReadAs, IsSectionReadAs, may_differ};
+ghost use Rattle.exchange.specs.state.ReadBack.{IsWholeReadAs, IsSectionReadAs, read_back_may_differ};
 ghost use Rattle.std.specs.List.{AllZip};
 ghost use Rattle.std.specs.Prelude.{◌≡◌, ◌↔◌, IsTrue, OnOk};
 
@@ -8,17 +8,17 @@ use std::alloc::AllocError;
 use str0m_signal::{MediaAttribute, MediaLine, Sdp};
 
 #[tactic(auto, using(str0m_sdp::proofs::media_Decides))]
-fn is_same_line(line: &MediaAttribute, other: &MediaAttribute) -> bool
+fn is_same_copied_line(line: &MediaAttribute, other: &MediaAttribute) -> bool
     ensures { IsTrue result ↔ (line.now ≡ other.now) }
 {
     line == other
 }
 
 /// Makes a line equal to another.
-fn copy_values(source: &MediaAttribute, line: &mut MediaAttribute) -> Result<(), AllocError>
+fn copy_over_values(source: &MediaAttribute, line: &mut MediaAttribute) -> Result<(), AllocError>
     ensures { OnOk result (line.new ≡ source.now) }
 {
-    if is_same_line(line, source) {
+    if is_same_copied_line(line, source) {
         return Ok(());
     }
     *line = source.clone()?;
@@ -26,8 +26,8 @@ fn copy_values(source: &MediaAttribute, line: &mut MediaAttribute) -> Result<(),
 }
 
 /// Whether a line may be alike that differs.
-fn may_differ(line: &MediaAttribute) -> bool
-    ensures { result ≡ may_differ line.now }
+fn read_back_may_differ(line: &MediaAttribute) -> bool
+    ensures { result ≡ read_back_may_differ line.now }
 {
     matches!(
         line,
@@ -36,24 +36,27 @@ fn may_differ(line: &MediaAttribute) -> bool
 }
 
 /// Makes a line equal to one that is alike.
-fn copy_line(source: &MediaAttribute, line: &mut MediaAttribute) -> Result<(), AllocError>
+fn copy_over_line(source: &MediaAttribute, line: &mut MediaAttribute) -> Result<(), AllocError>
     requires { Alike source.now line.old }
     ensures { OnOk result (line.new ≡ source.now) }
 {
-    if may_differ(source) {
-        copy_values(source, line)
+    if read_back_may_differ(source) {
+        copy_over_values(source, line)
     } else {
         Ok(())
     }
 }
 
 /// Makes lines equal to others that are alike one by one.
-fn copy_lines(sources: &[MediaAttribute], lines: &mut Vec<MediaAttribute>) -> Result<(), AllocError>
+fn copy_over_lines(
+    sources: &[MediaAttribute],
+    lines: &mut Vec<MediaAttribute>,
+) -> Result<(), AllocError>
     requires { AllZip Alike sources.now lines.old.items }
     ensures { OnOk result (lines.new.items ≡ sources.now) }
 {
     for i in 0..sources.len() {
-        copy_line(&sources[i], &mut lines[i])?;
+        copy_over_line(&sources[i], &mut lines[i])?;
     }
     Ok(())
 }
@@ -63,7 +66,7 @@ fn copy_section(source: &MediaLine, section: &mut MediaLine) -> Result<(), Alloc
     requires { IsSectionReadAs source.now section.old }
     ensures { OnOk result (section.new ≡ source.now) }
 {
-    copy_lines(source.attrs.as_slice(), &mut section.attrs.0)
+    copy_over_lines(source.attrs.as_slice(), &mut section.attrs.0)
 }
 
 /// Makes sections equal to others that are read as they are, one by one.

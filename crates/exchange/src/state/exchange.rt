@@ -1,15 +1,15 @@
 //! Exchanges of offers and answers.
-ghost use Rattle.exchange.specs.Prelude.{AllDistinct, AreDistinct, HasBoundedRows, IsPlain, LockedStay, kind_rows, section_mids, types, versioned_text};
+ghost use Rattle.exchange.specs.Prelude.{AllTypesDistinct, AreMidsDistinct, HasBoundedRows, IsPlain, LockedStay, kind_rows, section_mids, types, versioned_text};
 ghost use Rattle.exchange.specs.answer.Offered.{AreOfferRounds, NegotiatesOffer};
 ghost use Rattle.exchange.specs.declared.state.exchange_error.ExchangeError.TheVariants.{Memory, WrongState};
 ghost use Rattle.exchange.specs.declared.state.signaling_state.SignalingState.TheVariants.{Stable};
-ghost use Rattle.exchange.specs.offer.Added.{with_channels, with_media};
+ghost use Rattle.exchange.specs.offer.Added.{offer_with_channels, with_media};
 ghost use Rattle.exchange.specs.offer.FreshNames.{AreFresh};
-ghost use Rattle.exchange.specs.offer.MadeOffer.{MakesOffer, placed_as, ready_with};
-ghost use Rattle.exchange.specs.offer.OfferRules.{IsNewName, IsOffered, IsOfferedWith, KeepsPlaces};
-ghost use Rattle.exchange.specs.state.Exchange.{RefusesChannels, RefusesMedia, RefusesToOffer};
+ghost use Rattle.exchange.specs.offer.MadeOffer.{MakesOffer, offer_placed_as, offer_ready_with};
+ghost use Rattle.exchange.specs.offer.OfferRules.{IsNewOfferName, IsOffered, IsOfferedWith, KeepsOfferPlaces};
+ghost use Rattle.exchange.specs.state.Exchange.{ExchangeRefusesChannels, RefusesMedia, RefusesToOffer};
 ghost use Rattle.exchange.specs.state.ExchangeFollows.{Follows, IsSound};
-ghost use Rattle.exchange.specs.state.OwnSide.{with_entry};
+ghost use Rattle.exchange.specs.state.OwnSide.{with_own_side_entry};
 ghost use Rattle.exchange.specs.state.ReadBack.{IsReadBack};
 ghost use Rattle.exchange.specs.state.State.{pending_sdp, sections_of, state_of, taken_names};
 ghost use Rattle.std.specs.Prelude.{All, ◌≡◌, ◌≢◌, ◌+◌, ◌-◌, ◌^◌, [], ℕ, true, IfErr, IfOk, MatchOption, OnErr, OnOk, None, Some, length, min, option_copied};
@@ -18,13 +18,13 @@ use crate::answer::offered::{negotiate, rounds_of};
 use crate::offer::Offer;
 use crate::offer::added::Added;
 use crate::offer::fresh_names::fresh_names;
-use crate::offer::made_offer::{made_offer, placed_as, taken_names};
+use crate::offer::made_offer::{made_offer, offer_placed_as, taken_names};
 use crate::offer::offer_section::has_rows;
 use crate::offer::pending::Pending;
 use crate::section::places::sections_of;
 use crate::state::copied_over::copy_over;
 use crate::state::exchange_error::ExchangeError;
-use crate::state::own_side::{OwnSide, with_entry};
+use crate::state::own_side::{OwnSide, with_own_side_entry};
 use crate::state::read_back::read_back;
 use crate::state::signaling_state::SignalingState;
 use std::alloc::{AllocError, Global};
@@ -56,10 +56,10 @@ struct Offering {
 }
 
 /// The room that most printed descriptions fit in, in bytes: no answer depends on it.
-const USUAL_ROOM: usize = 4096;
+const USUAL_EXCHANGE_ROOM: usize = 4096;
 
 /// A copy of a description, where the other side reads the text that it prints with this version as what it says.
-pub(crate) fn printable_copy(
+pub(crate) fn read_back_copy(
     alloc: Global,
     sdp: &Sdp,
     version: u64,
@@ -69,7 +69,7 @@ pub(crate) fn printable_copy(
         (λ copy. (copy ≡ sdp.now) × IsReadBack sdp.now (versioned_text version sdp.now))) }
 {
     let printed = VersionedSdp { sdp, version };
-    let mut text = String::with_capacity(alloc, USUAL_ROOM)?;
+    let mut text = String::with_capacity(alloc, USUAL_EXCHANGE_ROOM)?;
     write!(text, "{printed}")?;
     let Some(mut copy) = read_back(alloc, sdp, text.as_str())? else {
         return Ok(None);
@@ -87,7 +87,7 @@ pub(crate) fn negotiated_by(
     requires { AreOfferRounds offer.now offer.now.media_lines rounds.now }
     ensures rounds { IfOk result (λ after. NegotiatesOffer offer.now config.now.params.items after.params.items) }
     ensures stay { IfOk result (λ after. LockedStay config.now.params.items after.params.items) }
-    ensures distinct { AllDistinct (types config.now.params.items) → IfOk result (λ after. AllDistinct (types after.params.items)) }
+    ensures distinct { AllTypesDistinct (types config.now.params.items) → IfOk result (λ after. AllTypesDistinct (types after.params.items)) }
     ensures plain { All HasBoundedRows offer.now.media_lines → All IsPlain config.now.params.items → IfOk result (λ after. All IsPlain after.params.items) }
     ensures distances { IfOk result (λ after. after.red_distances ≡ config.now.red_distances) }
 {
@@ -100,7 +100,7 @@ pub(crate) fn negotiated_by(
 pub(crate) fn negotiated(config: &CodecConfig, offer: &Sdp) -> Result<CodecConfig, AllocError>
     ensures rounds { IfOk result (λ after. NegotiatesOffer offer.now config.now.params.items after.params.items) }
     ensures stay { IfOk result (λ after. LockedStay config.now.params.items after.params.items) }
-    ensures distinct { AllDistinct (types config.now.params.items) → IfOk result (λ after. AllDistinct (types after.params.items)) }
+    ensures distinct { AllTypesDistinct (types config.now.params.items) → IfOk result (λ after. AllTypesDistinct (types after.params.items)) }
     ensures plain { All HasBoundedRows offer.now.media_lines → All IsPlain config.now.params.items → IfOk result (λ after. All IsPlain after.params.items) }
     ensures distances { IfOk result (λ after. after.red_distances ≡ config.now.red_distances) }
 {
@@ -109,7 +109,7 @@ pub(crate) fn negotiated(config: &CodecConfig, offer: &Sdp) -> Result<CodecConfi
 }
 
 /// The version of the description behind one (RFC 8866, section 5.2: it grows).
-pub(crate) fn next_version(version: u64) -> u64
+pub(crate) fn next_exchange_version(version: u64) -> u64
     ensures { result ≡ min (version + 1) (2 ^ 64 - 1) }
 {
     version.saturating_add(1)
@@ -117,7 +117,7 @@ pub(crate) fn next_version(version: u64) -> u64
 
 impl Exchange {
     /// An exchange in which nothing was said yet.
-    #[tactic(auto, using(crate::proofs::state::ExchangeFollowLaws::sound_new))]
+    #[tactic(auto, using(crate::proofs::state::ExchangeFollowLaws::exchange_sound_new))]
     pub fn new(own: OwnSide, config: CodecConfig) -> Exchange
         ensures is { result ≡ record { own = own; config = config; local = None; remote = None; pending = None; version = 1; added = []; names = [] } }
         ensures sound { IsSound result }
@@ -199,7 +199,7 @@ impl Exchange {
     pub fn set_direction(&mut self, mid: Mid, direction: Direction) -> Result<(), ExchangeError>
         ensures ok { OnOk result (self.new ≡ record self.old {
           own = record self.old.own {
-            directions = with_entry mid direction self.old.own.directions;
+            directions = with_own_side_entry mid direction self.old.own.directions;
           };
         }) }
         ensures sound { IsSound self.old → IsSound self.new }
@@ -209,7 +209,7 @@ impl Exchange {
     {
         let alloc = *self.config.allocator();
         let entries = self.own.directions.as_slice();
-        let directions = with_entry(alloc, entries, mid, direction)?;
+        let directions = with_own_side_entry(alloc, entries, mid, direction)?;
         self.own.directions = directions;
         Ok(())
     }
@@ -244,11 +244,11 @@ impl Exchange {
     /// Nothing is changed by an error. `NoChannels` where this side takes none (`OwnSide`); `Memory` where memory was refused.
     #[tactic(auto, using(crate::proofs::state::ExchangeFollowLaws::follows_same, crate::proofs::state::ExchangeFollowLaws::follows_self))]
     pub fn add_channels(&mut self) -> Result<(), ExchangeError>
-        ensures ok { OnOk result (self.new ≡ with_channels self.old) }
+        ensures ok { OnOk result (self.new ≡ offer_with_channels self.old) }
         ensures has_channels { OnOk result (self.old.own.channels ≢ None) }
         ensures sound { IsSound self.old → IsSound self.new }
         ensures follows { Follows self.old self.new }
-        ensures refused { IfErr result (RefusesChannels self.old) }
+        ensures refused { IfErr result (ExchangeRefusesChannels self.old) }
         ensures unchanged { OnErr result (self.new ≡ self.old) }
     {
         if self.own.channels.is_none() {
@@ -290,16 +290,16 @@ impl Exchange {
         ensures stable { IfOk result (λ offer. state_of self.old ≡ Stable) }
         ensures names { IfOk result (λ offer. (to : ℕ) × AreFresh (taken_names self.old) 0 offer.added to) }
         ensures as_many { IfOk result (λ offer. length offer.added ≡ length self.old.added) }
-        ensures new { IfOk result (λ offer. All (IsNewName self.old) offer.added) }
+        ensures new { IfOk result (λ offer. All (IsNewOfferName self.old) offer.added) }
         // Section by section, and as a whole with its bundle.
         ensures says { IfOk result (λ offer. MakesOffer self.old offer.added offer.sdp) }
-        ensures places { IfOk result (λ offer. KeepsPlaces self.old 0 (sections_of self.old.local) offer.sdp.media_lines) }
-        ensures rules { IfOk result (λ offer. All (IsOffered self.old (ready_with self.old offer.added)) offer.sdp.media_lines) }
-        ensures different { AreDistinct (section_mids (sections_of self.old.local)) → IfOk result (λ offer. AreDistinct (section_mids offer.sdp.media_lines)) }
+        ensures places { IfOk result (λ offer. KeepsOfferPlaces self.old 0 (sections_of self.old.local) offer.sdp.media_lines) }
+        ensures rules { IfOk result (λ offer. All (IsOffered self.old (offer_ready_with self.old offer.added)) offer.sdp.media_lines) }
+        ensures different { AreMidsDistinct (section_mids (sections_of self.old.local)) → IfOk result (λ offer. AreMidsDistinct (section_mids offer.sdp.media_lines)) }
         ensures read_back { IfOk result (λ offer. IsReadBack offer.sdp (versioned_text offer.version offer.sdp)) }
         ensures version { IfOk result (λ offer. offer.version ≡ self.old.version) }
         ensures waits { IfOk result (λ offer. self.new ≡ record self.old {
-          pending = Some (record { sdp = offer.sdp; placed = placed_as self.old offer.added });
+          pending = Some (record { sdp = offer.sdp; placed = offer_placed_as self.old offer.added });
           version = min (self.old.version + 1) (2 ^ 64 - 1);
         }) }
         ensures sound { IsSound self.old → IsSound self.new }
@@ -309,14 +309,14 @@ impl Exchange {
     {
         let made = self.offering()?;
         self.pending = Some(made.pending);
-        self.version = next_version(self.version);
+        self.version = next_exchange_version(self.version);
         Ok(made.offer)
     }
 
     /// The offer of what was added, and of what goes on of the last exchange.
     fn offering(&self) -> Result<Offering, ExchangeError>
         ensures made { IfOk result (λ it. IsOfferedWith self.now it.offer) }
-        ensures waits { IfOk result (λ it. it.pending ≡ record { sdp = it.offer.sdp; placed = placed_as self.now it.offer.added }) }
+        ensures waits { IfOk result (λ it. it.pending ≡ record { sdp = it.offer.sdp; placed = offer_placed_as self.now it.offer.added }) }
         ensures refused { IfErr result (RefusesToOffer self.now) }
     {
         self.check_stable()?;
@@ -324,10 +324,10 @@ impl Exchange {
         let taken = taken_names(self)?;
         let added = fresh_names(alloc, taken.as_slice(), self.added.len())?;
         let sdp = made_offer(self, added.as_slice())?;
-        let Some(copy) = printable_copy(alloc, &sdp, version)? else {
+        let Some(copy) = read_back_copy(alloc, &sdp, version)? else {
             return Err(ExchangeError::NotPrintable);
         };
-        let placed = placed_as(self, added.as_slice())?;
+        let placed = offer_placed_as(self, added.as_slice())?;
         let pending = Pending { sdp: copy, placed };
         let offer = Offer::new(sdp, version, added);
         Ok(Offering { offer, pending })

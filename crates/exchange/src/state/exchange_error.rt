@@ -1,6 +1,6 @@
 //! Why a call of an exchange is refused.
 ghost use Rattle.exchange.specs.declared.state.exchange_error.ExchangeError.TheVariants.{Memory};
-ghost use Rattle.exchange.specs.state.ExchangeError.{not_read};
+ghost use Rattle.exchange.specs.state.ExchangeError.{not_read_error};
 ghost use Rattle.std.specs.Prelude.{◌≡◌};
 
 use crate::offer::rule::Rule;
@@ -62,7 +62,7 @@ impl From<AllocError> for ExchangeError {
 
 /// What a reader refuses; out of memory stays out of memory.
 impl From<SdpError> for ExchangeError {
-    ghost from_gives = { λ cause error. error ≡ not_read cause };
+    ghost from_gives = { λ cause error. error ≡ not_read_error cause };
 
     fn from(cause: SdpError) -> ExchangeError {
         match cause {

@@ -1,5 +1,5 @@
 //! What this side says of itself.
-ghost use Rattle.exchange.specs.state.OwnSide.{direction_among, is_entry_of, kind_direction, own_direction, said_of, with_entry};
+ghost use Rattle.exchange.specs.state.OwnSide.{direction_among, is_own_side_entry_of, kind_direction, own_direction, direction_said_of, with_own_side_entry};
 ghost use Rattle.std.specs.Prelude.{◌≡◌, IfOk, find, option_copied};
 
 use crate::section::stopped::name_of;
@@ -53,31 +53,33 @@ pub struct OwnSide {
     pub receives_simulcast: bool,
 }
 
-fn is_entry_of(entry: &SectionDirection, mid: Mid) -> bool
-    ensures { result ≡ is_entry_of mid entry.now }
+fn is_own_side_entry_of(entry: &SectionDirection, mid: Mid) -> bool
+    ensures { result ≡ is_own_side_entry_of mid entry.now }
 {
     entry.mid == mid
 }
 
 /// The first entry of a name.
-fn entry_of(entries: &[SectionDirection], mid: Mid) -> Option<&SectionDirection>
-    ensures { option_copied result ≡ find (is_entry_of mid) entries.now }
+fn own_side_entry_of(entries: &[SectionDirection], mid: Mid) -> Option<&SectionDirection>
+    ensures { option_copied result ≡ find (is_own_side_entry_of mid) entries.now }
 {
-    entries.iter().find(|entry| is_entry_of(entry, mid))
+    entries
+        .iter()
+        .find(|entry| is_own_side_entry_of(entry, mid))
 }
 
 /// The entries with this direction for a name, in place of others of that name.
-pub(crate) fn with_entry(
+pub(crate) fn with_own_side_entry(
     alloc: Global,
     entries: &[SectionDirection],
     mid: Mid,
     direction: Direction,
 ) -> Result<Items<SectionDirection>, AllocError>
-    ensures { IfOk result (λ after. after ≡ with_entry mid direction entries.now) }
+    ensures { IfOk result (λ after. after ≡ with_own_side_entry mid direction entries.now) }
 {
     let mut after = Vec::new(alloc);
     for entry in entries {
-        if !is_entry_of(entry, mid) {
+        if !is_own_side_entry_of(entry, mid) {
             after.push(*entry)?;
         }
     }
@@ -86,10 +88,10 @@ pub(crate) fn with_entry(
 }
 
 /// What the entries say of a name, if anything.
-fn said_of(entries: &[SectionDirection], mid: Option<Mid>) -> Option<Direction>
-    ensures { result ≡ said_of entries.now mid }
+fn direction_said_of(entries: &[SectionDirection], mid: Option<Mid>) -> Option<Direction>
+    ensures { result ≡ direction_said_of entries.now mid }
 {
-    let entry = entry_of(entries, mid?)?;
+    let entry = own_side_entry_of(entries, mid?)?;
     Some(entry.direction)
 }
 
@@ -114,7 +116,7 @@ impl OwnSide {
     ) -> Direction
         ensures { result ≡ direction_among self.now entries.now mid typ.now }
     {
-        match said_of(entries, mid) {
+        match direction_said_of(entries, mid) {
             Some(direction) => direction,
             None => self.kind_direction(typ),
         }

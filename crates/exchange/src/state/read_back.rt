@@ -1,7 +1,7 @@
 //! A description whose text is read again.
 
 ghost use Rattle.exchange.specs.Prelude.{Alike};
-ghost use Rattle.exchange.specs.state.ReadBack.{IsWholeReadAs, IsReadBack, IsSameHead, IsSectionReadAs};
+ghost use Rattle.exchange.specs.state.ReadBack.{IsWholeReadAs, IsReadBack, IsSameReadHead, IsSectionReadAs};
 ghost use Rattle.std.specs.List.{AllZip};
 ghost use Rattle.std.specs.Prelude.{◌≡◌, ◌≢◌, ◌↔◌, [], IfOk, IfSome, IsTrue, MatchOption, None};
 ghost use Rattle.str0m_sdp.specs.declared.session.error.SdpError.TheVariants.{Memory};
@@ -12,7 +12,7 @@ use str0m_signal::{
 };
 
 /// Whether the attributes are alike one by one.
-fn are_alike(said: &[MediaAttribute], read: &[MediaAttribute]) -> bool
+fn are_read_attributes_alike(said: &[MediaAttribute], read: &[MediaAttribute]) -> bool
     ensures { IsTrue result ↔ AllZip Alike said.now read.now }
 {
     let mut left = said;
@@ -27,15 +27,15 @@ fn are_alike(said: &[MediaAttribute], read: &[MediaAttribute]) -> bool
     reads.is_empty()
 }
 
-#[tactic(auto, using(crate::proofs::state::ReadBackEqual::type_Decides))]
+#[tactic(auto, using(crate::proofs::state::ReadBackEqual::read_back_type_Decides))]
 pub(crate) fn is_same_type(typ: &MediaType, other: &MediaType) -> bool
     ensures { IsTrue result ↔ (typ.now ≡ other.now) }
 {
     typ == other
 }
 
-#[tactic(auto, using(crate::proofs::state::ReadBackEqual::bandwidth_Decides))]
-fn is_same_bandwidth(bw: &Option<Bandwidth>, other: &Option<Bandwidth>) -> bool
+#[tactic(auto, using(crate::proofs::state::ReadBackEqual::read_back_bandwidth_Decides))]
+fn is_same_read_bandwidth(bw: &Option<Bandwidth>, other: &Option<Bandwidth>) -> bool
     ensures { IsTrue result ↔ (bw.now ≡ other.now) }
 {
     bw == other
@@ -54,28 +54,28 @@ pub(crate) fn is_same_proto(proto: Proto, other: Proto) -> bool
     proto == other
 }
 
-fn are_same_types(types: &[Pt], others: &[Pt]) -> bool
+fn are_same_read_types(types: &[Pt], others: &[Pt]) -> bool
     ensures { IsTrue result ↔ (types.now ≡ others.now) }
 {
     types == others
 }
 
 /// Whether the m-lines have the same type, port 0 or not, protocol and payload types.
-fn is_same_head(said: &MediaLine, read: &MediaLine) -> bool
-    ensures { IsTrue result ↔ IsSameHead said.now read.now }
+fn is_same_read_head(said: &MediaLine, read: &MediaLine) -> bool
+    ensures { IsTrue result ↔ IsSameReadHead said.now read.now }
 {
     is_same_type(&read.typ, &said.typ)
         && read.disabled == said.disabled
         && is_same_proto(read.proto, said.proto)
-        && are_same_types(read.pts.as_slice(), said.pts.as_slice())
+        && are_same_read_types(read.pts.as_slice(), said.pts.as_slice())
 }
 
 fn is_section_read_as(said: &MediaLine, read: &MediaLine) -> bool
     ensures { IsTrue result ↔ IsSectionReadAs said.now read.now }
 {
-    is_same_head(said, read)
-        && is_same_bandwidth(&read.bw, &said.bw)
-        && are_alike(said.attrs.as_slice(), read.attrs.as_slice())
+    is_same_read_head(said, read)
+        && is_same_read_bandwidth(&read.bw, &said.bw)
+        && are_read_attributes_alike(said.attrs.as_slice(), read.attrs.as_slice())
 }
 
 /// Whether there are as many sections, each read as the one in its place.
@@ -102,19 +102,19 @@ fn is_read_as(said: &Sdp, read: &Sdp) -> bool
 }
 
 /// Whether what was read is this description, with nothing left.
-fn is_whole(said: &Sdp, read: &Sdp, rest: &str) -> bool
+fn is_read_back_whole(said: &Sdp, read: &Sdp, rest: &str) -> bool
     ensures { IsTrue result ↔ ((rest.now ≡ []) × IsWholeReadAs said.now read.now) }
 {
     rest.is_empty() && is_read_as(said, read)
 }
 
 /// What was read, where it is this description with nothing left.
-fn whole(said: &Sdp, read: Sdp, rest: &str) -> Option<Sdp>
+fn whole_read_back(said: &Sdp, read: Sdp, rest: &str) -> Option<Sdp>
     ensures { MatchOption result
         ((rest.now ≡ []) × IsWholeReadAs said.now read → ⊥)
         (λ found. (found ≡ read) × (rest.now ≡ []) × IsWholeReadAs said.now read) }
 {
-    if is_whole(said, &read, rest) {
+    if is_read_back_whole(said, &read, rest) {
         Some(read)
     } else {
         None
@@ -122,7 +122,7 @@ fn whole(said: &Sdp, read: Sdp, rest: &str) -> Option<Sdp>
 }
 
 /// The answer where no description was read.
-fn refused(error: SdpError) -> Result<Option<Sdp>, AllocError>
+fn refused_read_back(error: SdpError) -> Result<Option<Sdp>, AllocError>
     ensures { IfOk result (λ found. (found ≡ None) × (error ≢ Memory)) }
 {
     match error {
@@ -137,8 +137,8 @@ pub(crate) fn read_back(alloc: Global, said: &Sdp, text: &str) -> Result<Option<
     ensures alike { IfOk result (λ found. IfSome found (IsWholeReadAs said.now)) }
 {
     match sdp_parser(alloc, text) {
-        Ok((read, rest)) => Ok(whole(said, read, rest)),
-        Err(error) => refused(error),
+        Ok((read, rest)) => Ok(whole_read_back(said, read, rest)),
+        Err(error) => refused_read_back(error),
     }
 }
 

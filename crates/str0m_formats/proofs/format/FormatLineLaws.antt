@@ -6,48 +6,51 @@ use Rattle.str0m_formats.proofs.Common.{map-append, filter_map-append}
 use Rattle.str0m_formats.specs.declared.codec.Codec.TheVariants.{AmrWb}
 use Rattle.str0m_formats.specs.declared.format.format_param.FormatParam.{FormatParam}
 use Rattle.str0m_formats.specs.declared.format.format_params.FormatParams.{FormatParams}
-use Rattle.str0m_formats.specs.format.FormatLine.{pair_in, bare_in, pairs_in, bares_in, pieces, IsFormatOfBares, IsFormatOfLine}
-use Rattle.str0m_formats.specs.format.FormatLine.{is_unsupported, asks_absent, kept, values_of, line_values}
-use Rattle.str0m_formats.specs.format.FormatParam.{IsBare, pair_texts}
+use Rattle.str0m_formats.specs.format.FormatLine.{pair_in, bare_param_in, pairs_in, bare_params_in, pieces, IsFormatOfBares, IsFormatOfLine}
+use Rattle.str0m_formats.specs.format.FormatLine.{is_unsupported_param, line_asks_absent, line_without_event_ranges, params_of_lines}
+use Rattle.str0m_formats.specs.format.FormatLine.{line_values}
+use Rattle.str0m_formats.specs.format.FormatParam.{IsBareParam, pair_texts}
 use Rattle.str0m_formats.specs.format.FormatParams.{empty, set, set_all}
-use Rattle.str0m_formats.specs.format.Pairs.{AreRead}
+use Rattle.str0m_formats.specs.format.Pairs.{ArePairsRead}
 
 pub set_all-append : (xs ys : List FormatParam) (p : FormatParams) → set_all p (xs ++ ys) ≡ set_all (set_all p xs) ys
 set_all-append [] ys p = refl
 set_all-append (x ∷ xs) ys p = set_all-append xs ys (set x p)
 
-pub asks : (lines : List (Bor (List FormatParam))) (answer : Bool) → answer ≡ list_any (λ line. list_any is_unsupported line.now) lines
-    → answer ≡ asks_absent AmrWb (line_values lines)
-unfolding asks_absent
-asks lines answer e = e ∙ sym (go lines)
+pub line_asks_absent_answer : (lines : List (Bor (List FormatParam))) (answer : Bool)
+    → answer ≡ list_any (λ line. list_any is_unsupported_param line.now) lines
+    → answer ≡ line_asks_absent AmrWb (line_values lines)
+unfolding line_asks_absent
+line_asks_absent_answer lines answer e = e ∙ sym (go lines)
   where
-    go : (lines : List (Bor (List FormatParam))) → list_any (λ line. list_any is_unsupported line) (line_values lines)
-        ≡ list_any (λ line. list_any is_unsupported line.now) lines
+    go : (lines : List (Bor (List FormatParam))) → list_any (λ line. list_any is_unsupported_param line) (line_values lines)
+        ≡ list_any (λ line. list_any is_unsupported_param line.now) lines
     go [] = refl
-    go (line ∷ lines) = ap (λ b. list_any is_unsupported line.now || b) (go lines)
+    go (line ∷ lines) = ap (λ b. list_any is_unsupported_param line.now || b) (go lines)
 
 pub pairs_more : (pieces : List (List ℕ)) (piece : List ℕ) → pairs_in (pieces ++ piece ∷ []) ≡ pairs_in pieces
     ++ cons_option (pair_in piece) []
 unfolding pairs_in
 pairs_more pieces piece = filter_map-append pair_in pieces (piece ∷ [])
 
-pub bares_more : (pieces : List (List ℕ)) (piece : List ℕ) → bares_in (pieces ++ piece ∷ []) ≡ bares_in pieces
-    ++ cons_option (bare_in piece) []
-unfolding bares_in
-bares_more pieces piece = filter_map-append bare_in pieces (piece ∷ [])
+pub bare_params_more : (pieces : List (List ℕ)) (piece : List ℕ) → bare_params_in (pieces ++ piece ∷ []) ≡ bare_params_in pieces
+    ++ cons_option (bare_param_in piece) []
+unfolding bare_params_in
+bare_params_more pieces piece = filter_map-append bare_param_in pieces (piece ∷ [])
 
-values-push : (lines : List (List FormatParam)) (line : List FormatParam) → values_of (lines ++ line ∷ []) ≡ values_of lines ++ kept line
-values-push [] line = append-nil (kept line)
-values-push (l ∷ lines) line = grind (arith, values-push lines line, append_assoc)
+line_values-push : (lines : List (List FormatParam)) (line : List FormatParam)
+    → params_of_lines (lines ++ line ∷ []) ≡ params_of_lines lines ++ line_without_event_ranges line
+line_values-push [] line = append-nil (line_without_event_ranges line)
+line_values-push (l ∷ lines) line = grind (arith, line_values-push lines line, append_assoc)
 
 -- one more line
-pub values_more : (lines : List (Bor (List FormatParam))) (i : ℕ) (d : Bor (List FormatParam)) → i < length lines
-    → set_all (set_all empty (values_of (line_values (take i lines)))) (kept (get_or lines i d).now)
-    ≡ set_all empty (values_of (line_values (take (i + 1) lines)))
-values_more lines i d lt =
-    sym (set_all-append (values_of (line_values (take i lines))) (kept (get_or lines i d).now) empty)
-    ∙ ap (set_all empty) (sym (values-push (line_values (take i lines)) (get_or lines i d).now)
-    ∙ ap values_of (sym (map-append (λ line. line.now) (take i lines) (get_or lines i d ∷ []))
+pub line_values_more : (lines : List (Bor (List FormatParam))) (i : ℕ) (d : Bor (List FormatParam)) → i < length lines
+    → set_all (set_all empty (params_of_lines (line_values (take i lines)))) (line_without_event_ranges (get_or lines i d).now)
+    ≡ set_all empty (params_of_lines (line_values (take (i + 1) lines)))
+line_values_more lines i d lt =
+    sym (set_all-append (params_of_lines (line_values (take i lines))) (line_without_event_ranges (get_or lines i d).now) empty)
+    ∙ ap (set_all empty) (sym (line_values-push (line_values (take i lines)) (get_or lines i d).now)
+    ∙ ap params_of_lines (sym (map-append (λ line. line.now) (take i lines) (get_or lines i d ∷ []))
     ∙ ap line_values (sym (take_more lines i d lt))))
 
 -- ---- pieces
@@ -63,24 +66,25 @@ pub pairs_absent : (items : List (Bor (List ℕ) × Bor (List ℕ))) (pieces : L
     → pair_texts items ≡ pairs_in pieces → None ≡ pair_in piece → pair_texts items ≡ pairs_in (pieces ++ piece ∷ [])
 pairs_absent items pieces piece h e = grind (arith, append-nil, pairs_more)
 
-pub bares_none : IsFormatOfBares [] empty
-unfolding bares_in
-bares_none = record { bares = []; bares_are = tt; format = refl }
+pub bare_params_none : IsFormatOfBares [] empty
+unfolding bare_params_in
+bare_params_none = record { bares = []; bares_are = tt; format = refl }
 
-pub bares_given : (pieces : List (List ℕ)) (piece text : List ℕ) (p : FormatParams) (param : FormatParam) → IsFormatOfBares pieces p
-    → Some text ≡ bare_in piece → IsBare text param → IsFormatOfBares (pieces ++ piece ∷ []) (set param p)
-bares_given pieces piece text p param h e is = record {
+pub bare_params_given : (pieces : List (List ℕ)) (piece text : List ℕ) (p : FormatParams) (param : FormatParam) → IsFormatOfBares pieces p
+    → Some text ≡ bare_param_in piece → IsBareParam text param → IsFormatOfBares (pieces ++ piece ∷ []) (set param p)
+bare_params_given pieces piece text p param h e is = record {
   bares = h.bares ++ param ∷ [];
-  bares_are = subst (λ (ts : List (List ℕ)). AllZip IsBare ts (h.bares ++ param ∷ []))
-      (ap (λ (o : Option (List ℕ)). bares_in pieces ++ cons_option o []) e ∙ sym (bares_more pieces piece))
-      (AllZip-push IsBare (bares_in pieces) h.bares text param h.bares_are is);
+  bares_are = subst (λ (ts : List (List ℕ)). AllZip IsBareParam ts (h.bares ++ param ∷ []))
+      (ap (λ (o : Option (List ℕ)). bare_params_in pieces ++ cons_option o []) e ∙ sym (bare_params_more pieces piece))
+      (AllZip-push IsBareParam (bare_params_in pieces) h.bares text param h.bares_are is);
   format = ap (set param) h.format ∙ sym (set_all-append h.bares (param ∷ []) empty);
 }
 
-pub bares_absent : (pieces : List (List ℕ)) (piece : List ℕ) (p : FormatParams) → IsFormatOfBares pieces p → None ≡ bare_in piece
+pub bare_params_absent : (pieces : List (List ℕ)) (piece : List ℕ) (p : FormatParams) → IsFormatOfBares pieces p
+    → None ≡ bare_param_in piece
     → IsFormatOfBares (pieces ++ piece ∷ []) p
-bares_absent pieces piece p h e = grind (arith, append-nil, bares_more)
+bare_params_absent pieces piece p h e = grind (arith, append-nil, bare_params_more)
 
-pub line_of : (line : List ℕ) (params : List FormatParam) (p q : FormatParams) → IsFormatOfBares (pieces line) p
-    → AreRead (pairs_in (pieces line)) params → q ≡ set_all p params → IsFormatOfLine line q
-line_of line params p q h are e = grind (arith, set_all-append)
+pub format_of_line_is : (line : List ℕ) (params : List FormatParam) (p q : FormatParams) → IsFormatOfBares (pieces line) p
+    → ArePairsRead (pairs_in (pieces line)) params → q ≡ set_all p params → IsFormatOfLine line q
+format_of_line_is line params p q h are e = grind (arith, set_all-append)

@@ -6,43 +6,47 @@ use Rattle.str0m_formats.proofs.Common.{◌≡◌, ◌≢◌, ◌≤◌, ◌<◌
 use Rattle.str0m_formats.proofs.Common.{refl, sym, ap, ◌∙◌, arith, lit<, decimal, AllDigits, digits_value, decimal_is_IsNumeral}
 use Rattle.str0m_formats.proofs.Common.{digits_is_IsNumeral, length-append, false≢true, IsNumber, IsNum, IsRest, Option, Some, None}
 use Rattle.str0m_formats.proofs.Common.{MatchOption, nat_le, inr, ◌==◌, ◌&&◌, and_parts, cases_lt, eqb-true, leb-true, zero, suc, IsNumeral}
-use Rattle.str0m_formats.proofs.format.FormatParamLaws.{spelled, parsed_only}
+use Rattle.str0m_formats.proofs.format.FormatParamLaws.{param_spelled, parsed_param_only}
 use Rattle.str0m_formats.proofs.format.FormatParamModes.{modes_only}
 use Rattle.str0m_formats.specs.declared.format.format_key.FormatKey.{FormatKey}
 use Rattle.str0m_formats.specs.declared.format.format_param.FormatParam.{FormatParam}
 use Rattle.str0m_formats.specs.format.FormatKey.{key_text}
-use Rattle.str0m_formats.specs.format.FormatParam.{Kind, flag, number, hex, modes, exactly, anything, Held, ReadsKind, kind, keyed, entry}
-use Rattle.str0m_formats.specs.format.FormatParam.{IsParsed, IsPrinted, InRange, IsModeSet, flag_text, six_digits, mode_list, value_text}
+use Rattle.str0m_formats.specs.format.FormatParam.{Kind, flag, number, hex, modes, exactly, anything, HeldParamValue, ReadsKind, kind}
+use Rattle.str0m_formats.specs.format.FormatParam.{keyed}
+use Rattle.str0m_formats.specs.format.FormatParam.{entry}
+use Rattle.str0m_formats.specs.format.FormatParam.{IsParsedParam, IsPrintedParam, IsParamInRange, IsModeSet, param_flag_text}
+use Rattle.str0m_formats.specs.format.FormatParam.{param_six_digits, mode_list}
+use Rattle.str0m_formats.specs.format.FormatParam.{param_value_text}
 use Rattle.str0m_formats.specs.format.FormatParamReading.{modes_read, param_of}
 
 -- a numeral begins with no plus
-digits_no_plus : (radix : ℕ) (ds : List ℕ) → radix ≤ 16 → AllDigits radix ds → get_or ds 0 0 ≢ 43
-digits_no_plus radix [] small h e = omega arith
-digits_no_plus radix (c ∷ cs) small h e = grind arith
+param_digits_no_plus : (radix : ℕ) (ds : List ℕ) → radix ≤ 16 → AllDigits radix ds → get_or ds 0 0 ≢ 43
+param_digits_no_plus radix [] small h e = omega arith
+param_digits_no_plus radix (c ∷ cs) small h e = grind arith
 
 -- digits read as their value
-as_number : (limit radix : ℕ) (text : List ℕ) (n : ℕ) → radix ≤ 16 → IsNumeral radix text → digits_value radix text ≡ n → n ≤ limit
+param_as_number : (limit radix : ℕ) (text : List ℕ) (n : ℕ) → radix ≤ 16 → IsNumeral radix text → digits_value radix text ≡ n → n ≤ limit
     → IsNumber radix limit text n
-as_number limit radix text n small numeral value fits = grind arith
+param_as_number limit radix text n small numeral value fits = grind arith
 
 -- a printed number reads as itself
-pub decimal_reads : (limit n : ℕ) → n ≤ limit → n < 2 ^ 64 → IsNum limit (decimal n) n
-decimal_reads limit n fits small = grind (arith, decimal_is_IsNumeral n small, as_number limit 10 (decimal n) n)
+pub param_decimal_reads : (limit n : ℕ) → n ≤ limit → n < 2 ^ 64 → IsNum limit (decimal n) n
+param_decimal_reads limit n fits small = grind (arith, decimal_is_IsNumeral n small, param_as_number limit 10 (decimal n) n)
 
 -- zeros in front change no value
-zeros_digits : (k : ℕ) (ds : List ℕ) → AllDigits 16 ds → AllDigits 16 (replicate k 48 ++ ds)
-zeros_digits zero ds h = h
-zeros_digits (suc k) ds h = (lit< tt, zeros_digits k ds h)
+param_zeros_digits : (k : ℕ) (ds : List ℕ) → AllDigits 16 ds → AllDigits 16 (replicate k 48 ++ ds)
+param_zeros_digits zero ds h = h
+param_zeros_digits (suc k) ds h = (lit< tt, param_zeros_digits k ds h)
 
-zeros_value : (k : ℕ) (ds : List ℕ) → digits_value 16 (replicate k 48 ++ ds) ≡ digits_value 16 ds
-zeros_value zero ds = refl
-zeros_value (suc k) ds = zeros_value k ds
+param_zeros_value : (k : ℕ) (ds : List ℕ) → digits_value 16 (replicate k 48 ++ ds) ≡ digits_value 16 ds
+param_zeros_value zero ds = refl
+param_zeros_value (suc k) ds = param_zeros_value k ds
 
-pub six_digits_reads : (n : ℕ) → n ≤ 4294967295 → IsNumber 16 4294967295 (six_digits n) n
-six_digits_reads n fits = grind (arith, digits_is_IsNumeral, as_number, length-append, zeros_digits, zeros_value)
+pub param_six_digits_reads : (n : ℕ) → n ≤ 4294967295 → IsNumber 16 4294967295 (param_six_digits n) n
+param_six_digits_reads n fits = grind (arith, digits_is_IsNumeral, param_as_number, length-append, param_zeros_digits, param_zeros_value)
 
-flag_reads : (b : Bool) → ReadsKind flag (flag_text b) b
-flag_reads b = grind arith
+param_flag_reads : (b : Bool) → ReadsKind flag (param_flag_text b) b
+param_flag_reads b = grind arith
 
 mask_reads_back : ℕ → Option ℕ → Bool
 mask_reads_back mask None = false
@@ -86,41 +90,43 @@ pub modes_filled : (mask : ℕ) → (0 < mask) × (mask ≤ 511) → IsRest (mod
 modes_filled mask h = text_of_modes (mode_list mask) mask (mask_reads 511 mask all_masks h.0 h.1)
 
 -- the limits of the table have 32 bits
-abbrev pub is_small : Kind → Bool
-is_small (number limit) = nat_le limit 4294967295
-is_small k = true
+abbrev pub param_is_kind_small : Kind → Bool
+param_is_kind_small (number limit) = nat_le limit 4294967295
+param_is_kind_small k = true
 
-pub key_small : (k : FormatKey) → is_small (kind k) ≡ true
+pub key_small : (k : FormatKey) → param_is_kind_small (kind k) ≡ true
 key_small k = grind arith
 
-pub limit_small : (limit n : ℕ) → is_small (number limit) ≡ true → n ≤ limit → n ≤ 4294967295
-limit_small limit n small h = let le : limit ≤ 4294967295 = leb-true limit 4294967295 small in omega arith
+pub param_limit_small : (limit n : ℕ) → param_is_kind_small (number limit) ≡ true → n ≤ limit → n ≤ 4294967295
+param_limit_small limit n small h = let le : limit ≤ 4294967295 = leb-true limit 4294967295 small in omega arith
 
 -- a printed value reads as itself
-value_reads : (k : Kind) (x : Held k) → is_small k ≡ true → InRange k x → ReadsKind k (value_text k x) x
-value_reads flag b small h = flag_reads b
-value_reads (number limit) n small h = let le = limit_small limit n small h in decimal_reads limit n h (omega (arith, le))
-value_reads hex n small h = inl (six_digits_reads n h)
-value_reads modes mask small h = mode_set_reads mask h
-value_reads (exactly own) x small h = absurd h
-value_reads anything x small h = absurd h
+param_value_reads : (k : Kind) (x : HeldParamValue k) → param_is_kind_small k ≡ true → IsParamInRange k x
+    → ReadsKind k (param_value_text k x) x
+param_value_reads flag b small h = param_flag_reads b
+param_value_reads (number limit) n small h = let le = param_limit_small limit n small h in param_decimal_reads limit n h (omega (arith, le))
+param_value_reads hex n small h = inl (param_six_digits_reads n h)
+param_value_reads modes mask small h = mode_set_reads mask h
+param_value_reads (exactly own) x small h = absurd h
+param_value_reads anything x small h = absurd h
 
 -- what a key and its value print is read as the parameter that holds them
-pub key_reads : (k : FormatKey) (x : Held (kind k)) → InRange (kind k) x → param_of (key_text k, value_text (kind k) x) ≡ keyed k x
-key_reads k x h = sym (spelled (key_text k) (value_text (kind k) x) (keyed k x)
-    (k, refl, (x, refl, value_reads (kind k) x (key_small k) h)))
+pub key_reads : (k : FormatKey) (x : HeldParamValue (kind k)) → IsParamInRange (kind k) x
+    → param_of (key_text k, param_value_text (kind k) x) ≡ keyed k x
+key_reads k x h = sym (param_spelled (key_text k) (param_value_text (kind k) x) (keyed k x)
+    (k, refl, (x, refl, param_value_reads (kind k) x (key_small k) h)))
 
 -- the table and the keys of parameters agree
 pub entry_made : (param : FormatParam) → MatchOption (entry param) (Unit {0}) (λ e. param ≡ keyed e.0 e.1)
 entry_made param = grind arith
 
 -- what a parameter of the table prints is read as that parameter
-pub parsed_printed : (key_as value : List ℕ) (r : FormatParam) → IsParsed (key_as, value) r → (p : FormatParam)
-    → IsPrinted p (key_as, value) → r ≡ p
-parsed_printed key_as value r h p printed = parsed_only key_as value r h ∙ reads (entry p) (entry_made p) printed
+pub parsed_param_printed : (key_as value : List ℕ) (r : FormatParam) → IsParsedParam (key_as, value) r → (p : FormatParam)
+    → IsPrintedParam p (key_as, value) → r ≡ p
+parsed_param_printed key_as value r h p printed = parsed_param_only key_as value r h ∙ reads (entry p) (entry_made p) printed
   where
-    reads : (o : Option ((k : FormatKey) × Held (kind k))) → MatchOption o (Unit {0}) (λ e. p ≡ keyed e.0 e.1)
-        → MatchOption o ⊥ (λ e. (key_as ≡ key_text e.0) × (value ≡ value_text (kind e.0) e.1) × InRange (kind e.0) e.1)
+    reads : (o : Option ((k : FormatKey) × HeldParamValue (kind k))) → MatchOption o (Unit {0}) (λ e. p ≡ keyed e.0 e.1)
+        → MatchOption o ⊥ (λ e. (key_as ≡ key_text e.0) × (value ≡ param_value_text (kind e.0) e.1) × IsParamInRange (kind e.0) e.1)
         → param_of (key_as, value) ≡ p
     reads None is printed = absurd printed
     reads (Some e) is printed = (λ i. param_of (printed.0 i, printed.1 i)) ∙ key_reads e.0 e.1 printed.2 ∙ sym is

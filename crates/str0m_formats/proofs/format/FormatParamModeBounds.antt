@@ -7,8 +7,8 @@ use Rattle.str0m_formats.specs.format.FormatParam.{IsMask, IsModeSet}
 use Rattle.str0m_formats.specs.row.PlainRowBounds.{AreModes}
 
 -- a number without the bits from the ninth on
-below_ninth : (n : ℕ) → ((k : ℕ) → 9 ≤ k → bit_at n k ≡ 0) → n ≤ 511
-below_ninth n clear =
+mode_mask_below_ninth : (n : ℕ) → ((k : ℕ) → 9 ≤ k → bit_at n k ≡ 0) → n ≤ 511
+mode_mask_below_ninth n clear =
     let high = n / 512 in
     let low = n % 512 in
     let whole : n ≡ high * 2 ^ 9 + low = omega arith in
@@ -20,7 +20,7 @@ below_ninth n clear =
 
 -- a set of modes has one at least, and none above 8
 mask_within : (pieces : List (List ℕ)) (mask : ℕ) → 0 < length pieces → IsMask pieces mask → AreModes mask
-mask_within pieces mask some is = (positive, below_ninth mask clear)
+mask_within pieces mask some is = (positive, mode_mask_below_ninth mask clear)
   where
     first : List ℕ
     first = get_or pieces 0 []

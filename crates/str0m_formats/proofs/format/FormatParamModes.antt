@@ -7,15 +7,15 @@ use Rattle.str0m_formats.proofs.Common.{bit_at_set_same, bit_at_set_other, same_
 use Rattle.str0m_formats.proofs.Common.{◌>>=◌, num, trim, slice_split, append_assoc, append-nil, Any, IsBitSet, w16, get_or_append_left}
 use Rattle.str0m_formats.proofs.Common.{pow_pos, bit_or}
 use Rattle.str0m_formats.proofs.format.FormatParamOnly.{only_same}
-use Rattle.str0m_formats.proofs.format.ParamTextPrinted.{shifted_one}
+use Rattle.str0m_formats.proofs.format.ParamTextPrinted.{param_mode_shifted}
 use Rattle.str0m_formats.specs.format.FormatParam.{IsMode, IsMask, IsModeSet}
 use Rattle.str0m_formats.specs.format.FormatParamReading.{modes_from, modes_read}
 
-pub Any-more : {X : Type 0} (P : X → Type 0) (xs : List X) (y : X) → Any P xs → Any P (xs ++ y ∷ [])
-Any-more P xs y (k, x, lt, is, p) = (k, x, omega (arith, length-append xs (y ∷ [])), get_or_append_left xs (y ∷ []) x k lt ∙ is, p)
+pub AnyMode-more : {X : Type 0} (P : X → Type 0) (xs : List X) (y : X) → Any P xs → Any P (xs ++ y ∷ [])
+AnyMode-more P xs y (k, x, lt, is, p) = (k, x, omega (arith, length-append xs (y ∷ [])), get_or_append_left xs (y ∷ []) x k lt ∙ is, p)
 
-pub Any-cases : {X : Type 0} (P : X → Type 0) (xs : List X) (y : X) → Any P (xs ++ y ∷ []) → Any P xs ⊎ P y
-Any-cases P xs y (k, x, lt, is, p) =
+pub AnyMode-cases : {X : Type 0} (P : X → Type 0) (xs : List X) (y : X) → Any P (xs ++ y ∷ []) → Any P xs ⊎ P y
+AnyMode-cases P xs y (k, x, lt, is, p) =
     elim (cases_lt k (length xs)) [
       | inl below ↦ inl (k, x, below, sym (get_or_append_left xs (y ∷ []) x k below) ∙ is, p)
       | inr last ↦
@@ -44,14 +44,14 @@ mask_push pieces piece mask mode h is_mode = record {
   bits = λ k. (
     λ set. elim (eqb_tells k mode) [
       | inl same ↦ Any-push (λ p. IsMode p k) pieces piece (subst (λ n. IsMode piece n) (sym same.1) is_mode)
-      | inr other ↦ Any-more (λ p. IsMode p k) pieces piece
+      | inr other ↦ AnyMode-more (λ p. IsMode p k) pieces piece
           ((h.bits k).0 (bit_at_set mask k (sym (bit_at_set_other w16 mask mode (omega (arith, is_mode.fits)) k other.1)
           ∙ bit_set_at _ k set)))
     ],
     λ any. elim (eqb_tells k mode) [
       | inl same ↦ bit_at_set _ k (rw same.1 (bit_at_set_same w16 mask mode (omega (arith, is_mode.fits))))
       | inr other ↦ bit_at_set _ k (bit_at_set_other w16 mask mode (omega (arith, is_mode.fits)) k other.1
-          ∙ bit_set_at mask k ((h.bits k).1 (elim (Any-cases (λ p. IsMode p k) pieces piece any) [
+          ∙ bit_set_at mask k ((h.bits k).1 (elim (AnyMode-cases (λ p. IsMode p k) pieces piece any) [
             | inl before ↦ before
             | inr here ↦ absurd (other.1 (mode_same piece k mode here is_mode))
           ])))
@@ -99,7 +99,7 @@ modes_from_only done (piece ∷ more) mask h = step done piece more mask h (num 
     }
     step done piece more mask h (Some mode) is then =
         let pushed : IsMask (done ++ piece ∷ []) (bit_or mask (2 ^ mode)) =
-        subst (λ (b : ℕ). IsMask (done ++ piece ∷ []) (bit_or mask b)) (shifted_one mode (omega (arith, is.found.fits)))
+        subst (λ (b : ℕ). IsMask (done ++ piece ∷ []) (bit_or mask b)) (param_mode_shifted mode (omega (arith, is.found.fits)))
         (mask_push done piece mask mode h is.found) in
         subst (λ (ps : List (List ℕ)). IsTheOnly (IsMask ps) (modes_from (bit_or mask (2 ^ mode)) more))
         (append_assoc done (piece ∷ []) more) (then (bit_or mask (2 ^ mode)) pushed)

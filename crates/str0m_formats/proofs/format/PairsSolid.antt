@@ -8,14 +8,14 @@ use Rattle.str0m_formats.proofs.Common.{skip_leading_whitespace, drop_trailing_w
 
 -- ---- what holds of all small numbers
 
-unfoldable pub below : (ℕ → Bool) → ℕ → Bool
-below test zero = true
-below test (suc n) = test n && below test n
+unfoldable pub pair_bytes_pass_below : (ℕ → Bool) → ℕ → Bool
+pair_bytes_pass_below test zero = true
+pair_bytes_pass_below test (suc n) = test n && pair_bytes_pass_below test n
 
-pub below_at : (test : ℕ → Bool) (n k : ℕ) → below test n ≡ true → k < n → test k ≡ true
-unfolding below
-below_at test zero k e lt = absurd (omega arith)
-below_at test (suc n) k e lt = grind (arith, and_parts, cases_lt, below_at test n k)
+pub pair_bytes_pass_below_at : (test : ℕ → Bool) (n k : ℕ) → pair_bytes_pass_below test n ≡ true → k < n → test k ≡ true
+unfolding pair_bytes_pass_below
+pair_bytes_pass_below_at test zero k e lt = absurd (omega arith)
+pair_bytes_pass_below_at test (suc n) k e lt = grind (arith, and_parts, cases_lt, pair_bytes_pass_below_at test n k)
 
 -- ---- solid bytes
 
@@ -33,16 +33,16 @@ pub solid_append : (xs ys : List ℕ) → IsSolid xs → IsSolid ys → IsSolid 
 solid_append [] ys h k = k
 solid_append (x ∷ xs) ys h k = (h.0, solid_append xs ys h.1 k)
 
-low : (b : ℕ) → is_solid b ≡ true → b < 127
-low b e = grind arith
+solid_is_low : (b : ℕ) → is_solid b ≡ true → b < 127
+solid_is_low b e = grind arith
 
 -- ---- digits
 
-or_right : (a b : Bool) → (not a || b) ≡ true → a ≡ true → b ≡ true
-or_right a b e h = grind arith
+pair_bytes_or_right : (a b : Bool) → (not a || b) ≡ true → a ≡ true → b ≡ true
+pair_bytes_or_right a b e h = grind arith
 
-high : (c : ℕ) → 123 ≤ c → digit_value c ≡ 36
-high c le = grind (arith, tests)
+pair_high_is_no_digit : (c : ℕ) → 123 ≤ c → digit_value c ≡ 36
+pair_high_is_no_digit c le = grind (arith, tests)
 
 digit_solid : (c : ℕ) → digit_value c < 16 → is_solid c ≡ true
 digit_solid c h = grind arith
@@ -57,42 +57,42 @@ pub solid_lacks : (c : ℕ) (text : List ℕ) → is_solid c ≡ false → IsSol
 solid_lacks c [] other h = tt
 solid_lacks c (b ∷ bs) other h = ((λ e. false≢true (sym other ∙ ap is_solid (sym e) ∙ h.0)), solid_lacks c bs other h.1)
 
-free_more : (c b : ℕ) (bs : List ℕ) → b ≢ c → All (λ b. (b == c) ≡ false) bs → All (λ b. (b == c) ≡ false) (b ∷ bs)
-free_more c b bs other rest o d lt = grind arith
+pair_text_free_more : (c b : ℕ) (bs : List ℕ) → b ≢ c → All (λ b. (b == c) ≡ false) bs → All (λ b. (b == c) ≡ false) (b ∷ bs)
+pair_text_free_more c b bs other rest o d lt = grind arith
 
-pub lacks_free : (c : ℕ) (text : List ℕ) → Lacks c text → All (λ b. (b == c) ≡ false) text
-lacks_free c [] h = λ k d lt. absurd (omega arith)
-lacks_free c (b ∷ bs) h = free_more c b bs h.0 (lacks_free c bs h.1)
+pub pair_text_lacks_free : (c : ℕ) (text : List ℕ) → Lacks c text → All (λ b. (b == c) ≡ false) text
+pair_text_lacks_free c [] h = λ k d lt. absurd (omega arith)
+pair_text_lacks_free c (b ∷ bs) h = pair_text_free_more c b bs h.0 (pair_text_lacks_free c bs h.1)
 
 -- ---- trimming
 
-dark : below (λ b. not (is_solid b) || not (is_whitespace b)) 127 ≡ true
-unfolding below
-dark = refl
+solid_is_dark : pair_bytes_pass_below (λ b. not (is_solid b) || not (is_whitespace b)) 127 ≡ true
+unfolding pair_bytes_pass_below
+solid_is_dark = refl
 
-dark_at : (b : ℕ) → is_solid b ≡ true → is_whitespace b ≡ false
-dark_at b h = grind (arith, not-true, or_right, below_at, dark, low)
+solid_is_dark_at : (b : ℕ) → is_solid b ≡ true → is_whitespace b ≡ false
+solid_is_dark_at b h = grind (arith, not-true, pair_bytes_or_right, pair_bytes_pass_below_at, solid_is_dark, solid_is_low)
 
 solid_ascii : (text : List ℕ) → IsSolid text → IsAscii text
 solid_ascii [] h i = omega arith
-solid_ascii (b ∷ bs) h zero = let lt = low b h.0 in omega arith
+solid_ascii (b ∷ bs) h zero = let lt = solid_is_low b h.0 in omega arith
 solid_ascii (b ∷ bs) h (suc i) = solid_ascii bs h.1 i
 
-skipped : (text : List ℕ) → IsSolid text → skip_leading_whitespace text ≡ text
-skipped [] h = refl
-skipped (b ∷ bs) h = rw (dark_at b h.0) refl
+solid_not_skipped : (text : List ℕ) → IsSolid text → skip_leading_whitespace text ≡ text
+solid_not_skipped [] h = refl
+solid_not_skipped (b ∷ bs) h = rw (solid_is_dark_at b h.0) refl
 
-dropped : (text : List ℕ) → IsSolid text → drop_trailing_whitespace text ≡ text
-dropped [] h = refl
-dropped (b ∷ bs) h = rw (dark_at b h.0) (ap (λ (t : List ℕ). b ∷ t) (dropped bs h.1))
+solid_not_dropped : (text : List ℕ) → IsSolid text → drop_trailing_whitespace text ≡ text
+solid_not_dropped [] h = refl
+solid_not_dropped (b ∷ bs) h = rw (solid_is_dark_at b h.0) (ap (λ (t : List ℕ). b ∷ t) (solid_not_dropped bs h.1))
 
 start_solid : (text : List ℕ) → IsSolid text → trim_start text ≡ text
 unfolding trim_start
-start_solid text h = grind (arith, solid_ascii, chars-IsAscii, skipped, encodes-IsAscii)
+start_solid text h = grind (arith, solid_ascii, chars-IsAscii, solid_not_skipped, encodes-IsAscii)
 
 end_solid : (text : List ℕ) → IsSolid text → trim_end text ≡ text
 unfolding trim_end
-end_solid text h = grind (arith, solid_ascii, chars-IsAscii, dropped, encodes-IsAscii)
+end_solid text h = grind (arith, solid_ascii, chars-IsAscii, solid_not_dropped, encodes-IsAscii)
 
 pub trim_solid : (text : List ℕ) → IsSolid text → trim text ≡ text
 trim_solid text h = ap trim_end (start_solid text h) ∙ end_solid text h

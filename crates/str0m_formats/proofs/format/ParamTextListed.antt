@@ -6,27 +6,27 @@ use Rattle.str0m_formats.specs.declared.format.format_param.FormatParam.{FormatP
 use Rattle.str0m_formats.specs.declared.format.format_params.Field.{Field}
 use Rattle.str0m_formats.specs.declared.format.format_params.FormatParams.{FormatParams}
 use Rattle.str0m_formats.specs.declared.format.format_params.TheConstants.{FIELDS}
-use Rattle.str0m_formats.specs.format.FormatParam.{param_text, part_if}
+use Rattle.str0m_formats.specs.format.FormatParam.{param_text, param_part_if}
 use Rattle.str0m_formats.specs.format.FormatParams.{param_at, params_text, params_of}
 
 unfoldable pub listed : {A : Type 0} → ℕ → (A → List ℕ) → List A → List ℕ
 listed c text xs = join_with_byte c (map text xs)
 
-unfoldable pub has_some : {A : Type 0} → List A → Bool
-has_some [] = false
-has_some (x ∷ xs) = true
+unfoldable pub param_list_has_some : {A : Type 0} → List A → Bool
+param_list_has_some [] = false
+param_list_has_some (x ∷ xs) = true
 
 pub listed_push : {A : Type 0} (c : ℕ) (text : A → List ℕ) (xs : List A) (x : A)
-    → listed c text (xs ++ x ∷ []) ≡ listed c text xs ++ (part_if c (has_some xs) ++ text x)
-unfolding listed has_some
+    → listed c text (xs ++ x ∷ []) ≡ listed c text xs ++ (param_part_if c (param_list_has_some xs) ++ text x)
+unfolding listed param_list_has_some
 listed_push c text [] x = refl
 listed_push c text (y ∷ []) x = refl
 listed_push c text (y ∷ z ∷ xs) x = grind (arith, listed_push c text (z ∷ xs) x, append_assoc)
 
-pub has_some_push : {A : Type 0} (xs : List A) (x : A) → has_some (xs ++ x ∷ []) ≡ true
-unfolding has_some
-has_some_push [] x = refl
-has_some_push (y ∷ xs) x = refl
+pub param_list_has_some_push : {A : Type 0} (xs : List A) (x : A) → param_list_has_some (xs ++ x ∷ []) ≡ true
+unfolding param_list_has_some
+param_list_has_some_push [] x = refl
+param_list_has_some_push (y ∷ xs) x = refl
 
 -- ---- the parameters of the first n fields
 

@@ -6,8 +6,8 @@ use Rattle.str0m_formats.proofs.Common.{or-true, find-append, nat_tests, min, bi
 use Rattle.str0m_formats.proofs.Common.{bit_at_or, bit_at_not, bit_at_above, bit_at-trailing_zeros, bit_at_cat_low, bit_at_mask_inside}
 use Rattle.str0m_formats.proofs.Common.{bit_and}
 use Rattle.str0m_formats.proofs.round.ClaimedRanges.{find-range_skips, find-range_cut, find-range_here}
-use Rattle.str0m_formats.specs.round.ClaimMask.{bit_set, least_bit}
-use Rattle.str0m_formats.specs.round.Claimed.{free, free_order}
+use Rattle.str0m_formats.specs.round.ClaimMask.{bit_set, least_claim_bit}
+use Rattle.str0m_formats.specs.round.Claimed.{free, claim_order}
 
 -- ---- one type
 
@@ -36,9 +36,9 @@ free_bit a b i h l = grind (arith, bit_at_not w128 (bit_or a b) i h l, bit_at_or
 -- ---- the least type
 
 -- it is where the zeros end
-pub least-trailing : (n : ℕ) → 0 < n → n < 2 ^ 128 → Some (trailing_zeros w128 n) ≡ least_bit n
-unfolding least_bit
-least-trailing n h l =
+pub least_claim_bit-trailing : (n : ℕ) → 0 < n → n < 2 ^ 128 → Some (trailing_zeros w128 n) ≡ least_claim_bit n
+unfolding least_claim_bit
+least_claim_bit-trailing n h l =
     let ends = bit_at-trailing_zeros w128 n h l in
     let k = trailing_zeros w128 n in
     let e : 0 + k ≡ k = omega arith in
@@ -46,18 +46,18 @@ least-trailing n h l =
     ∙ find-range_here (bit_set n) (0 + k) 128 (omega (arith, ends.0)) (ap (bit_set n) e ∙ eq-eqb (bit_at n k) 1 ends.1)
     ∙ ap (λ x. Some x) e)
 
-pub least-zero : least_bit 0 ≡ None
-unfolding least_bit
-least-zero = refl
+pub least_claim_bit-zero : least_claim_bit 0 ≡ None
+unfolding least_claim_bit
+least_claim_bit-zero = refl
 
 -- a mask of d ones, the least of them at lo
-abbrev IsRun : ℕ → ℕ → ℕ → Type 0
-IsRun mask lo d = (mask ≡ (2 ^ d - 1) * 2 ^ lo + 0) × (mask ≡ 2 ^ (lo + d) - 2 ^ lo) × (mask < 2 ^ (lo + d)) × (lo + d ≤ 128)
+abbrev IsBitRun : ℕ → ℕ → ℕ → Type 0
+IsBitRun mask lo d = (mask ≡ (2 ^ d - 1) * 2 ^ lo + 0) × (mask ≡ 2 ^ (lo + d) - 2 ^ lo) × (mask < 2 ^ (lo + d)) × (lo + d ≤ 128)
 
 -- the least type under it is the first of a range that passes
-least_masked : (bits mask : ℕ) (q : ℕ → Bool) (lo d : ℕ) → IsRun mask lo d → ((i : ℕ) → i < 128 → bit_set bits i ≡ q i)
-    → least_bit (bit_and bits mask) ≡ find q (range_with_len lo d)
-unfolding least_bit
+least_masked : (bits mask : ℕ) (q : ℕ → Bool) (lo d : ℕ) → IsBitRun mask lo d → ((i : ℕ) → i < 128 → bit_set bits i ≡ q i)
+    → least_claim_bit (bit_and bits mask) ≡ find q (range_with_len lo d)
+unfolding least_claim_bit
 least_masked bits mask q lo d run agree =
     let p = bit_set (bit_and bits mask) in
     let begin : 0 + lo ≡ lo = omega arith in
@@ -85,16 +85,16 @@ least_masked bits mask q lo d run agree =
 
 -- ---- the first free type
 
-find_four : (p : ℕ → Bool) (a b c d : List ℕ)
+mask_find_four : (p : ℕ → Bool) (a b c d : List ℕ)
     → option_or (option_or (option_or (find p a) (find p b)) (find p c)) (find p d) ≡ find p (a ++ (b ++ (c ++ (d ++ []))))
-find_four p a b c d = grind (arith, find-append)
+mask_find_four p a b c d = grind (arith, find-append)
 
 -- it is the least type in neither set under the mask of the first range that has one
 pub free-from_masks : (a b bits : ℕ) → bits ≡ bit_not w128 (bit_or a b) → a < 2 ^ 128 → b < 2 ^ 128
-    → option_or (option_or (option_or (least_bit (bit_and bits 0xffff_ffff_0000_0000_0000_0000_0000_0000))
-    (least_bit (bit_and bits 0xffff_0000_0000_0000_0000_0000))) (least_bit (bit_and bits 0x6000_0000_0000_0000_0000)))
-    (least_bit (bit_and bits 0xff_ffff_fff8_0000_0000)) ≡ free (λ t. bit_set a t || bit_set b t)
-unfolding free_order
+    → option_or (option_or (option_or (least_claim_bit (bit_and bits 0xffff_ffff_0000_0000_0000_0000_0000_0000))
+    (least_claim_bit (bit_and bits 0xffff_0000_0000_0000_0000_0000))) (least_claim_bit (bit_and bits 0x6000_0000_0000_0000_0000)))
+    (least_claim_bit (bit_and bits 0xff_ffff_fff8_0000_0000)) ≡ free (λ t. bit_set a t || bit_set b t)
+unfolding claim_order
 free-from_masks a b bits e ha hb =
     rw (
       least_masked bits 0xffff_ffff_0000_0000_0000_0000_0000_0000 q 96 32 (refl, refl, lit< tt, omega arith) agree,
@@ -102,7 +102,7 @@ free-from_masks a b bits e ha hb =
       least_masked bits 0x6000_0000_0000_0000_0000 q 77 2 (refl, refl, lit< tt, omega arith) agree,
       least_masked bits 0xff_ffff_fff8_0000_0000 q 35 37 (refl, refl, lit< tt, omega arith) agree,
     )
-    (find_four q (range_with_len 96 32) (range_with_len 80 16) (range_with_len 77 2) (range_with_len 35 37)) where
+    (mask_find_four q (range_with_len 96 32) (range_with_len 80 16) (range_with_len 77 2) (range_with_len 35 37)) where
       q : ℕ → Bool
       q t = not (bit_set a t || bit_set b t)
 

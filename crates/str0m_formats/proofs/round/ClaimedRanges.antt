@@ -36,22 +36,24 @@ find-range_cut p q n (suc d) s h same fails =
     ∙ ap (λ o. cond (q s) (Some s) o) rest
 
 -- a list of one value, read anywhere with that value as the default
-pub get_or-replicate_same : {A : Type 0} (n : ℕ) (a : A) (i : ℕ) → get_or (replicate n a) i a ≡ a
-get_or-replicate_same zero a i = refl
-get_or-replicate_same (suc n) a zero = refl
-get_or-replicate_same (suc n) a (suc i) = get_or-replicate_same n a i
+pub claimed_get_or-replicate_same : {A : Type 0} (n : ℕ) (a : A) (i : ℕ) → get_or (replicate n a) i a ≡ a
+claimed_get_or-replicate_same zero a i = refl
+claimed_get_or-replicate_same (suc n) a zero = refl
+claimed_get_or-replicate_same (suc n) a (suc i) = claimed_get_or-replicate_same n a i
 
 -- what is found in a list of lists, from a place on: in the list there, or after it
-pub find-flat_map_here : (p : ℕ → Bool) {A : Type 0} (f : A → List ℕ) (xs : List A) (i : ℕ) (d : A) (found : Option ℕ) → i < length xs
+pub claimed_find-flat_map_here : (p : ℕ → Bool) {A : Type 0} (f : A → List ℕ) (xs : List A) (i : ℕ) (d : A) (found : Option ℕ)
+    → i < length xs
     → found ≡ find p (f (get_or xs i d)) → is_some found ≡ true → found ≡ find p (flat_map f (drop i xs))
-find-flat_map_here p f xs i d None h e s = absurd (true≢false (sym s))
-find-flat_map_here p f xs i d (Some y) h e s =
+claimed_find-flat_map_here p f xs i d None h e s = absurd (true≢false (sym s))
+claimed_find-flat_map_here p f xs i d (Some y) h e s =
     sym (at_drop_more (λ ys. find p (flat_map f ys)) xs i d h ∙ find-append p (f (get_or xs i d)) (flat_map f (drop (i + 1) xs))
     ∙ rw (← e) refl)
 
-pub find-flat_map_more : (p : ℕ → Bool) {A : Type 0} (f : A → List ℕ) (xs : List A) (i : ℕ) (d : A) (found : Option ℕ) → i < length xs
+pub claimed_find-flat_map_more : (p : ℕ → Bool) {A : Type 0} (f : A → List ℕ) (xs : List A) (i : ℕ) (d : A) (found : Option ℕ)
+    → i < length xs
     → found ≡ find p (f (get_or xs i d)) → is_some found ≡ false → find p (flat_map f (drop (i + 1) xs)) ≡ find p (flat_map f (drop i xs))
-find-flat_map_more p f xs i d (Some y) h e s = absurd (true≢false s)
-find-flat_map_more p f xs i d None h e s =
+claimed_find-flat_map_more p f xs i d (Some y) h e s = absurd (true≢false s)
+claimed_find-flat_map_more p f xs i d None h e s =
     sym (at_drop_more (λ ys. find p (flat_map f ys)) xs i d h ∙ find-append p (f (get_or xs i d)) (flat_map f (drop (i + 1) xs))
     ∙ rw (← e) refl)

@@ -5,7 +5,7 @@ use Rattle.str0m_formats.specs.declared.codec.Codec.TheVariants.{Tele}
 use Rattle.str0m_formats.specs.declared.codec.codec_spec.CodecSpec.{CodecSpec}
 use Rattle.str0m_formats.specs.declared.row.payload_params.PayloadParams.{PayloadParams}
 use Rattle.str0m_formats.specs.round.Narrowing.{narrowed, telephone_max}
-use Rattle.str0m_formats.specs.round.Rounds.{Leaves}
+use Rattle.str0m_formats.specs.round.Rounds.{RoundLeaves}
 use Rattle.str0m_formats.specs.round.RoundsPromises.{TelephoneNarrows}
 
 -- a telephone format stays one, and its maximum doesn't grow
@@ -24,5 +24,5 @@ narrowed-narrows own chosen tele = grind arith
 
 -- a round doesn't raise the maximum of a telephone row
 pub telephone_narrows : (before remote : List PayloadParams) (receives : Bool) (after : List PayloadParams)
-    → Leaves before remote receives after → TelephoneNarrows before after
+    → RoundLeaves before remote receives after → TelephoneNarrows before after
 telephone_narrows = round_holds Narrows narrows-same (λ own chosen fits. narrowed-narrows own chosen)

@@ -2,26 +2,27 @@
 use Rattle.str0m_formats.proofs.Common.{arith, rules, ◌≡◌, ◌≢◌, Bool, List, Ok, Err, OnOk, OnErr, IfErr, on_ok_weaker, on_err_weaker}
 use Rattle.str0m_formats.proofs.round.NarrowingLevels.{levels_narrow}
 use Rattle.str0m_formats.proofs.round.NarrowingTelephone.{telephone_narrows}
-use Rattle.str0m_formats.proofs.round.RoundsCounting.{never_exhausted}
+use Rattle.str0m_formats.proofs.round.RoundsCounting.{round_never_exhausted}
 use Rattle.str0m_formats.proofs.round.RoundsDistinct.{distinct_stay}
 use Rattle.str0m_formats.proofs.round.RoundsInvariants.{locked_alone}
 use Rattle.str0m_formats.proofs.round.RoundsLocked.{locked_stay}
 use Rattle.str0m_formats.proofs.round.RoundsMatched.{matched_are_locked, locked_at_best}
 use Rattle.str0m_formats.proofs.round.RoundsMemory.{only_for_memory}
-use Rattle.str0m_formats.proofs.round.RoundsOutcome.{leaves_only, refused_only}
+use Rattle.str0m_formats.proofs.round.RoundsOutcome.{round_leaves_only, round_refused_only}
 use Rattle.str0m_formats.proofs.round.RoundsPlain.{plain_stay}
-use Rattle.str0m_formats.proofs.round.RoundsRunSteps.{ran_from}
+use Rattle.str0m_formats.proofs.round.RoundsRunSteps.{rounds_ran_from}
 use Rattle.str0m_formats.specs.declared.round.negotiation_error.NegotiationError.{NegotiationError}
 use Rattle.str0m_formats.specs.declared.round.negotiation_error.NegotiationError.TheVariants.{Memory}
 use Rattle.str0m_formats.specs.declared.row.codec_config.CodecConfig.{CodecConfig}
 use Rattle.str0m_formats.specs.declared.row.payload_params.PayloadParams.{PayloadParams}
-use Rattle.str0m_formats.specs.round.Rounds.{Leaves, Refused}
-use Rattle.str0m_formats.specs.round.RoundsPromises.{Promises, Negotiates}
+use Rattle.str0m_formats.specs.round.Rounds.{RoundLeaves, Refused}
+use Rattle.str0m_formats.specs.round.RoundsPromises.{RoundPromises, Negotiates}
 use Rattle.str0m_formats.specs.round.RoundsRuns.{Outcome}
 
-pub promised : (before remote : List PayloadParams) (receives : Bool) (after : List PayloadParams) → Leaves before remote receives after
-    → Promises before remote receives after
-promised before remote receives after r =
+pub round_promised : (before remote : List PayloadParams) (receives : Bool) (after : List PayloadParams)
+    → RoundLeaves before remote receives after
+    → RoundPromises before remote receives after
+round_promised before remote receives after r =
     search (
       rules,
       locked_alone,
@@ -36,21 +37,31 @@ promised before remote receives after r =
 
 -- ---- what one call answers
 
-negotiated : (remote : List PayloadParams) (receives : Bool) (old new : CodecConfig) (result : Outcome)
-    → OnOk result (Leaves old.params.items remote receives new.params.items)
+negotiated_round : (remote : List PayloadParams) (receives : Bool) (old new : CodecConfig) (result : Outcome)
+    → OnOk result (RoundLeaves old.params.items remote receives new.params.items)
     → IfErr result (λ cause. cause ≢ Memory → Refused old.params.items remote receives cause) → new ≡ record old { params = new.params }
     → OnErr result (new ≡ old)
     → Negotiates remote receives old new result
-negotiated remote receives old new result ok cause same err =
-    grind (arith, on_ok_weaker, leaves_only, refused_only, never_exhausted, only_for_memory, promised, ran_from, on_err_weaker)
+negotiated_round remote receives old new result ok cause same err =
+    grind (
+      arith,
+      on_ok_weaker,
+      round_leaves_only,
+      round_refused_only,
+      round_never_exhausted,
+      only_for_memory,
+      round_promised,
+      rounds_ran_from,
+      on_err_weaker,
+    )
 
 pub leaves_round : (remote : List PayloadParams) (receives : Bool) (old new : CodecConfig)
-    → Leaves old.params.items remote receives new.params.items → new ≡ record old { params = new.params }
+    → RoundLeaves old.params.items remote receives new.params.items → new ≡ record old { params = new.params }
     → Negotiates remote receives old new (Ok tt)
-leaves_round remote receives old new leaves same = negotiated remote receives old new (Ok tt) leaves tt same tt
+leaves_round remote receives old new leaves same = negotiated_round remote receives old new (Ok tt) leaves tt same tt
 
 pub refused_round : (remote : List PayloadParams) (receives : Bool) (config : CodecConfig) (result : Outcome) (cause : NegotiationError)
     → result ≡ Err cause → (cause ≢ Memory → Refused config.params.items remote receives cause)
     → Negotiates remote receives config config result
 refused_round remote receives config result cause is refused =
-    grind (arith, negotiated remote receives config config (Err cause) tt refused)
+    grind (arith, negotiated_round remote receives config config (Err cause) tt refused)

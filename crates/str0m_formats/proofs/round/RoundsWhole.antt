@@ -3,38 +3,39 @@ use Rattle.str0m_formats.proofs.Common.{zero, suc, ◌≡◌, ℕ, ◌⊎◌, in
 use Rattle.str0m_formats.proofs.Common.{length, Some, Result, Ok, Err, OnOk, IfErr, filter, refl, sym, ap, ◌∙◌, subst, arith, slice_get}
 use Rattle.str0m_formats.proofs.Common.{slice_get_within, true≢false, false≢true, cases_Bool, or_cases, fun_ext}
 use Rattle.str0m_formats.proofs.round.ClaimSteps.{claimed_all, claimed_twice}
-use Rattle.str0m_formats.proofs.round.ClaimedTimes.{times-nil}
-use Rattle.str0m_formats.proofs.round.FirstPass.{placed-locked, placed-open}
-use Rattle.str0m_formats.proofs.round.RoundsPasses.{none_within}
-use Rattle.str0m_formats.proofs.row.PayloadParamsSets.{has-append, locked_types-at, open_types-at}
+use Rattle.str0m_formats.proofs.round.ClaimedTimes.{type_times-nil}
+use Rattle.str0m_formats.proofs.round.FirstPass.{placed-locked, first_pass_placed-open}
+use Rattle.str0m_formats.proofs.round.RoundsPasses.{pass_none_within}
+use Rattle.str0m_formats.proofs.row.PayloadParamsSets.{row_types_has-append, locked_types-at, open_types-at}
 use Rattle.str0m_formats.specs.declared.round.negotiation_error.NegotiationError.{NegotiationError}
 use Rattle.str0m_formats.specs.declared.round.negotiation_error.NegotiationError.TheVariants.{TypeTooLarge}
 use Rattle.str0m_formats.specs.declared.row.payload_params.PayloadParams.{PayloadParams}
-use Rattle.str0m_formats.specs.round.Claimed.{TypeSet, has, AllDistinct}
+use Rattle.str0m_formats.specs.round.Claimed.{TypeSet, has, AllTypesDistinct}
 use Rattle.str0m_formats.specs.round.Claims.{claim_each}
-use Rattle.str0m_formats.specs.round.Rounds.{taken_by, Begun, MayBegin, AllBegun, Settled, StopsSettling, Leaves, Refused, too_large}
+use Rattle.str0m_formats.specs.round.Rounds.{types_taken_by, RoundBegun, RoundMayBegin, AllRoundsBegun, Settled, StopsSettling, RoundLeaves}
+use Rattle.str0m_formats.specs.round.Rounds.{Refused, too_large}
 use Rattle.str0m_formats.specs.round.Rounds.{twice_before, in_second}
-use Rattle.str0m_formats.specs.row.PayloadParams.{AllSmall, types_of, types, locked_types, open_types}
+use Rattle.str0m_formats.specs.row.PayloadParams.{AllTypesSmall, types_of, types, locked_types, open_types}
 
 -- no type stands in an empty list
-distinct_nil : AllDistinct []
-distinct_nil = λ t. omega (arith, times-nil t)
+types_distinct_nil : AllTypesDistinct []
+types_distinct_nil = λ t. omega (arith, type_times-nil t)
 
 -- the row before the round, at a place of the first pass
 pub row_before : {A B : Type 0} (xs : List A) (ys : List B) (i : ℕ) (y : B) → length ys ≡ length xs → slice_get ys i ≡ Some y
     → (x : A) × (slice_get xs i ≡ Some x)
-row_before {A} xs ys i y whole at_y = grind (arith, none_within xs i, slice_get_within ys i y at_y)
+row_before {A} xs ys i y whole at_y = grind (arith, pass_none_within xs i, slice_get_within ys i y at_y)
 
 -- an open row of the first pass is the row before the round
-pub begun_open : (before remote : List PayloadParams) (receives : Bool) (mid : List PayloadParams) (i : ℕ) (row : PayloadParams)
-    → Begun before remote receives mid → length mid ≡ length before → slice_get mid i ≡ Some row → row.locked ≡ false
+pub round_begun_open : (before remote : List PayloadParams) (receives : Bool) (mid : List PayloadParams) (i : ℕ) (row : PayloadParams)
+    → RoundBegun before remote receives mid → length mid ≡ length before → slice_get mid i ≡ Some row → row.locked ≡ false
     → slice_get before i ≡ Some row
-begun_open before remote receives mid i row begun whole at_row open_row =
+round_begun_open before remote receives mid i row begun whole at_row open_row =
     let old = row_before before mid i row whole at_row in
     let now = begun.each i old.0 row old.1 at_row in
     elim (cases_Bool old.0.locked) [
       | inl l ↦ absurd (true≢false (sym (placed-locked _ _ receives old.0 row now.choice now.placed_so l).0 ∙ open_row))
-      | inr o ↦ elim (placed-open _ _ receives old.0 row now.choice now.placed_so o) [
+      | inr o ↦ elim (first_pass_placed-open _ _ receives old.0 row now.choice now.placed_so o) [
         | inl same ↦ old.1 ∙ ap (λ r. Some r) (sym same)
         | inr l ↦ absurd (true≢false (sym l ∙ open_row))
       ]
@@ -42,7 +43,7 @@ begun_open before remote receives mid i row begun whole at_row open_row =
 
 -- a row that was locked before keeps its types
 pub begun_locked : (before remote : List PayloadParams) (receives : Bool) (mid : List PayloadParams) (i : ℕ) (old row : PayloadParams)
-    → Begun before remote receives mid → slice_get before i ≡ Some old → slice_get mid i ≡ Some row → old.locked ≡ true
+    → RoundBegun before remote receives mid → slice_get before i ≡ Some old → slice_get mid i ≡ Some row → old.locked ≡ true
     → (row.locked ≡ true) × (types_of row ≡ types_of old)
 begun_locked before remote receives mid i old row begun at_old at_row l =
     let now = begun.each i old row at_old at_row in placed-locked _ _ receives old row now.choice now.placed_so l
@@ -58,16 +59,16 @@ locked_types-from (r ∷ rows) t h = go (locked_types-from rows t) r.locked refl
       → (i : ℕ) × (row : PayloadParams) × (slice_get (r ∷ rows) i ≡ Some row) × (row.locked ≡ true) × (has (types_of row) t ≡ true)
   go rec false e k = let found = rec k in (suc found.0, found.1, found.2, found.3, found.4)
   go rec true e k = cases (or_cases (has (types_of r) t) (has (locked_types rows) t)
-      (sym (ap (λ f. f t) (has-append (types_of r) (locked_types rows))) ∙ k)) where
+      (sym (ap (λ f. f t) (row_types_has-append (types_of r) (locked_types rows))) ∙ k)) where
         cases : (has (types_of r) t ≡ true) ⊎ (has (locked_types rows) t ≡ true)
             → (i : ℕ) × (row : PayloadParams) × (slice_get (r ∷ rows) i ≡ Some row) × (row.locked ≡ true) × (has (types_of row) t ≡ true)
         cases (inl here) = (zero, r, refl, e, here)
         cases (inr later) = let found = rec later in (suc found.0, found.1, found.2, found.3, found.4)
 
 -- after the whole first pass the types taken are those of the rows that are locked then
-pub taken_whole : (before remote : List PayloadParams) (receives : Bool) (mid : List PayloadParams) → Begun before remote receives mid
-    → length mid ≡ length before → taken_by before mid ≡ has (locked_types mid)
-taken_whole before remote receives mid begun whole = has-append (locked_types before) (locked_types mid)
+pub taken_whole : (before remote : List PayloadParams) (receives : Bool) (mid : List PayloadParams) → RoundBegun before remote receives mid
+    → length mid ≡ length before → types_taken_by before mid ≡ has (locked_types mid)
+taken_whole before remote receives mid begun whole = row_types_has-append (locked_types before) (locked_types mid)
     ∙ fun_ext (λ t. go t (has (locked_types before) t) refl) where
       covered : (t : ℕ) → has (locked_types before) t ≡ true → has (locked_types mid) t ≡ true
       covered t h =
@@ -82,53 +83,58 @@ taken_whole before remote receives mid begun whole = has-append (locked_types be
       go t false e = ap (λ x. x || has (locked_types mid) t) e
 
 -- the types of rows that are open after the first pass were open before the round
-pub open_before : (before remote : List PayloadParams) (receives : Bool) (mid : List PayloadParams) (unlocked : TypeSet)
-    → Begun before remote receives mid → length mid ≡ length before → unlocked ≡ has (open_types before)
+pub round_open_before : (before remote : List PayloadParams) (receives : Bool) (mid : List PayloadParams) (unlocked : TypeSet)
+    → RoundBegun before remote receives mid → length mid ≡ length before → unlocked ≡ has (open_types before)
     → (i : ℕ) (row : PayloadParams) → slice_get mid i ≡ Some row → row.locked ≡ false → (t : ℕ) → has (types_of row) t ≡ true
     → unlocked t ≡ true
-open_before before remote receives mid unlocked begun whole same =
-    grind (arith, open_types-at before, begun_open before remote receives mid)
+round_open_before before remote receives mid unlocked begun whole same =
+    grind (arith, open_types-at before, round_begun_open before remote receives mid)
 
-pub may_begin : (before remote : List PayloadParams) (set : TypeSet) → AllSmall (types before ++ types remote)
-    → claim_each (has []) (locked_types before) ≡ Ok set → MayBegin before remote
-may_begin before remote set small h = record { small = small; once = (claimed_all [] (locked_types before) set distinct_nil h).1 }
+pub round_may_begin : (before remote : List PayloadParams) (set : TypeSet) → AllTypesSmall (types before ++ types remote)
+    → claim_each (has []) (locked_types before) ≡ Ok set → RoundMayBegin before remote
+round_may_begin before remote set small h = record {
+  small = small;
+  once = (claimed_all [] (locked_types before) set types_distinct_nil h).1;
+}
 
 pub claimed_is_locked : (before : List PayloadParams) (set : TypeSet) → claim_each (has []) (locked_types before) ≡ Ok set
     → set ≡ has (locked_types before)
-claimed_is_locked before set h = (claimed_all [] (locked_types before) set distinct_nil h).0
+claimed_is_locked before set h = (claimed_all [] (locked_types before) set types_distinct_nil h).0
 
-pub refused_before : (before remote : List PayloadParams) (receives : Bool) (cause : NegotiationError)
-    → AllSmall (types before ++ types remote) → claim_each (has []) (locked_types before) ≡ Err cause → Refused before remote receives cause
-refused_before before remote receives cause small h = grind (arith, claimed_twice, distinct_nil, twice_before)
+pub round_refused_before : (before remote : List PayloadParams) (receives : Bool) (cause : NegotiationError)
+    → AllTypesSmall (types before ++ types remote) → claim_each (has []) (locked_types before) ≡ Err cause
+    → Refused before remote receives cause
+round_refused_before before remote receives cause small h = grind (arith, claimed_twice, types_distinct_nil, twice_before)
 
-pub refused_large : (before remote : List PayloadParams) (receives : Bool) (cause : NegotiationError)
+pub round_refused_large : (before remote : List PayloadParams) (receives : Bool) (cause : NegotiationError)
     → (t : ℕ) × (find (nat_lt 127) (types before ++ types remote) ≡ Some t) × (cause ≡ TypeTooLarge t)
     → Refused before remote receives cause
-refused_large before remote receives cause h = grind (arith, too_large)
+round_refused_large before remote receives cause h = grind (arith, too_large)
 
-all_begun : (before remote : List PayloadParams) (receives claims_receive : Bool) (mid : List PayloadParams) (set : TypeSet)
-    → AllSmall (types before ++ types remote) → claim_each (has []) (locked_types before) ≡ Ok set → claims_receive ≡ receives
-    → Begun before remote claims_receive mid → length mid ≡ length before → AllBegun before remote receives mid
-all_begun before remote receives claims_receive mid set small h r begun whole = grind (arith, may_begin before remote set small h)
+all_rounds_begun : (before remote : List PayloadParams) (receives claims_receive : Bool) (mid : List PayloadParams) (set : TypeSet)
+    → AllTypesSmall (types before ++ types remote) → claim_each (has []) (locked_types before) ≡ Ok set → claims_receive ≡ receives
+    → RoundBegun before remote claims_receive mid → length mid ≡ length before → AllRoundsBegun before remote receives mid
+all_rounds_begun before remote receives claims_receive mid set small h r begun whole = grind
+    (arith, round_may_begin before remote set small h)
 
 pub round_done : (before remote : List PayloadParams) (receives claims_receive : Bool) (mid after : List PayloadParams)
     (set unlocked : TypeSet) (result : Result (Unit {0}) NegotiationError)
-    → AllSmall (types before ++ types remote) → claim_each (has []) (locked_types before) ≡ Ok set → claims_receive ≡ receives
-    → Begun before remote claims_receive mid → length mid ≡ length before → unlocked ≡ has (open_types before)
+    → AllTypesSmall (types before ++ types remote) → claim_each (has []) (locked_types before) ≡ Ok set → claims_receive ≡ receives
+    → RoundBegun before remote claims_receive mid → length mid ≡ length before → unlocked ≡ has (open_types before)
     → OnOk result (Settled unlocked mid after) → length after ≡ length mid → IfErr result (StopsSettling unlocked mid)
-    → OnOk result (Leaves before remote receives after) × IfErr result (Refused before remote receives)
+    → OnOk result (RoundLeaves before remote receives after) × IfErr result (Refused before remote receives)
 round_done before remote receives claims_receive mid after set unlocked result small h r begun whole u = go result where
-  first : AllBegun before remote receives mid
-  first = all_begun before remote receives claims_receive mid set small h r begun whole
+  first : AllRoundsBegun before remote receives mid
+  first = all_rounds_begun before remote receives claims_receive mid set small h r begun whole
 
   go : (result : Result (Unit {0}) NegotiationError) → OnOk result (Settled unlocked mid after) → length after ≡ length mid
-      → IfErr result (StopsSettling unlocked mid) → OnOk result (Leaves before remote receives after)
+      → IfErr result (StopsSettling unlocked mid) → OnOk result (RoundLeaves before remote receives after)
       × IfErr result (Refused before remote receives)
   go (Ok x) s l e = (record { mid = mid; first = first; second = subst (λ (un : TypeSet). Settled un mid after) u s; whole = l }, tt)
   go (Err c) s l e = (tt, in_second c (record { mid = mid; first = first; second = subst (λ (un : TypeSet). StopsSettling un mid c) u e }))
 
 -- what refuses a copy of the rows refuses the rows
-pub refused_as_copied : (before copied now remote : List PayloadParams) (receives now_receives : Bool) (cause : NegotiationError)
+pub round_refused_as_copied : (before copied now remote : List PayloadParams) (receives now_receives : Bool) (cause : NegotiationError)
     → now ≡ copied → copied ≡ before → now_receives ≡ receives → Refused now remote now_receives cause
     → Refused before remote receives cause
-refused_as_copied before copied now remote receives now_receives cause same_now same_copy same_receives refused = grind arith
+round_refused_as_copied before copied now remote receives now_receives cause same_now same_copy same_receives refused = grind arith

@@ -1,7 +1,7 @@
 -- When two rows are the same: `==` of each field but `locked` decides, and so does that of the row.
 use Rattle.str0m_formats.proofs.Common.{◌≡◌, ℕ, Bool, true, false, Option, refl, sym, ap, ◌∙◌, Decides, IsEquivalence, Decides-like}
 use Rattle.str0m_formats.proofs.Common.{one_answer, equiv}
-use Rattle.str0m_formats.proofs.format.FormatParamsDerived.{Equality, equality}
+use Rattle.str0m_formats.proofs.format.FormatParamsDerived.{ParamEqualityTest, param_equality}
 use Rattle.str0m_formats.proofs.format.FormatParamsEqual.{spec}
 use Rattle.str0m_formats.specs.contracts.row.payload_params.PayloadParamsPartialEq.TheImpl as row
 use Rattle.str0m_formats.specs.declared.codec.codec_spec.CodecSpec.{CodecSpec}
@@ -9,13 +9,13 @@ use Rattle.str0m_formats.specs.declared.row.payload_params.PayloadParams.{Payloa
 use Rattle.str0m_formats.specs.row.PayloadParams.{SameRow}
 
 -- a row but for whether it is locked
-abbrev Seen : Type 0
-Seen = ℕ × Option ℕ × Option ℕ × CodecSpec × Bool × Bool × Bool × Bool × Bool
+abbrev SeenRow : Type 0
+SeenRow = ℕ × Option ℕ × Option ℕ × CodecSpec × Bool × Bool × Bool × Bool × Bool
 
-abbrev as_seen : PayloadParams → Seen
+abbrev as_seen : PayloadParams → SeenRow
 as_seen r = (r.pt, r.resend, r.red, r.spec, r.fb_transport_cc, r.fb_fir, r.fb_nack, r.fb_pli, r.fb_remb)
 
-abbrev open_row : Seen → PayloadParams
+abbrev open_row : SeenRow → PayloadParams
 open_row s = record {
   pt = s.0;
   resend = s.1;
@@ -29,13 +29,13 @@ open_row s = record {
   locked = false;
 }
 
-abbrev eq_seen : Equality Seen
-eq_seen = hlevel (spec, equality)
+abbrev eq_seen_row : ParamEqualityTest SeenRow
+eq_seen_row = hlevel (spec, param_equality)
 
 pub row_Decides : (a b : PayloadParams) → Decides (row.eq-value.it a b) (SameRow a b)
 row_Decides a b =
     Decides-like _ (λ (e : as_seen a ≡ as_seen b). ap open_row e) (λ (e : SameRow a b). ap as_seen e)
-    (eq_seen.decides (as_seen a) (as_seen b))
+    (eq_seen_row.decides (as_seen a) (as_seen b))
 
 pub row_equivalence : IsEquivalence row.eq-value.it
 row_equivalence = equiv (record { symm = symmetric; trans = transitive }) (λ a. (row_Decides a a).1 refl)

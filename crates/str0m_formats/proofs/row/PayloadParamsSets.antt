@@ -2,16 +2,16 @@
 use Rattle.str0m_formats.proofs.Common.{arith, zero, suc, ◌≡◌, ◌==◌, ℕ, Bool, true, false, not, cond, List, [], ◌∷◌, ◌++◌, Some, filter, ap}
 use Rattle.str0m_formats.proofs.Common.{list_any-append, slice_get, append-nil, filter-append, flat_map-append, or_right, fun_ext}
 use Rattle.str0m_formats.specs.declared.row.payload_params.PayloadParams.{PayloadParams}
-use Rattle.str0m_formats.specs.round.Claimed.{TypeSet, has, either}
+use Rattle.str0m_formats.specs.round.Claimed.{TypeSet, has, either_set}
 use Rattle.str0m_formats.specs.row.PayloadParams.{types_of, types, locked_types, open_types}
 
 -- the set of two lists together
-pub has-append : (xs ys : List ℕ) → has (xs ++ ys) ≡ either (has xs) (has ys)
-has-append xs ys = fun_ext (λ t. list_any-append (λ x. x == t) xs ys)
+pub row_types_has-append : (xs ys : List ℕ) → has (xs ++ ys) ≡ either_set (has xs) (has ys)
+row_types_has-append xs ys = fun_ext (λ t. list_any-append (λ x. x == t) xs ys)
 
 -- a list that is in a set already adds nothing to it
-pub either-covered : (set : TypeSet) (xs : List ℕ) → ((t : ℕ) → has xs t ≡ true → set t ≡ true) → either set (has xs) ≡ set
-either-covered set xs h = grind arith
+pub either_set-covered : (set : TypeSet) (xs : List ℕ) → ((t : ℕ) → has xs t ≡ true → set t ≡ true) → either_set set (has xs) ≡ set
+either_set-covered set xs h = grind arith
 
 -- the types of the rows that pass a test, with one row more
 pub types_where-push : (test : PayloadParams → Bool) (rows : List PayloadParams) (row : PayloadParams)

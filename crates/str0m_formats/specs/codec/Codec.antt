@@ -9,11 +9,11 @@ use Rattle.str0m_formats.specs.declared.codec.TheConstants.{NAMED}
 use Rattle.str0m_values.specs.declared.media_kind.MediaKind.TheVariants.{Audio, Video}
 
 -- what a codec carries
-pub data Content : Type 0 where
-  audio : Content
-  video : Content
-  events : Content
-  other : Content
+pub data CodecContent : Type 0 where
+  audio : CodecContent
+  video : CodecContent
+  events : CodecContent
+  other : CodecContent
 
 -- by which rule two specs of a codec fit, and what the row that is chosen changes in the other
 pub data Rule : Type 0 where
@@ -30,7 +30,7 @@ pub data Rule : Type 0 where
 -- of each codec: its name in rtpmap lines; what it carries; the payload type that stands for it without a mapping, with the rate
 -- in Hz at which it samples then (RFC 3551, section 6); its clock rate in RTP, where that is another than the sampling rate, as it
 -- is for historical reasons (RFC 3551, section 4.5.2); its rule
-abbrev pub codec_entry : Codec → List ℕ × Content × Option (ℕ × ℕ) × Option ℕ × Rule
+abbrev pub codec_entry : Codec → List ℕ × CodecContent × Option (ℕ × ℕ) × Option ℕ × Rule
 codec_entry Opus = (codes "opus", audio, None, None, by_flags)
 codec_entry PCMU = (codes "PCMU", audio, Some (0, 8000), None, by_equality)
 codec_entry PCMA = (codes "PCMA", audio, Some (8, 8000), None, by_equality)
@@ -52,8 +52,8 @@ codec_entry Unknown = (codes "unknown", other, None, None, by_equality)
 abbrev pub codec_text : Codec → List ℕ
 codec_text codec = (codec_entry codec).0
 
-abbrev pub content : Codec → Content
-content codec = (codec_entry codec).1
+abbrev pub codec_content : Codec → CodecContent
+codec_content codec = (codec_entry codec).1
 
 abbrev pub static_entry : Codec → Option (ℕ × ℕ)
 static_entry codec = (codec_entry codec).2
@@ -70,26 +70,26 @@ is_amr_wb AmrWb = true
 is_amr_wb _ = false
 
 -- the kind of the sections that it stands in
-abbrev pub media_kind : Content → MediaKind
+abbrev pub media_kind : CodecContent → MediaKind
 media_kind audio = Audio
 media_kind video = Video
 media_kind events = Audio
 media_kind other = Video
 
 -- the texts are equal without regard to the case of ASCII letters
-abbrev pub IsSameText : List ℕ → List ℕ → Type 0
-IsSameText s t = map to_ascii_lowercase s ≡ map to_ascii_lowercase t
+abbrev pub IsSameCodecText : List ℕ → List ℕ → Type 0
+IsSameCodecText s t = map to_ascii_lowercase s ≡ map to_ascii_lowercase t
 
 -- a codec other than Null is read where its own text stands, and only there; Null is never read, and a text of no
 -- codec reads as Unknown
-pub record IsReadAs (text : List ℕ) (codec : Codec) : Type 0 where
-  pub named : (c : Codec) → c ≢ Null → IsSameText text (codec_text c) → codec ≡ c
-  pub only : codec ≢ Unknown → (codec ≢ Null) × IsSameText text (codec_text codec)
+pub record IsReadAsCodec (text : List ℕ) (codec : Codec) : Type 0 where
+  pub named : (c : Codec) → c ≢ Null → IsSameCodecText text (codec_text c) → codec ≡ c
+  pub only : codec ≢ Unknown → (codec ≢ Null) × IsSameCodecText text (codec_text codec)
 
 -- what a codec's own text reads as
-abbrev pub printed_and_read : Codec → Codec
-printed_and_read Null = Unknown
-printed_and_read codec = codec
+abbrev pub codec_printed_and_read : Codec → Codec
+codec_printed_and_read Null = Unknown
+codec_printed_and_read codec = codec
 
 -- the reading as a function
 unfoldable pub codec_of : List ℕ → Codec

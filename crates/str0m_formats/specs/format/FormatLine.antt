@@ -10,9 +10,9 @@ use Rattle.str0m_formats.specs.declared.codec.Codec.TheVariants.{Tele}
 use Rattle.str0m_formats.specs.declared.format.format_param.FormatParam.{FormatParam}
 use Rattle.str0m_formats.specs.declared.format.format_param.FormatParam.TheVariants.{TelephoneEvents, BareRange, AmrWbUnsupported}
 use Rattle.str0m_formats.specs.declared.format.format_params.FormatParams.{FormatParams}
-use Rattle.str0m_formats.specs.format.FormatParam.{IsBare}
+use Rattle.str0m_formats.specs.format.FormatParam.{IsBareParam}
 use Rattle.str0m_formats.specs.format.FormatParams.{empty, set_all}
-use Rattle.str0m_formats.specs.format.Pairs.{AreRead}
+use Rattle.str0m_formats.specs.format.Pairs.{ArePairsRead}
 use Rattle.str0m_formats.specs.round.Narrowing.{telephone_max}
 
 -- ---- a line
@@ -25,27 +25,27 @@ abbrev pub pair_in : List ℕ → Option (List ℕ × List ℕ)
 pair_in piece = option_map (λ parts. (trim parts.0, trim (before 61 parts.1))) (cut 61 piece)
 
 -- the value of a piece without a key, trimmed
-abbrev pub bare_in : List ℕ → Option (List ℕ)
-bare_in piece = when (lacks 61 piece) (trim piece)
+abbrev pub bare_param_in : List ℕ → Option (List ℕ)
+bare_param_in piece = when (lacks 61 piece) (trim piece)
 
 unfoldable pub pairs_in : List (List ℕ) → List (List ℕ × List ℕ)
 pairs_in pieces = filter_map pair_in pieces
 
-unfoldable pub bares_in : List (List ℕ) → List (List ℕ)
-bares_in pieces = filter_map bare_in pieces
+unfoldable pub bare_params_in : List (List ℕ) → List (List ℕ)
+bare_params_in pieces = filter_map bare_param_in pieces
 
 -- what the pieces without a key say
 pub record IsFormatOfBares (pieces : List (List ℕ)) (p : FormatParams) : Type 0 where
   pub bares : List FormatParam
-  pub bares_are : AllZip IsBare (bares_in pieces) bares
+  pub bares_are : AllZip IsBareParam (bare_params_in pieces) bares
   pub format : p ≡ set_all empty bares
 
 -- the pieces without a key are set first, then what the pairs read as, together
 pub record IsFormatOfLine (line : List ℕ) (p : FormatParams) : Type 0 where
   pub bares : List FormatParam
   pub params : List FormatParam
-  pub bares_are : AllZip IsBare (bares_in (pieces line)) bares
-  pub params_are : AreRead (pairs_in (pieces line)) params
+  pub bares_are : AllZip IsBareParam (bare_params_in (pieces line)) bares
+  pub params_are : ArePairsRead (pairs_in (pieces line)) params
   pub format : p ≡ set_all empty (bares ++ params)
 
 -- ---- the fmtp lines of a payload type
@@ -54,38 +54,38 @@ unfoldable pub is_event : FormatParam → Bool
 is_event (TelephoneEvents n) = true
 is_event _ = false
 
-unfoldable pub is_unsupported : FormatParam → Bool
-is_unsupported AmrWbUnsupported = true
-is_unsupported _ = false
+unfoldable pub is_unsupported_param : FormatParam → Bool
+is_unsupported_param AmrWbUnsupported = true
+is_unsupported_param _ = false
 
-abbrev pub range_end : FormatParam → Option ℕ
-range_end (TelephoneEvents n) = Some n
-range_end (BareRange n) = Some n
-range_end _ = None
+abbrev pub event_range_end : FormatParam → Option ℕ
+event_range_end (TelephoneEvents n) = Some n
+event_range_end (BareRange n) = Some n
+event_range_end _ = None
 
 -- the highest event: that of a format which says none without a line, else that of one line that is one range
 abbrev pub events_end : List (List FormatParam) → Option ℕ
 events_end [] = Some (telephone_max empty)
-events_end ((param ∷ []) ∷ []) = range_end param
+events_end ((param ∷ []) ∷ []) = event_range_end param
 events_end _ = None
 
 -- the values without ranges of events
-abbrev pub kept : List FormatParam → List FormatParam
-kept params = filter (λ param. not (is_event param)) params
+abbrev pub line_without_event_ranges : List FormatParam → List FormatParam
+line_without_event_ranges params = filter (λ param. not (is_event param)) params
 
 -- the values of all lines, without ranges of events
-abbrev pub values_of : List (List FormatParam) → List FormatParam
-values_of [] = []
-values_of (line ∷ lines) = kept line ++ values_of lines
+abbrev pub params_of_lines : List (List FormatParam) → List FormatParam
+params_of_lines [] = []
+params_of_lines (line ∷ lines) = line_without_event_ranges line ++ params_of_lines lines
 
 -- whether a line of AMR-WB asks for what isn't there
-unfoldable pub asks_absent : Codec → List (List FormatParam) → Bool
-asks_absent codec lines = is_amr_wb codec && list_any (λ line. list_any is_unsupported line) lines
+unfoldable pub line_asks_absent : Codec → List (List FormatParam) → Bool
+line_asks_absent codec lines = is_amr_wb codec && list_any (λ line. list_any is_unsupported_param line) lines
 
 -- the format that the lines say of the codec, where they don't ask for what isn't there
 abbrev pub format_of_fmtp : Codec → List (List FormatParam) → Option FormatParams
 format_of_fmtp Tele lines = option_map (λ max. record empty { telephone_event_max = Some max }) (events_end lines)
-format_of_fmtp codec lines = if asks_absent codec lines then None else Some (set_all empty (values_of lines))
+format_of_fmtp codec lines = if line_asks_absent codec lines then None else Some (set_all empty (params_of_lines lines))
 
 -- lines without where they lie in memory
 abbrev pub line_values : List (Bor (List FormatParam)) → List (List FormatParam)

@@ -6,7 +6,7 @@ use Rattle.std.specs.Prelude.{◌≡◌, ◌↔◌, ◌≤◌, ◌<◌, ◌^◌,
 use Rattle.std.specs.Str.{trim}
 use Rattle.std.specs.Str.Parse.{IsNumeral, digits_value}
 use Rattle.str0m_formats.specs.Prelude.{FirstFit, IsNum, IsNumber}
-use Rattle.str0m_formats.specs.codec.Codec.{IsSameText}
+use Rattle.str0m_formats.specs.codec.Codec.{IsSameCodecText}
 use Rattle.str0m_formats.specs.declared.format.format_key.FormatKey.{FormatKey}
 use Rattle.str0m_formats.specs.declared.format.format_key.FormatKey.TheVariants as key
 use Rattle.str0m_formats.specs.declared.format.format_param.FormatParam.{FormatParam}
@@ -26,15 +26,15 @@ pub data Kind : Type 0 where
   anything : Kind
 
 -- what a value of the kind holds
-abbrev pub Held : Kind → Type 0
-Held flag = Bool
-Held (exactly text) = Unit {0}
-Held anything = Unit {0}
-Held kind = ℕ
+abbrev pub HeldParamValue : Kind → Type 0
+HeldParamValue flag = Bool
+HeldParamValue (exactly text) = Unit {0}
+HeldParamValue anything = Unit {0}
+HeldParamValue kind = ℕ
 
 -- The table of the keys: the kind of each one's values, and the parameter that holds such a value. The last four ask for what
 -- isn't there of AMR-WB (RFC 4867, section 8.2).
-abbrev pub key_entry : FormatKey → (kind : Kind) × (Held kind → FormatParam)
+abbrev pub key_entry : FormatKey → (kind : Kind) × (HeldParamValue kind → FormatParam)
 key_entry key.MinPTime = (number 255, MinPTime)
 key_entry key.Stereo = (flag, Stereo)
 key_entry key.SpropStereo = (flag, SpropStereo)
@@ -59,11 +59,11 @@ key_entry key.Interleaving = (anything, λ x. AmrWbUnsupported)
 abbrev pub kind : FormatKey → Kind
 kind key = (key_entry key).0
 
-abbrev pub keyed : (key : FormatKey) → Held (kind key) → FormatParam
+abbrev pub keyed : (key : FormatKey) → HeldParamValue (kind key) → FormatParam
 keyed key = (key_entry key).1
 
 -- the key and the value of each parameter that is written `key=value`
-abbrev pub entry : FormatParam → Option ((key : FormatKey) × Held (kind key))
+abbrev pub entry : FormatParam → Option ((key : FormatKey) × HeldParamValue (kind key))
 entry (MinPTime n) = Some (key.MinPTime, n)
 entry (Stereo b) = Some (key.Stereo, b)
 entry (SpropStereo b) = Some (key.SpropStereo, b)
@@ -85,8 +85,8 @@ entry _ = None
 -- ---- how values read
 
 -- the number in hexadecimal, or in decimal where the text is none in hexadecimal
-abbrev pub IsHexElseDecimal : List ℕ → ℕ → Type 0
-IsHexElseDecimal = FirstFit (IsNumber 16 4294967295) (IsNum 4294967295)
+abbrev pub IsParamHexElseDecimal : List ℕ → ℕ → Type 0
+IsParamHexElseDecimal = FirstFit (IsNumber 16 4294967295) (IsNum 4294967295)
 
 -- the piece is the number of a mode, up to white space around it
 abbrev pub IsMode : List ℕ → ℕ → Type 0
@@ -102,34 +102,34 @@ unfoldable pub IsModeSet : List ℕ → ℕ → Type 0
 IsModeSet text mask = IsMask (slice_split (λ b. b == 44) text) mask
 
 -- how each value reads: a flag is true exactly for `1`
-abbrev pub ReadsKind : (kind : Kind) → List ℕ → Held kind → Type 0
+abbrev pub ReadsKind : (kind : Kind) → List ℕ → HeldParamValue kind → Type 0
 ReadsKind flag text b = IsTrue b ↔ (text ≡ codes "1")
 ReadsKind (number limit) text n = IsNum limit text n
-ReadsKind hex text n = IsHexElseDecimal text n
+ReadsKind hex text n = IsParamHexElseDecimal text n
 ReadsKind modes text mask = IsModeSet text mask
 ReadsKind (exactly own) text x = text ≡ own
 ReadsKind anything text x = Unit {0}
 
 -- the value after the key spells the parameter
-abbrev pub HoldsValue : FormatKey → List ℕ → FormatParam → Type 0
-HoldsValue key text param = (x : Held (kind key)) × (param ≡ keyed key x) × ReadsKind (kind key) text x
+abbrev pub ParamHoldsValue : FormatKey → List ℕ → FormatParam → Type 0
+ParamHoldsValue key text param = (x : HeldParamValue (kind key)) × (param ≡ keyed key x) × ReadsKind (kind key) text x
 
 -- the key and the value spell the parameter
-abbrev pub Spells : List ℕ × List ℕ → FormatParam → Type 0
-Spells pair param = (key : FormatKey) × IsSameText pair.0 (key_text key) × HoldsValue key pair.1 param
+abbrev pub SpellsParam : List ℕ × List ℕ → FormatParam → Type 0
+SpellsParam pair param = (key : FormatKey) × IsSameCodecText pair.0 (key_text key) × ParamHoldsValue key pair.1 param
 
-abbrev pub IsUnknown : {A : Type 0} → A → FormatParam → Type 0
-IsUnknown text param = param ≡ Unknown
+abbrev pub IsUnknownParam : {A : Type 0} → A → FormatParam → Type 0
+IsUnknownParam text param = param ≡ Unknown
 
 -- what a key and its value read as: the parameter that they spell, else Unknown
-abbrev pub IsParsed : List ℕ × List ℕ → FormatParam → Type 0
-IsParsed = FirstFit Spells IsUnknown
+abbrev pub IsParsedParam : List ℕ × List ℕ → FormatParam → Type 0
+IsParsedParam = FirstFit SpellsParam IsUnknownParam
 
 -- each pair, in order, reads as the parameter in its place
-abbrev pub AreParsed : List (List ℕ × List ℕ) → List FormatParam → Type 0
-AreParsed [] [] = Unit {0}
-AreParsed (pair ∷ pairs) (param ∷ params) = IsParsed pair param × AreParsed pairs params
-AreParsed _ _ = ⊥
+abbrev pub AreParsedParams : List (List ℕ × List ℕ) → List FormatParam → Type 0
+AreParsedParams [] [] = Unit {0}
+AreParsedParams (pair ∷ pairs) (param ∷ params) = IsParsedParam pair param × AreParsedParams pairs params
+AreParsedParams _ _ = ⊥
 
 -- pairs of texts without where they lie in memory
 abbrev pub pair_texts : List (Bor (List ℕ) × Bor (List ℕ)) → List (List ℕ × List ℕ)
@@ -146,55 +146,55 @@ abbrev pub IsEvents : List ℕ → FormatParam → Type 0
 IsEvents text param = (n : ℕ) × (param ≡ TelephoneEvents n) × IsEventRange text n
 
 -- what a value without a key reads as: a range of events, else Unknown
-abbrev pub IsBare : List ℕ → FormatParam → Type 0
-IsBare = FirstFit IsEvents IsUnknown
+abbrev pub IsBareParam : List ℕ → FormatParam → Type 0
+IsBareParam = FirstFit IsEvents IsUnknownParam
 
 -- ---- how parameters print
 
-abbrev pub flag_text : Bool → List ℕ
-flag_text true = codes "1"
-flag_text false = codes "0"
+abbrev pub param_flag_text : Bool → List ℕ
+param_flag_text true = codes "1"
+param_flag_text false = codes "0"
 
 -- lower-case hexadecimal, with zeros in front up to six digits
-abbrev pub six_digits : ℕ → List ℕ
-six_digits n = replicate (6 - length (digits 16 false n)) 48 ++ digits 16 false n
+abbrev pub param_six_digits : ℕ → List ℕ
+param_six_digits n = replicate (6 - length (digits 16 false n)) 48 ++ digits 16 false n
 
 -- the character that parts a text from one before it, where there is one
-abbrev pub part_if : ℕ → Bool → List ℕ
-part_if c true = c ∷ []
-part_if c false = []
+abbrev pub param_part_if : ℕ → Bool → List ℕ
+param_part_if c true = c ∷ []
+param_part_if c false = []
 
 -- the modes of a mask, ascending, parted by commas
 abbrev pub mode_list : ℕ → List ℕ
 mode_list mask = join_with_byte 44 (map decimal (filter (λ mode. not (bit_and mask (2 ^ mode) == 0)) (range_with_len 0 9)))
 
 -- how each value prints
-abbrev pub value_text : (kind : Kind) → Held kind → List ℕ
-value_text flag b = flag_text b
-value_text (number limit) n = decimal n
-value_text hex n = six_digits n
-value_text modes mask = mode_list mask
-value_text kind x = []
+abbrev pub param_value_text : (kind : Kind) → HeldParamValue kind → List ℕ
+param_value_text flag b = param_flag_text b
+param_value_text (number limit) n = decimal n
+param_value_text hex n = param_six_digits n
+param_value_text modes mask = mode_list mask
+param_value_text kind x = []
 
 -- which values read back as they print
-abbrev pub InRange : (kind : Kind) → Held kind → Type 0
-InRange flag b = Unit {0}
-InRange (number limit) n = n ≤ limit
-InRange hex n = n ≤ 4294967295
-InRange modes mask = (0 < mask) × (mask ≤ 511)
-InRange kind x = ⊥
+abbrev pub IsParamInRange : (kind : Kind) → HeldParamValue kind → Type 0
+IsParamInRange flag b = Unit {0}
+IsParamInRange (number limit) n = n ≤ limit
+IsParamInRange hex n = n ≤ 4294967295
+IsParamInRange modes mask = (0 < mask) × (mask ≤ 511)
+IsParamInRange kind x = ⊥
 
 -- the key and the value are what the parameter prints
-abbrev pub IsPrinted : FormatParam → List ℕ × List ℕ → Type 0
-IsPrinted param pair =
-    MatchOption (entry param) ⊥ (λ e. (pair.0 ≡ key_text e.0) × (pair.1 ≡ value_text (kind e.0) e.1) × InRange (kind e.0) e.1)
+abbrev pub IsPrintedParam : FormatParam → List ℕ × List ℕ → Type 0
+IsPrintedParam param pair =
+    MatchOption (entry param) ⊥ (λ e. (pair.0 ≡ key_text e.0) × (pair.1 ≡ param_value_text (kind e.0) e.1) × IsParamInRange (kind e.0) e.1)
 
 abbrev pub triple_text : ℕ → ℕ → ℕ → List ℕ
 triple_text profile tier level = codes "profile-id=" ++ (decimal profile ++ (codes ";tier-flag=" ++ (decimal tier ++ (codes ";level-id=" ++ decimal level))))
 
-abbrev pub entry_text : Option ((key : FormatKey) × Held (kind key)) → List ℕ
+abbrev pub entry_text : Option ((key : FormatKey) × HeldParamValue (kind key)) → List ℕ
 entry_text None = []
-entry_text (Some e) = key_text e.0 ++ codes "=" ++ value_text (kind e.0) e.1
+entry_text (Some e) = key_text e.0 ++ codes "=" ++ param_value_text (kind e.0) e.1
 
 -- what a parameter prints: `key=value` where the table has it
 abbrev pub param_text : FormatParam → List ℕ

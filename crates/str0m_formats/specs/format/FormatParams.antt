@@ -9,19 +9,19 @@ use Rattle.str0m_formats.specs.declared.format.format_params.Field.{Field}
 use Rattle.str0m_formats.specs.declared.format.format_params.Field.TheVariants as field
 use Rattle.str0m_formats.specs.declared.format.format_params.FormatParams.{FormatParams}
 use Rattle.str0m_formats.specs.declared.format.format_params.TheConstants.{FIELDS}
-use Rattle.str0m_formats.specs.format.FormatParam.{Held, kind, keyed, entry, InRange, param_text}
+use Rattle.str0m_formats.specs.format.FormatParam.{HeldParamValue, kind, keyed, entry, IsParamInRange, param_text}
 use Rattle.str0m_values.specs.H265.{H265ProfileTierLevel as h265_triple}
 use Rattle.str0m_values.specs.H266.{H266ProfileTierLevel as h266_triple}
 
 -- what the field of a format holds: the value of its key, a profile, tier and level, or the highest event
-abbrev pub FieldContent : Field → Type 0
-FieldContent (field.Key key) = Held (kind key)
-FieldContent field.H265ProfileTierLevel = h265_triple
-FieldContent field.H266ProfileTierLevel = h266_triple
-FieldContent field.TelephoneEvents = ℕ
+abbrev pub FormatFieldContent : Field → Type 0
+FormatFieldContent (field.Key key) = HeldParamValue (kind key)
+FormatFieldContent field.H265ProfileTierLevel = h265_triple
+FormatFieldContent field.H266ProfileTierLevel = h266_triple
+FormatFieldContent field.TelephoneEvents = ℕ
 
 -- what the field holds; a key without a field holds nothing
-abbrev pub get : (field : Field) → FormatParams → Option (FieldContent field)
+abbrev pub get : (field : Field) → FormatParams → Option (FormatFieldContent field)
 get (field.Key key.MinPTime) p = p.min_p_time
 get (field.Key key.Stereo) p = p.stereo
 get (field.Key key.SpropStereo) p = p.sprop_stereo
@@ -43,43 +43,43 @@ get field.TelephoneEvents p = p.telephone_event_max
 get f p = None
 
 -- the format with this in the field
-abbrev pub put : (field : Field) → Option (FieldContent field) → FormatParams → FormatParams
-put (field.Key key.MinPTime) o p = record p { min_p_time = o }
-put (field.Key key.Stereo) o p = record p { stereo = o }
-put (field.Key key.SpropStereo) o p = record p { sprop_stereo = o }
-put (field.Key key.UseInbandFec) o p = record p { use_inband_fec = o }
-put (field.Key key.UseDtx) o p = record p { use_dtx = o }
-put (field.Key key.LevelAsymmetryAllowed) o p = record p { level_asymmetry_allowed = o }
-put (field.Key key.PacketizationMode) o p = record p { packetization_mode = o }
-put (field.Key key.ProfileLevelId) o p = record p { profile_level_id = o }
-put (field.Key key.ProfileId) o p = record p { profile_id = o }
-put (field.Key key.Profile) o p = record p { profile = o }
-put (field.Key key.LevelIdx) o p = record p { level_idx = o }
-put (field.Key key.Tier) o p = record p { tier = o }
-put (field.Key key.SpropMaxDonDiff) o p = record p { sprop_max_don_diff = o }
-put (field.Key key.OctetAlign) o p = record p { octet_align = o }
-put (field.Key key.ModeSet) o p = record p { mode_set = o }
-put field.H265ProfileTierLevel o p = record p { h265_profile_tier_level = o }
-put field.H266ProfileTierLevel o p = record p { h266_profile_tier_level = o }
-put field.TelephoneEvents o p = record p { telephone_event_max = o }
-put f o p = p
+abbrev pub put_format_field : (field : Field) → Option (FormatFieldContent field) → FormatParams → FormatParams
+put_format_field (field.Key key.MinPTime) o p = record p { min_p_time = o }
+put_format_field (field.Key key.Stereo) o p = record p { stereo = o }
+put_format_field (field.Key key.SpropStereo) o p = record p { sprop_stereo = o }
+put_format_field (field.Key key.UseInbandFec) o p = record p { use_inband_fec = o }
+put_format_field (field.Key key.UseDtx) o p = record p { use_dtx = o }
+put_format_field (field.Key key.LevelAsymmetryAllowed) o p = record p { level_asymmetry_allowed = o }
+put_format_field (field.Key key.PacketizationMode) o p = record p { packetization_mode = o }
+put_format_field (field.Key key.ProfileLevelId) o p = record p { profile_level_id = o }
+put_format_field (field.Key key.ProfileId) o p = record p { profile_id = o }
+put_format_field (field.Key key.Profile) o p = record p { profile = o }
+put_format_field (field.Key key.LevelIdx) o p = record p { level_idx = o }
+put_format_field (field.Key key.Tier) o p = record p { tier = o }
+put_format_field (field.Key key.SpropMaxDonDiff) o p = record p { sprop_max_don_diff = o }
+put_format_field (field.Key key.OctetAlign) o p = record p { octet_align = o }
+put_format_field (field.Key key.ModeSet) o p = record p { mode_set = o }
+put_format_field field.H265ProfileTierLevel o p = record p { h265_profile_tier_level = o }
+put_format_field field.H266ProfileTierLevel o p = record p { h266_profile_tier_level = o }
+put_format_field field.TelephoneEvents o p = record p { telephone_event_max = o }
+put_format_field f o p = p
 
 -- the parameter of what the field holds
-abbrev pub param_in : (field : Field) → FieldContent field → FormatParam
+abbrev pub param_in : (field : Field) → FormatFieldContent field → FormatParam
 param_in (field.Key key) x = keyed key x
 param_in field.H265ProfileTierLevel t = H265ProfileTierLevel t
 param_in field.H266ProfileTierLevel t = H266ProfileTierLevel t
 param_in field.TelephoneEvents n = TelephoneEvents n
 
-abbrev put_entry : Option ((key : FormatKey) × Held (kind key)) → FormatParams → FormatParams
+abbrev put_entry : Option ((key : FormatKey) × HeldParamValue (kind key)) → FormatParams → FormatParams
 put_entry None p = p
-put_entry (Some e) p = put (field.Key e.0) (Some e.1) p
+put_entry (Some e) p = put_format_field (field.Key e.0) (Some e.1) p
 
 -- the format, with the value of the parameter in its field; a parameter without a field changes nothing
 abbrev pub set : FormatParam → FormatParams → FormatParams
-set (H265ProfileTierLevel t) p = put field.H265ProfileTierLevel (Some t) p
-set (H266ProfileTierLevel t) p = put field.H266ProfileTierLevel (Some t) p
-set (TelephoneEvents n) p = put field.TelephoneEvents (Some n) p
+set (H265ProfileTierLevel t) p = put_format_field field.H265ProfileTierLevel (Some t) p
+set (H266ProfileTierLevel t) p = put_format_field field.H266ProfileTierLevel (Some t) p
+set (TelephoneEvents n) p = put_format_field field.TelephoneEvents (Some n) p
 set param p = put_entry (entry param) p
 
 -- the format, with the values of the parameters in their fields, one after another
@@ -107,14 +107,14 @@ unfoldable pub params_text : FormatParams → List ℕ
 params_text p = join_with_byte 59 (map param_text (params_of p))
 
 -- what the field holds reads back as it prints
-abbrev pub IsWithin : (field : Field) → FieldContent field → Type 0
-IsWithin (field.Key key) x = InRange (kind key) x
-IsWithin field.TelephoneEvents n = n ≤ 255
-IsWithin f x = Unit {0}
+abbrev pub IsFormatFieldWithin : (field : Field) → FormatFieldContent field → Type 0
+IsFormatFieldWithin (field.Key key) x = IsParamInRange (kind key) x
+IsFormatFieldWithin field.TelephoneEvents n = n ≤ 255
+IsFormatFieldWithin f x = Unit {0}
 
 -- the format reads back as it prints: the values of its fields do, modes 1 to 511 and the distance up to 32767 among
 -- them, and it holds one profile, tier and level at most, and no `profile-id` beside it
-pub record CanBeReadBack (p : FormatParams) : Type 0 where
-  pub values : (f : Field) → IfSome (get f p) (IsWithin f)
+pub record CanFormatBeReadBack (p : FormatParams) : Type 0 where
+  pub values : (f : Field) → IfSome (get f p) (IsFormatFieldWithin f)
   pub triples : (p.h265_profile_tier_level ≡ None) ⊎ (p.h266_profile_tier_level ≡ None)
   pub profile : (p.profile_id ≡ None) ⊎ ((p.h265_profile_tier_level ≡ None) × (p.h266_profile_tier_level ≡ None))

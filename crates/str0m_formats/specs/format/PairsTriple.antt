@@ -10,21 +10,21 @@ use Rattle.str0m_values.specs.H266 as h266
 use Rattle.str0m_values.specs.H266.{H266ProfileTierLevel as h266_triple}
 
 -- the values of `profile-id`, `tier-flag` and `level-id`, where they are given
-abbrev pub Texts : Type 0
-Texts = Option (List ℕ) × Option (List ℕ) × Option (List ℕ)
+abbrev pub TripleTexts : Type 0
+TripleTexts = Option (List ℕ) × Option (List ℕ) × Option (List ℕ)
 
 -- the parameter is a triple with the numbers of the texts
-abbrev pub IsH265Param : Texts → Option FormatParam → Type 0
+abbrev pub IsH265Param : TripleTexts → Option FormatParam → Type 0
 IsH265Param texts param =
-    (t : h265_triple) × HasGivenNumbers h265.profile_id h265.tier_flag h265.level_id h265.defaults texts.0 texts.1 texts.2 t × (param ≡ Some (H265ProfileTierLevel t))
+    (t : h265_triple) × HasGivenNumbers h265.profile_id h265.tier_flag h265.level_id h265.h265_defaults texts.0 texts.1 texts.2 t × (param ≡ Some (H265ProfileTierLevel t))
 
-abbrev pub IsH266Param : Texts → Option FormatParam → Type 0
+abbrev pub IsH266Param : TripleTexts → Option FormatParam → Type 0
 IsH266Param texts param =
-    (t : h266_triple) × HasGivenNumbers h266.profile_id h266.tier_flag h266.level_id h266.defaults texts.0 texts.1 texts.2 t × (param ≡ Some (H266ProfileTierLevel t))
+    (t : h266_triple) × HasGivenNumbers h266.profile_id h266.tier_flag h266.level_id h266.h266_defaults texts.0 texts.1 texts.2 t × (param ≡ Some (H266ProfileTierLevel t))
 
-abbrev pub IsNoParam : Texts → Option FormatParam → Type 0
+abbrev pub IsNoParam : TripleTexts → Option FormatParam → Type 0
 IsNoParam texts param = param ≡ None
 
 -- the triple of H265 where the values name one, else that of H266, else none
-abbrev pub IsTripleParam : Texts → Option FormatParam → Type 0
+abbrev pub IsTripleParam : TripleTexts → Option FormatParam → Type 0
 IsTripleParam = FirstFit IsH265Param (FirstFit IsH266Param IsNoParam)

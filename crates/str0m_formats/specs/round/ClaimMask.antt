@@ -8,5 +8,5 @@ abbrev pub bit_set : ℕ → TypeSet
 bit_set bits t = bit_at bits t == 1
 
 -- the least bit below 128 that is set
-unfoldable pub least_bit : ℕ → Option ℕ
-least_bit bits = find (bit_set bits) (range_with_len 0 128)
+unfoldable pub least_claim_bit : ℕ → Option ℕ
+least_claim_bit bits = find (bit_set bits) (range_with_len 0 128)

@@ -30,38 +30,38 @@ abbrev pub same_profile : H264Profile → H264Profile → Bool
 same_profile a b = sameb h264_profile.the_type a b
 
 -- numbers and flags that may be absent
-abbrev pub same_number : Option ℕ → Option ℕ → Bool
-same_number a b = option_eq nat_eq a b
+abbrev pub given_numbers_match : Option ℕ → Option ℕ → Bool
+given_numbers_match a b = option_eq nat_eq a b
 
-abbrev pub same_option : Option Bool → Option Bool → Bool
-same_option a b = option_eq beq a b
+abbrev pub given_flags_match : Option Bool → Option Bool → Bool
+given_flags_match a b = option_eq beq a b
 
 -- numbers, of which an absent one stands for n, and flags, of which an absent one is false
-abbrev pub same_or : ℕ → Option ℕ → Option ℕ → Bool
-same_or n a b = unwrap_or a n == unwrap_or b n
+abbrev pub numbers_match_or : ℕ → Option ℕ → Option ℕ → Bool
+numbers_match_or n a b = unwrap_or a n == unwrap_or b n
 
-abbrev pub same_flag : Option Bool → Option Bool → Bool
-same_flag a b = beq (unwrap_or a false) (unwrap_or b false)
+abbrev pub flags_match : Option Bool → Option Bool → Bool
+flags_match a b = beq (unwrap_or a false) (unwrap_or b false)
 
 -- ---- Opus (RFC 7587, section 6.1): what each difference costs
 
-abbrev pub unless : Bool → ℕ → ℕ
-unless is_same cost = if is_same then 0 else cost
+abbrev pub score_unless_cost : Bool → ℕ → ℕ
+score_unless_cost is_same cost = if is_same then 0 else cost
 
 abbrev pub opus_score : FormatParams → FormatParams → ℕ
 opus_score a b =
     100
-    - unless (same_number a.min_p_time b.min_p_time) 1
-    - unless (same_option a.use_inband_fec b.use_inband_fec) 2
-    - unless (same_option a.use_dtx b.use_dtx) 4
-    - unless (same_flag a.stereo b.stereo) 8
-    - unless (same_flag a.sprop_stereo b.sprop_stereo) 8
+    - score_unless_cost (given_numbers_match a.min_p_time b.min_p_time) 1
+    - score_unless_cost (given_flags_match a.use_inband_fec b.use_inband_fec) 2
+    - score_unless_cost (given_flags_match a.use_dtx b.use_dtx) 4
+    - score_unless_cost (flags_match a.stereo b.stereo) 8
+    - score_unless_cost (flags_match a.sprop_stereo b.sprop_stereo) 8
 
 -- ---- AMR-WB (RFC 4867, section 8.2): one channel on both sides, the same alignment, and modes that don't differ
 
 -- one channel, as there is where nothing is said of it
-abbrev pub is_mono : Option ℕ → Bool
-is_mono channels = unwrap_or channels 1 == 1
+abbrev pub scores_as_mono : Option ℕ → Bool
+scores_as_mono channels = unwrap_or channels 1 == 1
 
 abbrev pub mode_score : Option ℕ → Option ℕ → Option ℕ
 mode_score None None = Some 100
@@ -70,7 +70,7 @@ mode_score _ _ = Some 99
 
 abbrev pub amr_wb_score : CodecSpec → CodecSpec → Option ℕ
 amr_wb_score a b =
-    if is_mono a.channels && is_mono b.channels && same_flag a.format.octet_align b.format.octet_align
+    if scores_as_mono a.channels && scores_as_mono b.channels && flags_match a.format.octet_align b.format.octet_align
     then mode_score a.format.mode_set b.format.mode_set
     else None
 
@@ -86,7 +86,7 @@ h264_level_score _ _ = None
 
 abbrev pub h264_score : FormatParams → FormatParams → Option ℕ
 h264_score a b =
-    if same_or 0 a.packetization_mode b.packetization_mode
+    if numbers_match_or 0 a.packetization_mode b.packetization_mode
     then h264_level_score (h264.named a.profile_level_id) (h264.named b.profile_level_id)
     else None
 
@@ -125,10 +125,10 @@ tiered_score numbers a b = profile_score (numbers a) (numbers b) a.profile_id b.
 -- and tier
 
 abbrev pub vp9_score : FormatParams → FormatParams → Option ℕ
-vp9_score a b = when (same_or 0 a.profile_id b.profile_id) 100
+vp9_score a b = when (numbers_match_or 0 a.profile_id b.profile_id) 100
 
 abbrev pub av1_score : FormatParams → FormatParams → Option ℕ
-av1_score a b = when (same_or 0 a.profile b.profile && (same_or 5 a.level_idx b.level_idx && same_or 0 a.tier b.tier)) 100
+av1_score a b = when (numbers_match_or 0 a.profile b.profile && (numbers_match_or 5 a.level_idx b.level_idx && numbers_match_or 0 a.tier b.tier)) 100
 
 -- ---- all codecs
 
@@ -152,7 +152,7 @@ format_score codec a b = rule_score (codec_rule codec) a b
 abbrev pub codec_score : Codec → CodecSpec → CodecSpec → Option ℕ
 codec_score Tele a b = Some 100
 codec_score AmrWb a b = amr_wb_score a b
-codec_score codec a b = if same_number a.channels b.channels then format_score codec a.format b.format else None
+codec_score codec a b = if given_numbers_match a.channels b.channels then format_score codec a.format b.format else None
 
 -- which score two specs have: equal ones fit in full, but for AMR-WB; others don't fit where the codecs or clock rates differ, where
 -- both are unknown, or where the channels differ, which telephone events and AMR-WB don't ask; all else is by the codec's own rule
@@ -172,12 +172,12 @@ score a b =
     else None
 
 -- one channel, or none given
-abbrev pub IsMono : CodecSpec → Type 0
-IsMono a = unwrap_or a.channels 1 ≡ 1
+abbrev pub ScoresAsMono : CodecSpec → Type 0
+ScoresAsMono a = unwrap_or a.channels 1 ≡ 1
 
 -- what a spec scores with itself: 100, but for AMR-WB, where a mode set costs one, and more than one channel everything
 pub record IsSelfScore (a : CodecSpec) (score : Option ℕ) : Type 0 where
   pub others : a.codec ≢ AmrWb → score ≡ Some 100
-  pub any_mode : a.codec ≡ AmrWb → IsMono a → a.format.mode_set ≡ None → score ≡ Some 100
-  pub mode_set : a.codec ≡ AmrWb → IsMono a → a.format.mode_set ≢ None → score ≡ Some 99
-  pub not_mono : a.codec ≡ AmrWb → ¬ IsMono a → score ≡ None
+  pub any_mode : a.codec ≡ AmrWb → ScoresAsMono a → a.format.mode_set ≡ None → score ≡ Some 100
+  pub mode_set : a.codec ≡ AmrWb → ScoresAsMono a → a.format.mode_set ≢ None → score ≡ Some 99
+  pub not_mono : a.codec ≡ AmrWb → ¬ ScoresAsMono a → score ≡ None

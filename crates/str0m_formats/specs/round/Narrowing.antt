@@ -22,9 +22,9 @@ lower_triple place None (Some chosen) = Some chosen
 lower_triple place _ None = None
 
 -- the profile id of the choice, which stands only where it has no triple
-abbrev pub id_beside : {Triple : Type 0} → Option Triple → Option ℕ → Option ℕ
-id_beside (Some triple) id = None
-id_beside None id = id
+abbrev pub narrowed_profile_id : {Triple : Type 0} → Option Triple → Option ℕ → Option ℕ
+narrowed_profile_id (Some triple) id = None
+narrowed_profile_id None id = id
 
 -- whether each side may send at a level of its own, as it may where both say so (RFC 6184, section 8.1)
 abbrev pub levels_differ : FormatParams → FormatParams → Bool
@@ -46,14 +46,14 @@ narrowed_by by_level own chosen = record own {
 narrowed_by by_h265 own chosen = record own {
   format = record own.format {
     h265_profile_tier_level = lower_triple h265.level_ordinal own.format.h265_profile_tier_level chosen.format.h265_profile_tier_level;
-    profile_id = id_beside chosen.format.h265_profile_tier_level chosen.format.profile_id;
+    profile_id = narrowed_profile_id chosen.format.h265_profile_tier_level chosen.format.profile_id;
     sprop_max_don_diff = option_or chosen.format.sprop_max_don_diff own.format.sprop_max_don_diff;
   };
 }
 narrowed_by by_h266 own chosen = record own {
   format = record own.format {
     h266_profile_tier_level = lower_triple h266.level_ordinal own.format.h266_profile_tier_level chosen.format.h266_profile_tier_level;
-    profile_id = id_beside chosen.format.h266_profile_tier_level chosen.format.profile_id;
+    profile_id = narrowed_profile_id chosen.format.h266_profile_tier_level chosen.format.profile_id;
     sprop_max_don_diff = option_or chosen.format.sprop_max_don_diff own.format.sprop_max_don_diff;
   };
 }

@@ -3,8 +3,8 @@ use Rattle.std.specs.Prelude.{ℕ, List, codes, ◌++◌, decimal}
 use Rattle.str0m_formats.specs.declared.round.negotiation_error.NegotiationError.{NegotiationError}
 use Rattle.str0m_formats.specs.declared.round.negotiation_error.NegotiationError.TheVariants.{TypeTooLarge, ClaimedTwice, Exhausted, Memory}
 
-abbrev pub cause_text : NegotiationError → List ℕ
-cause_text (TypeTooLarge pt) = codes "payload type " ++ (decimal pt ++ codes " is above 127")
-cause_text (ClaimedTwice pt) = codes "payload type " ++ (decimal pt ++ codes " is claimed twice")
-cause_text Exhausted = codes "payload type ranges exhausted"
-cause_text Memory = codes "out of memory"
+abbrev pub negotiation_cause_text : NegotiationError → List ℕ
+negotiation_cause_text (TypeTooLarge pt) = codes "payload type " ++ (decimal pt ++ codes " is above 127")
+negotiation_cause_text (ClaimedTwice pt) = codes "payload type " ++ (decimal pt ++ codes " is claimed twice")
+negotiation_cause_text Exhausted = codes "payload type ranges exhausted"
+negotiation_cause_text Memory = codes "out of memory"

@@ -6,13 +6,13 @@ use Rattle.str0m_formats.specs.declared.round.negotiation_error.NegotiationError
 use Rattle.str0m_formats.specs.declared.round.rounds.Round.{Round}
 use Rattle.str0m_formats.specs.declared.row.codec_config.CodecConfig.{CodecConfig}
 use Rattle.str0m_formats.specs.declared.row.payload_params.PayloadParams.{PayloadParams}
-use Rattle.str0m_formats.specs.round.Choices.{IsBest}
-use Rattle.str0m_formats.specs.round.Claimed.{has, times, AllDistinct}
+use Rattle.str0m_formats.specs.round.Choices.{IsBestChoice}
+use Rattle.str0m_formats.specs.round.Claimed.{has, type_times, AllTypesDistinct}
 use Rattle.str0m_formats.specs.round.MatchScore.{score}
 use Rattle.str0m_formats.specs.round.Narrowing.{telephone_max}
-use Rattle.str0m_formats.specs.round.Rounds.{Leaves, Refused, LeavesOnly, RefusedOnly}
-use Rattle.str0m_formats.specs.round.RoundsRuns.{Outcome, Reached, AtEachOk}
-use Rattle.str0m_formats.specs.row.PayloadParams.{types, locked_types, AllSmall}
+use Rattle.str0m_formats.specs.round.Rounds.{RoundLeaves, Refused, RoundLeavesOnly, RoundRefusedOnly}
+use Rattle.str0m_formats.specs.round.RoundsRuns.{Outcome, RunReached, AtEachOkRound}
+use Rattle.str0m_formats.specs.row.PayloadParams.{types, locked_types, AllTypesSmall}
 use Rattle.str0m_formats.specs.row.PlainRow.{IsPlain}
 use Rattle.str0m_formats.specs.row.PlainRowBounds.{IsBounded}
 
@@ -23,7 +23,7 @@ AtEachRow holds before after =
 
 -- each type of a locked row stands in one role alone, of all roles of all rows
 abbrev pub LockedStandAlone : List PayloadParams → Type 0
-LockedStandAlone rows = (t : ℕ) → has (locked_types rows) t ≡ true → times (types rows) t ≡ 1
+LockedStandAlone rows = (t : ℕ) → has (locked_types rows) t ≡ true → type_times (types rows) t ≡ 1
 
 -- a locked row is locked still, and each of its types is what it was
 pub record StaysLocked (old new : PayloadParams) : Type 0 where
@@ -53,7 +53,7 @@ HasTypesOf row theirs = (row.pt ≡ theirs.pt) × (row.resend ≡ theirs.resend)
 abbrev pub LockedAtBest : List PayloadParams → List PayloadParams → List PayloadParams → Type 0
 LockedAtBest remote = AtEachRow (λ old new. old.locked ≡ false → new.locked ≡ true →
     (best : PayloadParams) × HasTypesOf new best × Contains remote best × (score old.spec best.spec ≢ None)
-    × (old.spec.codec ≢ AmrWb → IsBest (λ theirs. score old.spec theirs.spec) remote best))
+    × (old.spec.codec ≢ AmrWb → IsBestChoice (λ theirs. score old.spec theirs.spec) remote best))
 
 -- a telephone row stays one, and its maximum doesn't grow
 abbrev pub TelephoneNarrows : List PayloadParams → List PayloadParams → Type 0
@@ -74,49 +74,49 @@ LevelsNarrow = AtEachRow (λ old new. old.spec.codec ≡ H264
     → (new.spec.codec ≡ H264) × NamesNoHigher had new.spec.format.profile_level_id)
 
 -- what an accepted round promises
-pub record Promises (before remote : List PayloadParams) (receives : Bool) (after : List PayloadParams) : Type 0 where
-  pub leaves : Leaves before remote receives after
+pub record RoundPromises (before remote : List PayloadParams) (receives : Bool) (after : List PayloadParams) : Type 0 where
+  pub leaves : RoundLeaves before remote receives after
   pub rows : length after ≡ length before
   pub alone : LockedStandAlone after
   pub stay : LockedStay before after
   pub matched : MatchedAreLocked remote receives before after
   pub best : receives ≡ true → LockedAtBest remote before after
-  pub distinct : AllDistinct (types before) → AllDistinct (types after)
+  pub distinct : AllTypesDistinct (types before) → AllTypesDistinct (types after)
   pub telephone : TelephoneNarrows before after
   pub levels : LevelsNarrow before after
   -- against rows whose numbers keep to their ranges
   pub plain : All IsPlain before → All IsBounded remote → All IsPlain after
 
 -- types on both sides have seven bits, and no two locked rows share one
-abbrev pub KeepsBounds : List PayloadParams → List PayloadParams → Type 0
-KeepsBounds rows remote = AllSmall (types rows ++ types remote) × AllDistinct (locked_types rows)
+abbrev pub KeepsRowBounds : List PayloadParams → List PayloadParams → Type 0
+KeepsRowBounds rows remote = AllTypesSmall (types rows ++ types remote) × AllTypesDistinct (locked_types rows)
 
 -- a round is accepted, or refused for memory alone
-abbrev pub OnlyForMemory : Outcome → Type 0
-OnlyForMemory (Ok done) = Unit {0}
-OnlyForMemory (Err cause) = cause ≡ Memory
+abbrev pub RoundFailsOnlyForMemory : Outcome → Type 0
+RoundFailsOnlyForMemory (Ok done) = Unit {0}
+RoundFailsOnlyForMemory (Err cause) = cause ≡ Memory
 
 -- what a call does that runs one round
 pub record Negotiates (remote : List PayloadParams) (receives : Bool) (old new : CodecConfig) (result : Outcome) : Type 0 where
-  pub ok : OnOk result (Leaves old.params.items remote receives new.params.items)
+  pub ok : OnOk result (RoundLeaves old.params.items remote receives new.params.items)
   pub cause : IfErr result (λ cause. cause ≢ Memory → Refused old.params.items remote receives cause)
   -- there is one outcome: these rows alone and no cause, or this cause alone and no rows
-  pub alone : OnOk result (LeavesOnly old.params.items remote receives new.params.items)
-  pub one_cause : IfErr result (λ cause. cause ≢ Memory → RefusedOnly old.params.items remote receives cause)
+  pub alone : OnOk result (RoundLeavesOnly old.params.items remote receives new.params.items)
+  pub one_cause : IfErr result (λ cause. cause ≢ Memory → RoundRefusedOnly old.params.items remote receives cause)
   pub room : length old.params.items ≤ 14 → result ≢ Err Exhausted
   -- where few rows with types of seven bits meet a side that demands nothing, it can only be out of memory
-  pub bounded : length old.params.items ≤ 14 → KeepsBounds old.params.items remote → receives ≡ false → OnlyForMemory result
+  pub bounded : length old.params.items ≤ 14 → KeepsRowBounds old.params.items remote → receives ≡ false → RoundFailsOnlyForMemory result
   -- what holds of the rows before, the remote rows and the rows after alone
-  pub promises : OnOk result (Promises old.params.items remote receives new.params.items)
+  pub promises : OnOk result (RoundPromises old.params.items remote receives new.params.items)
   pub else_same : new ≡ record old { params = new.params }
   pub err : OnErr result (new ≡ old)
 
 -- what a run of rounds promises: at each accepted round, and from its first rows to its last
-pub record RunPromises (before : List PayloadParams) (rounds : List Round) (outcomes : List Outcome) (after : List PayloadParams) : Type 0 where
-  pub each : AtEachOk Promises before rounds outcomes after
+pub record RoundsRunPromises (before : List PayloadParams) (rounds : List Round) (outcomes : List Outcome) (after : List PayloadParams) : Type 0 where
+  pub each : AtEachOkRound RoundPromises before rounds outcomes after
   pub rows : length after ≡ length before
   pub stay : LockedStay before after
-  pub distinct : AllDistinct (types before) → AllDistinct (types after)
+  pub distinct : AllTypesDistinct (types before) → AllTypesDistinct (types after)
   pub telephone : TelephoneNarrows before after
   pub levels : LevelsNarrow before after
   -- where the remote rows of every round keep to their ranges
@@ -124,11 +124,11 @@ pub record RunPromises (before : List PayloadParams) (rounds : List Round) (outc
   -- fourteen rows never exhaust the types that may be given
   pub room : length before ≤ 14 → All (λ outcome. outcome ≢ Err Exhausted) outcomes
   -- and where besides no other side receives, and types have seven bits, it can only be out of memory
-  pub bounded : length before ≤ 14 → AllSmall (types before) → AllDistinct (locked_types before)
-      → All (λ round. AllSmall (types round.remote.items)) rounds → All (λ round. receives round.direction ≡ false) rounds
-      → All OnlyForMemory outcomes
+  pub bounded : length before ≤ 14 → AllTypesSmall (types before) → AllTypesDistinct (locked_types before)
+      → All (λ round. AllTypesSmall (types round.remote.items)) rounds → All (λ round. receives round.direction ≡ false) rounds
+      → All RoundFailsOnlyForMemory outcomes
 
 -- every run that begins with these rows, of whatever rounds and with whatever outcomes, keeps its promises
-abbrev pub EveryRunPromises : List PayloadParams → Type 0
-EveryRunPromises before = (rounds : List Round) (outcomes : List Outcome) (after : List PayloadParams)
-    → Reached before rounds outcomes after → RunPromises before rounds outcomes after
+abbrev pub EveryRoundsRunPromises : List PayloadParams → Type 0
+EveryRoundsRunPromises before = (rounds : List Round) (outcomes : List Outcome) (after : List PayloadParams)
+    → RunReached before rounds outcomes after → RoundsRunPromises before rounds outcomes after

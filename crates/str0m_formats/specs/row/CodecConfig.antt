@@ -39,20 +39,20 @@ abbrev pub h266_row : ℕ → Option ℕ → H266ProfileTierLevel → PayloadPar
 h266_row pt resend triple = new_row pt resend (video_spec H266 (record empty { h266_profile_tier_level = Some triple }))
 
 -- the value that some numbers stand for, or where they stand for none, the one that stands in
-pub record IsThatOr {A : Type 0} (P otherwise : A → Type 0) (value : A) : Type 0 where
+pub record IsRowValueOrFallback {A : Type 0} (P otherwise : A → Type 0) (value : A) : Type 0 where
   pub that : (x : A) → P x → value ≡ x
   pub stands_in : ((x : A) → ¬ (P x)) → otherwise value
 
 -- the triple of three numbers; outside the table that of the defaults, as of a text which says nothing
 abbrev pub IsTripleOr : {P T L : Type 0} → (P → ℕ) → (T → ℕ) → (L → ℕ) → ℕ × ℕ × ℕ → ℕ → ℕ → ℕ → ProfileTierLevel P T L → Type 0
 IsTripleOr profile_id tier_flag level_id defaults profile tier level =
-    IsThatOr (HasNumbers profile_id tier_flag level_id profile tier level) (HasNumbers profile_id tier_flag level_id defaults.0 defaults.1 defaults.2)
+    IsRowValueOrFallback (HasNumbers profile_id tier_flag level_id profile tier level) (HasNumbers profile_id tier_flag level_id defaults.0 defaults.1 defaults.2)
 
 abbrev pub IsH265Triple : ℕ → ℕ → ℕ → H265ProfileTierLevel → Type 0
-IsH265Triple = IsTripleOr h265.profile_id h265.tier_flag h265.level_id h265.defaults
+IsH265Triple = IsTripleOr h265.profile_id h265.tier_flag h265.level_id h265.h265_defaults
 
 abbrev pub IsH266Triple : ℕ → ℕ → ℕ → H266ProfileTierLevel → Type 0
-IsH266Triple = IsTripleOr h266.profile_id h266.tier_flag h266.level_id h266.defaults
+IsH266Triple = IsTripleOr h266.profile_id h266.tier_flag h266.level_id h266.h266_defaults
 
 -- ---- what a configuration is after its rows were lent
 

@@ -8,7 +8,7 @@ use Rattle.str0m_formats.specs.declared.format.format_params.FormatParams.{Forma
 use Rattle.str0m_formats.specs.declared.row.codec_config.CodecConfig.{CodecConfig}
 use Rattle.str0m_formats.specs.declared.row.payload_params.PayloadParams.{PayloadParams}
 use Rattle.str0m_formats.specs.format.FormatParams.{empty}
-use Rattle.str0m_formats.specs.round.Claimed.{AllDistinct}
+use Rattle.str0m_formats.specs.round.Claimed.{AllTypesDistinct}
 use Rattle.str0m_formats.specs.round.MatchScore.{same_codec}
 use Rattle.str0m_formats.specs.row.CodecConfig.{video_spec, h264_row, h265_row, h266_row}
 use Rattle.str0m_formats.specs.row.PayloadParams.{new_row, types}
@@ -65,12 +65,12 @@ default_rows Null _ = []
 default_rows Unknown _ = []
 
 -- the rows of all other codecs
-abbrev pub except : Codec → List PayloadParams → List PayloadParams
-except codec rows = filter (λ row. not (same_codec row.spec.codec codec)) rows
+abbrev pub rows_except : Codec → List PayloadParams → List PayloadParams
+rows_except codec rows = filter (λ row. not (same_codec row.spec.codec codec)) rows
 
 -- the rows of the codec are taken out, and its default rows come last where it is enabled
 abbrev pub enabled_rows : Codec → Bool → Bool → List PayloadParams → List PayloadParams
-enabled_rows codec enabled use_red rows = except codec rows ++ (if enabled then default_rows codec use_red else [])
+enabled_rows codec enabled use_red rows = rows_except codec rows ++ (if enabled then default_rows codec use_red else [])
 
 -- a row of the table, with or without its RED
 abbrev pub IsDefault : PayloadParams → Type 0
@@ -79,7 +79,7 @@ IsDefault row = (codec : Codec) × (use_red : Bool) × Contains (default_rows co
 -- rows of the table, each with or without its RED, none of them twice: a row of the table is known by its payload type
 pub record AreDefault (rows : List PayloadParams) : Type 0 where
   pub each : All IsDefault rows
-  pub once : AllDistinct (map (λ row. row.pt) rows)
+  pub once : AllTypesDistinct (map (λ row. row.pt) rows)
 
 -- the codecs of a configuration with defaults, none with RED
 abbrev pub default_codecs : List Codec
@@ -95,4 +95,4 @@ pub record Enables (codec : Codec) (enabled use_red : Bool) (old new : CodecConf
   pub without : enabled ≡ false → IsOk result
   pub distances : new.red_distances ≡ old.red_distances
   pub default : AreDefault old.params.items → AreDefault new.params.items
-  pub distinct : AreDefault old.params.items → AllDistinct (types new.params.items)
+  pub distinct : AreDefault old.params.items → AllTypesDistinct (types new.params.items)

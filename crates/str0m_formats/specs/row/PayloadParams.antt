@@ -1,15 +1,15 @@
 -- Rows: which a call makes, when two are the same, and the payload types that they hold.
 use Rattle.std.specs.Prelude.{◌≡◌, find, nat_lt, ℕ, Bool, true, false, not, Option, None, List, ◌∷◌, ◌++◌, filter, flat_map, option_to_list}
-use Rattle.str0m_formats.specs.codec.Codec.{Content, content, video}
+use Rattle.str0m_formats.specs.codec.Codec.{CodecContent, codec_content, video}
 use Rattle.str0m_formats.specs.declared.codec.Codec.TheVariants.{Null}
 use Rattle.str0m_formats.specs.declared.codec.codec_spec.CodecSpec.{CodecSpec}
 use Rattle.str0m_formats.specs.declared.row.payload_params.PayloadParams.{PayloadParams}
 use Rattle.str0m_formats.specs.format.FormatParams.{empty}
 
 -- whether it carries video
-abbrev pub has_video : Content → Bool
-has_video video = true
-has_video _ = false
+abbrev pub row_content_has_video : CodecContent → Bool
+row_content_has_video video = true
+row_content_has_video _ = false
 
 -- a row that isn't locked: feedback of video where the codec carries it, and no RED
 abbrev pub new_row : ℕ → Option ℕ → CodecSpec → PayloadParams
@@ -19,10 +19,10 @@ new_row pt resend spec = record {
   red = None;
   spec = spec;
   fb_transport_cc = true;
-  fb_fir = has_video (content spec.codec);
-  fb_nack = has_video (content spec.codec);
-  fb_pli = has_video (content spec.codec);
-  fb_remb = has_video (content spec.codec);
+  fb_fir = row_content_has_video (codec_content spec.codec);
+  fb_nack = row_content_has_video (codec_content spec.codec);
+  fb_pli = row_content_has_video (codec_content spec.codec);
+  fb_remb = row_content_has_video (codec_content spec.codec);
   locked = false;
 }
 
@@ -49,5 +49,5 @@ abbrev pub open_types : List PayloadParams → List ℕ
 open_types rows = types (filter (λ row. not row.locked) rows)
 
 -- none of the types is above 127
-abbrev pub AllSmall : List ℕ → Type 0
-AllSmall types = find (nat_lt 127) types ≡ None
+abbrev pub AllTypesSmall : List ℕ → Type 0
+AllTypesSmall types = find (nat_lt 127) types ≡ None

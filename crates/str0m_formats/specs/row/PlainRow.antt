@@ -1,6 +1,6 @@
 -- Plain rows: those that the lines of a section say whole, so that a section made of them describes them again.
 use Rattle.std.specs.Prelude.{◌≡◌, ◌≢◌, ℕ, true, Some, None}
-use Rattle.str0m_formats.specs.codec.Codec.{content, audio, video, events, other}
+use Rattle.str0m_formats.specs.codec.Codec.{codec_content, audio, video, events, other}
 use Rattle.str0m_formats.specs.declared.codec.Codec.TheVariants.{G722, H265, H266}
 use Rattle.str0m_formats.specs.declared.codec.codec_spec.CodecSpec.{CodecSpec}
 use Rattle.str0m_formats.specs.declared.format.format_params.FormatParams.{FormatParams}
@@ -31,11 +31,11 @@ pub record HasPlainTriples (spec : CodecSpec) : Type 0 where
 
 -- the codec carries audio, video or events; what it carries says which feedback, RED and maximum of events are there
 pub record IsPlain (row : PayloadParams) : Type 0 where
-  pub carried : content row.spec.codec ≢ other
+  pub carried : codec_content row.spec.codec ≢ other
   pub bounded : IsBounded row
   pub triples : HasPlainTriples row.spec
   pub g722 : row.spec.codec ≡ G722 → IsPlainG722 row.spec
-  pub as_video : content row.spec.codec ≡ video → HasVideoFeedback row
-  pub redundant : row.red ≢ None → content row.spec.codec ≡ audio
-  pub telephone : content row.spec.codec ≡ events → SaysEventsAlone row.spec.format
-  pub no_maximum : content row.spec.codec ≢ events → row.spec.format.telephone_event_max ≡ None
+  pub as_video : codec_content row.spec.codec ≡ video → HasVideoFeedback row
+  pub redundant : row.red ≢ None → codec_content row.spec.codec ≡ audio
+  pub telephone : codec_content row.spec.codec ≡ events → SaysEventsAlone row.spec.format
+  pub no_maximum : codec_content row.spec.codec ≢ events → row.spec.format.telephone_event_max ≡ None

@@ -4,9 +4,9 @@ use Rattle.str0m_formats.specs.declared.format.format_key.FormatKey.{FormatKey}
 use Rattle.str0m_formats.specs.declared.format.format_params.Field.TheVariants as field
 use Rattle.str0m_formats.specs.declared.format.format_params.FormatParams.{FormatParams}
 use Rattle.str0m_formats.specs.declared.row.payload_params.PayloadParams.{PayloadParams}
-use Rattle.str0m_formats.specs.format.FormatParam.{Kind, number, hex, modes, Held, kind}
+use Rattle.str0m_formats.specs.format.FormatParam.{Kind, number, hex, modes, HeldParamValue, kind}
 use Rattle.str0m_formats.specs.format.FormatParams.{get}
-use Rattle.str0m_formats.specs.row.PayloadParams.{AllSmall, types_of}
+use Rattle.str0m_formats.specs.row.PayloadParams.{AllTypesSmall, types_of}
 
 -- some of the modes 0 to 8, a bit each (RFC 4867, section 8.2)
 abbrev pub AreModes : ℕ → Type 0
@@ -18,7 +18,7 @@ IsDistance n = n ≤ 32767
 
 -- the types of a row have seven bits, its modes and its distance keep to their ranges
 pub record IsBounded (row : PayloadParams) : Type 0 where
-  pub types : AllSmall (types_of row)
+  pub types : AllTypesSmall (types_of row)
   pub modes : IfSome row.spec.format.mode_set AreModes
   pub distance : IfSome row.spec.format.sprop_max_don_diff IsDistance
 
@@ -34,14 +34,14 @@ abbrev pub most : ℕ → ℕ
 most limit = if nat_le limit 255 then 255 else if nat_le limit 65535 then 65535 else 4294967295
 
 -- the value of a kind fits the type in which it is held
-abbrev pub FitsType : (kind : Kind) → Held kind → Type 0
+abbrev pub FitsType : (kind : Kind) → HeldParamValue kind → Type 0
 FitsType (number limit) n = n ≤ most limit
 FitsType hex n = n ≤ most 4294967295
 FitsType modes mask = mask ≤ most 511
 FitsType kind x = Unit {0}
 
 -- the numbers of a format fit the types of its fields, as they do in every format that a program holds
-pub record HoldsNumbers (p : FormatParams) : Type 0 where
+pub record HoldsRowFormatNumbers (p : FormatParams) : Type 0 where
   pub keys : (key : FormatKey) → IfSome (get (field.Key key) p) (FitsType (kind key))
   pub telephone_event_max : IfSome p.telephone_event_max IsByte
 
@@ -49,4 +49,4 @@ pub record HoldsNumbers (p : FormatParams) : Type 0 where
 pub record HoldsRowNumbers (row : PayloadParams) : Type 0 where
   pub clock_rate : (0 < row.spec.clock_rate) × (row.spec.clock_rate ≤ 4294967295)
   pub channels : IfSome row.spec.channels IsByte
-  pub format : HoldsNumbers row.spec.format
+  pub format : HoldsRowFormatNumbers row.spec.format

@@ -1,7 +1,7 @@
 //! Codecs with their clock rates, channels and formats.
 ghost use Rattle.std.specs.Prelude.{◌≡◌};
 ghost use Rattle.str0m_formats.specs.Prelude.{IsTheOnly};
-ghost use Rattle.str0m_formats.specs.codec.CodecSpec.{IsStatic, static_spec, rtp_rate};
+ghost use Rattle.str0m_formats.specs.codec.CodecSpec.{IsStaticSpec, static_spec, codec_rtp_rate};
 
 use crate::codec::Codec;
 use crate::format::format_params::FormatParams;
@@ -24,7 +24,7 @@ impl CodecSpec {
     /// The clock rate of RTP timestamps, in Hz: 8000 for G722, which samples at 16000 (RFC 3551,
     /// section 4.5.2), else the clock rate.
     pub fn rtp_clock_rate(self) -> Frequency
-        ensures { result ≡ rtp_rate self.codec self.clock_rate }
+        ensures { result ≡ codec_rtp_rate self.codec self.clock_rate }
     {
         match self.codec {
             Codec::G722 => Frequency::EIGHT_KHZ,
@@ -35,7 +35,7 @@ impl CodecSpec {
     /// What a payload type stands for without a mapping, which is static (RFC 3551, section 6): the codec
     /// of this type in docs/FORMATS.md, at the rate there. `None` for any other type.
     pub fn from_static_pt(pt: Pt) -> Option<CodecSpec>
-        ensures { IsTheOnly (IsStatic pt) result }
+        ensures { IsTheOnly (IsStaticSpec pt) result }
     {
         static_spec(pt)
     }

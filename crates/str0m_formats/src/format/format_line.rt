@@ -3,9 +3,9 @@ ghost use Rattle.std.specs.List.{list_any};
 ghost use Rattle.std.specs.Prelude.{◌≡◌, ◌∷◌, [], IfOk, option_map};
 ghost use Rattle.str0m_formats.specs.declared.codec.Codec.TheVariants.{AmrWb};
 ghost use Rattle.str0m_formats.specs.declared.format.format_params.FormatParams.{FormatParams};
-ghost use Rattle.str0m_formats.specs.format.FormatLine.{pieces, pair_in, bare_in, pairs_in, IsFormatOfLine, IsFormatOfBares, is_event, is_unsupported, events_end, asks_absent, kept, values_of, format_of_fmtp, line_values};
+ghost use Rattle.str0m_formats.specs.format.FormatLine.{pieces, pair_in, bare_param_in, pairs_in, IsFormatOfLine, IsFormatOfBares, is_event, is_unsupported_param, events_end, line_asks_absent, line_without_event_ranges, params_of_lines, format_of_fmtp, line_values};
 ghost use Rattle.str0m_formats.specs.format.FormatParam.{pair_texts};
-ghost use Rattle.str0m_formats.specs.format.FormatParams.{empty, set_all, params_text, CanBeReadBack};
+ghost use Rattle.str0m_formats.specs.format.FormatParams.{empty, set_all, params_text, CanFormatBeReadBack};
 ghost use Rattle.str0m_formats.specs.round.Narrowing.{telephone_max};
 
 use crate::codec::Codec;
@@ -24,8 +24,8 @@ fn pair_in(piece: &str) -> Option<(&str, &str)>
 }
 
 /// The value of a piece without a key, trimmed.
-fn bare_in(piece: &str) -> Option<&str>
-    ensures { option_map (λ text. text.now) result ≡ bare_in piece.now }
+fn bare_param_in(piece: &str) -> Option<&str>
+    ensures { option_map (λ text. text.now) result ≡ bare_param_in piece.now }
 {
     if has(piece, Separator::Equals) {
         return None;
@@ -47,12 +47,12 @@ fn pairs_in<'a>(alloc: Global, line: &'a str) -> Result<Vec<(&'a str, &'a str)>,
 }
 
 /// What the pieces of a line without a key say.
-fn bares_in(line: &str) -> FormatParams
+fn bare_params_in(line: &str) -> FormatParams
     ensures { IsFormatOfBares (pieces line.now) result }
 {
     let mut format = FormatParams::default();
     for piece in line.split(';') {
-        if let Some(value) = bare_in(piece) {
+        if let Some(value) = bare_param_in(piece) {
             format.set_param(&FormatParam::parse_telephone_events(value));
         }
     }
@@ -65,7 +65,7 @@ fn format_in(alloc: Global, line: &str) -> Result<FormatParams, AllocError>
 {
     let pairs = pairs_in(alloc, line)?;
     let params = FormatParam::parse_pairs(alloc, pairs.as_slice())?;
-    let mut format = bares_in(line);
+    let mut format = bare_params_in(line);
     format.set_all(params.as_slice());
     Ok(format)
 }
@@ -81,7 +81,7 @@ impl FormatParams {
 
     /// Takes over the values of an fmtp line, but for ranges of events.
     fn set_values(&mut self, line: &[FormatParam])
-        ensures { self.new ≡ set_all self.old (kept line.now) }
+        ensures { self.new ≡ set_all self.old (line_without_event_ranges line.now) }
     {
         for param in line {
             if !is_event(*param) {
@@ -101,7 +101,7 @@ impl FormatParams {
         ensures format { IfOk result (IsFormatOfLine line.now) }
 
         // A format that can be read back, printed and read, is itself.
-        ensures itself { (params : FormatParams) → CanBeReadBack params → line.now ≡ params_text params →
+        ensures itself { (params : FormatParams) → CanFormatBeReadBack params → line.now ≡ params_text params →
             IfOk result (λ format. format ≡ params) }
     {
         format_in(alloc, line)
@@ -126,7 +126,7 @@ impl FormatParams {
     /// for ranges of events; a line of AMR-WB is refused where it asks for `crc`, `robust-sorting`,
     /// any `interleaving` or a `mode-change-period` of 2 (RFC 4867, section 8.2). `None` where it is
     /// refused.
-    #[tactic(auto, unfolding(crate::specs::format::FormatLine::asks_absent))]
+    #[tactic(auto, unfolding(crate::specs::format::FormatLine::line_asks_absent))]
     pub fn from_sdp_fmtp(codec: Codec, lines: &[&[FormatParam]]) -> Option<FormatParams>
         ensures format { result ≡ format_of_fmtp codec (line_values lines.now) }
         ensures default { FormatParams.DEFAULT_TELEPHONE_EVENT_MAX ≡ 16 }
@@ -136,8 +136,8 @@ impl FormatParams {
                 telephone_event_max: Some(events_end(lines)?),
                 ..FormatParams::default()
             }),
-            Codec::AmrWb => amr_wb(lines),
-            _ => Some(from_values(lines)),
+            Codec::AmrWb => amr_wb_format(lines),
+            _ => Some(format_of_values(lines)),
         }
     }
 }
@@ -149,41 +149,41 @@ fn is_event(param: FormatParam) -> bool
     matches!(param, FormatParam::TelephoneEvents(_))
 }
 
-#[tactic(auto, unfolding(crate::specs::format::FormatLine::is_unsupported))]
-fn is_unsupported(param: &FormatParam) -> bool
-    ensures { result ≡ is_unsupported param.now }
+#[tactic(auto, unfolding(crate::specs::format::FormatLine::is_unsupported_param))]
+fn is_unsupported_param(param: &FormatParam) -> bool
+    ensures { result ≡ is_unsupported_param param.now }
 {
     matches!(param, FormatParam::AmrWbUnsupported)
 }
 
-fn has_unsupported(line: &[FormatParam]) -> bool
-    ensures { result ≡ list_any is_unsupported line.now }
+fn has_unsupported_param(line: &[FormatParam]) -> bool
+    ensures { result ≡ list_any is_unsupported_param line.now }
 {
-    line.iter().any(|param| is_unsupported(param))
+    line.iter().any(|param| is_unsupported_param(param))
 }
 
-fn any_unsupported(lines: &[&[FormatParam]]) -> bool
-    ensures { result ≡ list_any (λ line. list_any is_unsupported line.now) lines.now }
+fn any_unsupported_param(lines: &[&[FormatParam]]) -> bool
+    ensures { result ≡ list_any (λ line. list_any is_unsupported_param line.now) lines.now }
 {
-    lines.iter().any(|line| has_unsupported(line))
+    lines.iter().any(|line| has_unsupported_param(line))
 }
 
 /// Whether a line asks for what isn't there of AMR-WB.
-#[tactic(auto, using(crate::proofs::format::FormatLineLaws::asks))]
-fn asks_unsupported(lines: &[&[FormatParam]]) -> bool
-    ensures { result ≡ asks_absent AmrWb (line_values lines.now) }
+#[tactic(auto, using(crate::proofs::format::FormatLineLaws::line_asks_absent_answer))]
+fn asks_unsupported_param(lines: &[&[FormatParam]]) -> bool
+    ensures { result ≡ line_asks_absent AmrWb (line_values lines.now) }
 {
-    any_unsupported(lines)
+    any_unsupported_param(lines)
 }
 
 /// What lines of AMR-WB say, where they don't ask for what isn't there.
-fn amr_wb(lines: &[&[FormatParam]]) -> Option<FormatParams>
+fn amr_wb_format(lines: &[&[FormatParam]]) -> Option<FormatParams>
     ensures { result ≡ format_of_fmtp AmrWb (line_values lines.now) }
 {
-    if asks_unsupported(lines) {
+    if asks_unsupported_param(lines) {
         return None;
     }
-    Some(from_values(lines))
+    Some(format_of_values(lines))
 }
 
 /// The highest event of the lines of telephone events.
@@ -192,13 +192,13 @@ fn events_end(lines: &[&[FormatParam]]) -> Option<u8>
 {
     match lines {
         [] => Some(FormatParams::DEFAULT_TELEPHONE_EVENT_MAX),
-        [line] => range_end(line),
+        [line] => event_range_end(line),
         _ => None,
     }
 }
 
 /// The end of the range that is all of a line.
-fn range_end(line: &[FormatParam]) -> Option<u8>
+fn event_range_end(line: &[FormatParam]) -> Option<u8>
     ensures { result ≡ events_end (line.now ∷ []) }
 {
     match line {
@@ -207,8 +207,8 @@ fn range_end(line: &[FormatParam]) -> Option<u8>
     }
 }
 
-fn from_values(lines: &[&[FormatParam]]) -> FormatParams
-    ensures { result ≡ set_all empty (values_of (line_values lines.now)) }
+fn format_of_values(lines: &[&[FormatParam]]) -> FormatParams
+    ensures { result ≡ set_all empty (params_of_lines (line_values lines.now)) }
 {
     let mut format = FormatParams::default();
     for line in lines {

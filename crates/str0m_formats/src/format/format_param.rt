@@ -3,9 +3,9 @@ ghost use Rattle.std.specs.Prelude.{◌≡◌, IfOk, codes, option_map, bytes_eq
 ghost use Rattle.str0m_formats.specs.Prelude.{IsNum, IsTheOnly, num, when};
 ghost use Rattle.str0m_formats.specs.declared.format.format_param.FormatParam.{FormatParam};
 ghost use Rattle.str0m_formats.specs.declared.format.format_param.FormatParam.TheVariants.{AmrWbUnsupported};
-ghost use Rattle.str0m_formats.specs.format.FormatParam.{IsMode, IsModeSet, IsParsed, IsEventRange, IsBare, IsPrinted, pair_texts, entry, entry_text};
-ghost use Rattle.str0m_formats.specs.format.FormatParamReading.{number_read, hex_read, modes_read, value_read, param_of, bare_param};
-ghost use Rattle.str0m_formats.specs.format.Pairs.{AreRead};
+ghost use Rattle.str0m_formats.specs.format.FormatParam.{IsMode, IsModeSet, IsParsedParam, IsEventRange, IsBareParam, IsPrintedParam, pair_texts, entry, entry_text};
+ghost use Rattle.str0m_formats.specs.format.FormatParamReading.{param_number_read, param_hex_read, modes_read, param_value_read, param_of, bare_param};
+ghost use Rattle.str0m_formats.specs.format.Pairs.{ArePairsRead};
 ghost use Rattle.str0m_formats.specs.format.ParamText.{keyed_text};
 
 use crate::format::format_key::FormatKey;
@@ -74,31 +74,31 @@ pub enum FormatParam {
     Unknown,
 }
 
-fn is_text(text: &str, other: &str) -> bool
+fn is_key_text(text: &str, other: &str) -> bool
     ensures { result ≡ bytes_eq text.now other.now }
 {
     text == other
 }
 
-fn is_one(value: &str) -> bool
+fn is_flag_one(value: &str) -> bool
     ensures { result ≡ bytes_eq value.now (codes "1") }
 {
-    is_text(value, "1")
+    is_key_text(value, "1")
 }
 
-#[tactic(auto, using(crate::proofs::format::FormatParamReadingLaws::hex_is))]
-fn hex(text: &str) -> Option<u32>
-    ensures { result ≡ number_read 16 4294967295 text.now }
+#[tactic(auto, using(crate::proofs::format::FormatParamReadingLaws::param_hex_is))]
+fn param_hex_number(text: &str) -> Option<u32>
+    ensures { result ≡ param_number_read 16 4294967295 text.now }
 {
     hex_u32(text)
 }
 
 /// The number in hexadecimal, or in decimal where it is none in hexadecimal.
-#[tactic(auto, unfolding(crate::specs::format::FormatParamReading::hex_read))]
-fn hex_else_decimal(text: &str) -> Option<u32>
-    ensures { result ≡ hex_read text.now }
+#[tactic(auto, unfolding(crate::specs::format::FormatParamReading::param_hex_read))]
+fn param_hex_else_decimal(text: &str) -> Option<u32>
+    ensures { result ≡ param_hex_read text.now }
 {
-    match hex(text) {
+    match param_hex_number(text) {
         Some(n) => Some(n),
         None => num_u32(text),
     }
@@ -142,34 +142,34 @@ fn modes(text: &str) -> Option<u16>
 impl FormatKey {
     /// The parameter of a value after the key.
     fn param(self, value: &str) -> Option<FormatParam>
-        ensures { result ≡ value_read self value.now }
+        ensures { result ≡ param_value_read self value.now }
     {
         match self {
             FormatKey::MinPTime => Some(FormatParam::MinPTime(num_u8(value, 255)?)),
-            FormatKey::Stereo => Some(FormatParam::Stereo(is_one(value))),
-            FormatKey::SpropStereo => Some(FormatParam::SpropStereo(is_one(value))),
-            FormatKey::UseInbandFec => Some(FormatParam::UseInbandFec(is_one(value))),
-            FormatKey::UseDtx => Some(FormatParam::UseDtx(is_one(value))),
+            FormatKey::Stereo => Some(FormatParam::Stereo(is_flag_one(value))),
+            FormatKey::SpropStereo => Some(FormatParam::SpropStereo(is_flag_one(value))),
+            FormatKey::UseInbandFec => Some(FormatParam::UseInbandFec(is_flag_one(value))),
+            FormatKey::UseDtx => Some(FormatParam::UseDtx(is_flag_one(value))),
             FormatKey::LevelAsymmetryAllowed => {
-                Some(FormatParam::LevelAsymmetryAllowed(is_one(value)))
+                Some(FormatParam::LevelAsymmetryAllowed(is_flag_one(value)))
             }
             FormatKey::PacketizationMode => {
                 Some(FormatParam::PacketizationMode(num_u8(value, 255)?))
             }
             FormatKey::ProfileLevelId => {
-                Some(FormatParam::ProfileLevelId(hex_else_decimal(value)?))
+                Some(FormatParam::ProfileLevelId(param_hex_else_decimal(value)?))
             }
             FormatKey::ProfileId => Some(FormatParam::ProfileId(num_u32(value)?)),
             FormatKey::Profile => Some(FormatParam::Profile(num_u8(value, 255)?)),
             FormatKey::LevelIdx => Some(FormatParam::LevelIdx(num_u8(value, 255)?)),
             FormatKey::Tier => Some(FormatParam::Tier(num_u8(value, 255)?)),
             FormatKey::SpropMaxDonDiff => Some(FormatParam::SpropMaxDonDiff(distance(value)?)),
-            FormatKey::OctetAlign => Some(FormatParam::OctetAlign(is_one(value))),
+            FormatKey::OctetAlign => Some(FormatParam::OctetAlign(is_flag_one(value))),
             FormatKey::ModeSet => Some(FormatParam::ModeSet(modes(value)?)),
             FormatKey::Apt => Some(FormatParam::Apt(Pt::new_with_value(num_u8(value, 255)?))),
-            FormatKey::Crc => unsupported(is_one(value)),
-            FormatKey::RobustSorting => unsupported(is_one(value)),
-            FormatKey::ModeChangePeriod => unsupported(is_text(value, "2")),
+            FormatKey::Crc => unsupported_param(is_flag_one(value)),
+            FormatKey::RobustSorting => unsupported_param(is_flag_one(value)),
+            FormatKey::ModeChangePeriod => unsupported_param(is_key_text(value, "2")),
             FormatKey::Interleaving => Some(FormatParam::AmrWbUnsupported),
         }
     }
@@ -210,7 +210,7 @@ impl FormatParam {
     }
 }
 
-fn unsupported(is_asked: bool) -> Option<FormatParam>
+fn unsupported_param(is_asked: bool) -> Option<FormatParam>
     ensures { result ≡ option_map (λ x. AmrWbUnsupported) (when is_asked (tt {0})) }
 {
     if is_asked {
@@ -231,14 +231,14 @@ pub(crate) fn param(key: &str, value: &str) -> FormatParam
     }
 }
 
-#[tactic(auto, using(crate::proofs::format::FormatParamLaws::parsed))]
-fn parsed(key: &str, value: &str) -> FormatParam
-    ensures { IsParsed (key.now, value.now) result }
+#[tactic(auto, using(crate::proofs::format::FormatParamLaws::parsed_param))]
+fn parsed_param(key: &str, value: &str) -> FormatParam
+    ensures { IsParsedParam (key.now, value.now) result }
 {
     param(key, value)
 }
 
-fn byte(text: &str) -> Option<u8>
+fn param_byte_number(text: &str) -> Option<u8>
     ensures { IsTheOnly (IsNum 255 text.now) result }
 {
     num_u8(text, 255)
@@ -249,7 +249,7 @@ fn last_event(value: &str) -> Option<u8>
     ensures { IsTheOnly (IsEventRange value.now) result }
 {
     match value.strip_prefix("0-") {
-        Some(end) if !end.starts_with('+') => byte(end),
+        Some(end) if !end.starts_with('+') => param_byte_number(end),
         _ => None,
     }
 }
@@ -268,19 +268,19 @@ impl FormatParam {
     /// 6.15). Numbers read as std reads them; a flag is true exactly for `1`. What doesn't read is
     /// `Unknown`.
     pub fn parse(key: &str, value: &str) -> FormatParam
-        ensures parsed { IsParsed (key.now, value.now) result }
+        ensures parsed { IsParsedParam (key.now, value.now) result }
 
         // What a parameter prints reads as that parameter.
-        ensures printed { (param : FormatParam) → IsPrinted param (key.now, value.now) → result ≡ param }
+        ensures printed { (param : FormatParam) → IsPrintedParam param (key.now, value.now) → result ≡ param }
     {
-        parsed(key, value)
+        parsed_param(key, value)
     }
 
     /// Reads a value without a key: `0-X`, with X in digits and at most 255, is a range of
     /// telephone events (RFC 4733, section 2.4). What doesn't read is `Unknown`.
-    #[tactic(auto, using(crate::proofs::format::FormatParamLaws::bare_of))]
+    #[tactic(auto, using(crate::proofs::format::FormatParamLaws::bare_param_of))]
     pub fn parse_telephone_events(value: &str) -> FormatParam
-        ensures { IsBare value.now result }
+        ensures { IsBareParam value.now result }
     {
         events(last_event(value))
     }
@@ -290,12 +290,13 @@ impl FormatParam {
     /// values; the profile, tier and level of H265, else of H266, that they name comes first (RFC
     /// 7798, section 7.1; RFC 9328, section 7.2), and their three keys are passed over. Otherwise each
     /// pair is read on its own, in order. The only error is that memory was refused.
-    #[tactic(auto, using(crate::proofs::format::PairsLaws::are_read))]
+    #[tactic(auto, using(crate::proofs::format::PairsLaws::are_pairs_read))]
+    #[inline(always)]
     pub fn parse_pairs(
         alloc: Global,
         pairs: &[(&str, &str)],
     ) -> Result<Vec<FormatParam>, AllocError>
-        ensures { IfOk result (λ params. AreRead (pair_texts pairs.now) params.items) }
+        ensures { IfOk result (λ params. ArePairsRead (pair_texts pairs.now) params.items) }
     {
         params(alloc, pairs)
     }

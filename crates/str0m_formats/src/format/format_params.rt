@@ -1,7 +1,7 @@
 //! Formats: the parameters of a codec, each in a field.
 ghost use Rattle.std.specs.Prelude.{◌≡◌, ◌++◌, IfOk, Some};
 ghost use Rattle.str0m_formats.specs.declared.format.format_params.Field.TheVariants as field;
-ghost use Rattle.str0m_formats.specs.format.FormatParam.{param_text, part_if};
+ghost use Rattle.str0m_formats.specs.format.FormatParam.{param_text, param_part_if};
 ghost use Rattle.str0m_formats.specs.format.FormatParams.{set_all, empty, set, param_at, params_of, params_text};
 
 use crate::format::format_key::FormatKey;
@@ -219,7 +219,7 @@ struct ListedParam {
 }
 
 impl fmt::Display for ListedParam {
-    ghost output = { λ item. Some (part_if 59 item.started ++ param_text item.param) };
+    ghost output = { λ item. Some (param_part_if 59 item.started ++ param_text item.param) };
 
     fn fmt<W: fmt::Write>(&self, f: &mut fmt::Formatter<W>) -> fmt::Result {
         let param = self.param;

@@ -5,7 +5,7 @@ ghost use Rattle.indexmap.specs.IndexMap.{insert_entry, insert_all, set_value_at
 ghost use Rattle.std.specs.Prelude.{◌≡◌, ◌<◌, [], IfOk, IfSome, OnOk, length, map, vec_len, bytes_eq, string_bytes};
 ghost use Rattle.std.specs.Str.{str_to_ascii_lowercase};
 ghost use Rattle.str0m_formats.specs.format.FormatParam.{pair_texts};
-ghost use Rattle.str0m_formats.specs.format.MergedPairs.{HasPlaces, IsPlace};
+ghost use Rattle.str0m_formats.specs.format.MergedPairs.{HasPairPlaces, IsPairPlace};
 ghost use Rattle.str0m_formats.specs.format.PairsReading.{entry_texts};
 
 use std::alloc::{AllocError, Global};
@@ -13,9 +13,9 @@ use std::collections::BTreeMap;
 
 /// Up to so many pairs a key is looked for among all that went before, which takes no memory. The lines
 /// of browsers have fewer.
-const FEW: usize = 16;
+const FEW_PAIRS: usize = 16;
 
-fn lower(alloc: Global, text: &str) -> Result<String, AllocError>
+fn lower_key(alloc: Global, text: &str) -> Result<String, AllocError>
     ensures { IfOk result (λ lowered. string_bytes lowered ≡ str_to_ascii_lowercase text.now) }
 {
     let mut lowered = String::from_str(alloc, text)?;
@@ -32,15 +32,15 @@ pub(crate) fn lowered<'a>(
 {
     let mut lowered = Vec::with_capacity(alloc, pairs.len())?;
     for (key, value) in pairs {
-        let key = lower(alloc, key)?;
+        let key = lower_key(alloc, key)?;
         lowered.push((key, *value))?;
     }
     Ok(lowered)
 }
 
 /// Where the key stands, by a look at each entry.
-pub(crate) fn scan(entries: &[(&str, &str)], key: &str) -> Option<usize>
-    ensures place { IsPlace (bytes_eq key.now) (pair_texts entries.now) result }
+pub(crate) fn key_place(entries: &[(&str, &str)], key: &str) -> Option<usize>
+    ensures place { IsPairPlace (bytes_eq key.now) (pair_texts entries.now) result }
     ensures within { IfSome result (λ place. place < length entries.now) }
 {
     for (place, entry) in entries.iter().enumerate() {
@@ -61,14 +61,14 @@ fn set_value<'a>(entries: &mut Vec<(&'a str, &'a str)>, place: usize, value: &'a
 }
 
 /// Puts a value under a key: in the place where that stands already, else last.
-fn put_among<'a>(
+fn put_pair_among<'a>(
     entries: &mut Vec<(&'a str, &'a str)>,
     key: &'a str,
     value: &'a str,
 ) -> Result<(), AllocError>
     ensures { OnOk result (pair_texts entries.new.items ≡ insert_entry bytes_eq (pair_texts entries.old.items) key.now value.now) }
 {
-    match scan(entries.as_slice(), key) {
+    match key_place(entries.as_slice(), key) {
         Some(place) => set_value(entries, place, value),
         None => entries.push((key, value))?,
     }
@@ -76,15 +76,15 @@ fn put_among<'a>(
 }
 
 /// The same, with the place of each key known by the order of keys.
-fn put_ordered<'a>(
+fn put_pair_ordered<'a>(
     entries: &mut Vec<(&'a str, &'a str)>,
     places: &mut BTreeMap<&'a str, usize>,
     key: &'a str,
     value: &'a str,
 ) -> Result<(), AllocError>
-    requires { HasPlaces places.old (pair_texts entries.old.items) }
+    requires { HasPairPlaces places.old (pair_texts entries.old.items) }
     ensures put { OnOk result (pair_texts entries.new.items ≡ insert_entry bytes_eq (pair_texts entries.old.items) key.now value.now) }
-    ensures known { OnOk result (HasPlaces places.new (pair_texts entries.new.items)) }
+    ensures known { OnOk result (HasPairPlaces places.new (pair_texts entries.new.items)) }
 {
     match places.get(key).copied() {
         Some(place) => set_value(entries, place, value),
@@ -105,7 +105,7 @@ fn merge_few<'a>(
 {
     let mut entries = Vec::with_capacity(alloc, pairs.len())?;
     for (key, value) in pairs {
-        put_among(&mut entries, key.as_str(), *value)?;
+        put_pair_among(&mut entries, key.as_str(), *value)?;
     }
     Ok(entries)
 }
@@ -120,7 +120,7 @@ fn merge_many<'a>(
     let mut entries = Vec::with_capacity(alloc, pairs.len())?;
     let mut places = BTreeMap::new(alloc);
     for (key, value) in pairs {
-        put_ordered(&mut entries, &mut places, key.as_str(), *value)?;
+        put_pair_ordered(&mut entries, &mut places, key.as_str(), *value)?;
     }
     Ok(entries)
 }
@@ -132,7 +132,7 @@ pub(crate) fn merge<'a>(
 ) -> Result<Vec<(&'a str, &'a str)>, AllocError>
     ensures { IfOk result (λ list. pair_texts list.items ≡ insert_all bytes_eq [] (entry_texts pairs.now)) }
 {
-    if pairs.len() <= FEW {
+    if pairs.len() <= FEW_PAIRS {
         merge_few(alloc, pairs)
     } else {
         merge_many(alloc, pairs)

@@ -3,41 +3,41 @@ ghost use Rattle.std.specs.List.{list_any};
 ghost use Rattle.std.specs.Prelude.{◌≡◌, IfOk, map};
 ghost use Rattle.str0m_formats.specs.format.FormatParam.{pair_texts};
 ghost use Rattle.str0m_formats.specs.format.FormatParamReading.{param_of};
-ghost use Rattle.str0m_formats.specs.format.Pairs.{is_mark, has_mark, value_of, is_part};
-ghost use Rattle.str0m_formats.specs.format.PairsReading.{lay, triple_read, joined_read, params_read};
+ghost use Rattle.str0m_formats.specs.format.Pairs.{is_triple_mark, has_triple_mark, value_of_key, is_triple_key};
+ghost use Rattle.str0m_formats.specs.format.PairsReading.{lay, triple_read, joined_pairs_read, params_read};
 
 use crate::format::format_key::{LEVEL_ID, PROFILE_ID, TIER_FLAG};
 use crate::format::format_param::{FormatParam, param};
-use crate::format::merged_pairs::{lowered, merge, scan};
+use crate::format::merged_pairs::{key_place, lowered, merge};
 use std::alloc::{AllocError, Global};
 use str0m_values::cuts::is_same_text;
 use str0m_values::{H265ProfileTierLevel, H266ProfileTierLevel};
 
 /// Whether the key is one that only a profile, tier and level have.
-fn is_mark(key: &str) -> bool
-    ensures { result ≡ is_mark key.now }
+fn is_triple_mark(key: &str) -> bool
+    ensures { result ≡ is_triple_mark key.now }
 {
     is_same_text(key, TIER_FLAG) || is_same_text(key, LEVEL_ID)
 }
 
-fn any_mark(pairs: &[(&str, &str)]) -> bool
-    ensures { result ≡ list_any (λ pair. is_mark pair.0.now) pairs.now }
+fn any_triple_mark(pairs: &[(&str, &str)]) -> bool
+    ensures { result ≡ list_any (λ pair. is_triple_mark pair.0.now) pairs.now }
 {
-    pairs.iter().any(|pair| is_mark(pair.0))
+    pairs.iter().any(|pair| is_triple_mark(pair.0))
 }
 
-#[tactic(auto, using(crate::proofs::format::PairsLaws::marks_are))]
-fn has_mark(pairs: &[(&str, &str)]) -> bool
-    ensures { result ≡ has_mark (pair_texts pairs.now) }
+#[tactic(auto, using(crate::proofs::format::PairsLaws::triple_marks_are))]
+fn has_triple_mark(pairs: &[(&str, &str)]) -> bool
+    ensures { result ≡ has_triple_mark (pair_texts pairs.now) }
 {
-    any_mark(pairs)
+    any_triple_mark(pairs)
 }
 
 /// The value of a key.
-fn value_of<'a>(merged: &[(&str, &'a str)], key: &str) -> Option<&'a str>
-    ensures { lay result ≡ value_of key.now (pair_texts merged.now) }
+fn value_of_key<'a>(merged: &[(&str, &'a str)], key: &str) -> Option<&'a str>
+    ensures { lay result ≡ value_of_key key.now (pair_texts merged.now) }
 {
-    match scan(merged, key) {
+    match key_place(merged, key) {
         Some(place) => Some(merged[place].1),
         None => None,
     }
@@ -58,14 +58,14 @@ fn triple(profile: Option<&str>, tier: Option<&str>, level: Option<&str>) -> Opt
 }
 
 /// Whether the key is one of the three of a profile, tier and level.
-fn is_part(key: &str) -> bool
-    ensures { result ≡ is_part key.now }
+fn is_triple_key(key: &str) -> bool
+    ensures { result ≡ is_triple_key key.now }
 {
     key == PROFILE_ID || key == TIER_FLAG || key == LEVEL_ID
 }
 
 /// The parameter of each pair, in order.
-fn each(alloc: Global, pairs: &[(&str, &str)]) -> Result<Vec<FormatParam>, AllocError>
+fn each_param(alloc: Global, pairs: &[(&str, &str)]) -> Result<Vec<FormatParam>, AllocError>
     ensures { IfOk result (λ params. params.items ≡ map param_of (pair_texts pairs.now)) }
 {
     let mut params = Vec::with_capacity(alloc, pairs.len())?;
@@ -76,20 +76,20 @@ fn each(alloc: Global, pairs: &[(&str, &str)]) -> Result<Vec<FormatParam>, Alloc
 }
 
 /// The profile, tier and level of merged pairs, and the parameters of the others.
-fn joined(alloc: Global, merged: &[(&str, &str)]) -> Result<Vec<FormatParam>, AllocError>
-    ensures { IfOk result (λ params. params.items ≡ joined_read (pair_texts merged.now)) }
+fn joined_params(alloc: Global, merged: &[(&str, &str)]) -> Result<Vec<FormatParam>, AllocError>
+    ensures { IfOk result (λ params. params.items ≡ joined_pairs_read (pair_texts merged.now)) }
 {
     let mut params = Vec::new(alloc);
     let triple = triple(
-        value_of(merged, PROFILE_ID),
-        value_of(merged, TIER_FLAG),
-        value_of(merged, LEVEL_ID),
+        value_of_key(merged, PROFILE_ID),
+        value_of_key(merged, TIER_FLAG),
+        value_of_key(merged, LEVEL_ID),
     );
     if let Some(triple) = triple {
         params.push(triple)?;
     }
     for (key, value) in merged {
-        if !is_part(key) {
+        if !is_triple_key(key) {
             params.push(param(key, value))?;
         }
     }
@@ -97,14 +97,14 @@ fn joined(alloc: Global, merged: &[(&str, &str)]) -> Result<Vec<FormatParam>, Al
 }
 
 /// What the pairs read as, together.
-#[tactic(auto, unfolding(crate::specs::format::PairsReading::params_read, crate::specs::format::Pairs::merged))]
+#[tactic(auto, unfolding(crate::specs::format::PairsReading::params_read, crate::specs::format::Pairs::pairs_merged))]
 pub(crate) fn params(alloc: Global, pairs: &[(&str, &str)]) -> Result<Vec<FormatParam>, AllocError>
     ensures { IfOk result (λ params. params.items ≡ params_read (pair_texts pairs.now)) }
 {
-    if !has_mark(pairs) {
-        return each(alloc, pairs);
+    if !has_triple_mark(pairs) {
+        return each_param(alloc, pairs);
     }
     let lowered = lowered(alloc, pairs)?;
     let merged = merge(alloc, &lowered)?;
-    joined(alloc, &merged)
+    joined_params(alloc, &merged)
 }

@@ -1,7 +1,7 @@
 //! How parameters of formats print.
 ghost use Rattle.std.specs.Prelude.{◌≡◌, ◌++◌, Some, codes, decimal};
-ghost use Rattle.str0m_formats.specs.format.FormatParam.{entry, entry_text, flag_text, mode_list, param_text, part_if, six_digits, triple_text};
-ghost use Rattle.str0m_formats.specs.format.ParamText.{shown};
+ghost use Rattle.str0m_formats.specs.format.FormatParam.{entry, entry_text, param_flag_text, mode_list, param_text, param_part_if, param_six_digits, triple_text};
+ghost use Rattle.str0m_formats.specs.format.ParamText.{shown_param_value};
 
 use crate::format::format_param::FormatParam;
 use std::fmt;
@@ -12,7 +12,7 @@ use str0m_values::{Numbered, ProfileTierLevel, Pt};
 struct Flag(bool);
 
 impl fmt::Display for Flag {
-    ghost output = { λ flag. Some (flag_text flag.0) };
+    ghost output = { λ flag. Some (param_flag_text flag.0) };
 
     fn fmt<W: fmt::Write>(&self, f: &mut fmt::Formatter<W>) -> fmt::Result {
         if self.0 {
@@ -28,9 +28,9 @@ impl fmt::Display for Flag {
 struct SixDigits(u32);
 
 impl fmt::Display for SixDigits {
-    ghost output = { λ n. Some (six_digits n.0) };
+    ghost output = { λ n. Some (param_six_digits n.0) };
 
-    #[tactic(auto, using(crate::proofs::format::ParamTextPrinted::padded_six))]
+    #[tactic(auto, using(crate::proofs::format::ParamTextPrinted::param_padded_six))]
     fn fmt<W: fmt::Write>(&self, f: &mut fmt::Formatter<W>) -> fmt::Result {
         let n = self.0;
         write!(f, "{n:06x}")
@@ -80,7 +80,7 @@ struct ListedMode {
 }
 
 impl fmt::Display for ListedMode {
-    ghost output = { λ item. Some (part_if 44 item.started ++ decimal item.mode) };
+    ghost output = { λ item. Some (param_part_if 44 item.started ++ decimal item.mode) };
 
     fn fmt<W: fmt::Write>(&self, f: &mut fmt::Formatter<W>) -> fmt::Result {
         let mode = self.mode;
@@ -123,7 +123,7 @@ pub(crate) enum Value {
 }
 
 impl fmt::Display for Value {
-    ghost output = { λ value. Some (shown value) };
+    ghost output = { λ value. Some (shown_param_value value) };
 
     fn fmt<W: fmt::Write>(&self, f: &mut fmt::Formatter<W>) -> fmt::Result {
         match *self {

@@ -1,8 +1,8 @@
 //! What stands before a round: whether it may begin, and what is claimed then.
 ghost use Rattle.std.specs.Prelude.{◌≡◌, ◌≤◌, ℕ, ◌++◌, [], if◌then◌else◌, find, nat_lt, Ok, Err, Some, OnOk, IfOk, IfErr};
-ghost use Rattle.str0m_formats.specs.round.Claimed.{has, with_type, either};
+ghost use Rattle.str0m_formats.specs.round.Claimed.{has, with_type, either_set};
 ghost use Rattle.str0m_formats.specs.round.Claims.{claim_each};
-ghost use Rattle.str0m_formats.specs.row.PayloadParams.{AllSmall, types, types_of, locked_types, open_types};
+ghost use Rattle.str0m_formats.specs.row.PayloadParams.{AllTypesSmall, types, types_of, locked_types, open_types};
 
 use crate::round::claimed::Claimed;
 use crate::round::claims::Claims;
@@ -11,7 +11,7 @@ use crate::row::payload_params::PayloadParams;
 use str0m_values::Pt;
 
 /// The first type of a row above 127.
-pub(crate) fn first_large_of(row: &PayloadParams) -> Option<Pt>
+pub(crate) fn first_large_claim_of(row: &PayloadParams) -> Option<Pt>
     ensures { result ≡ find (nat_lt 127) (types_of row.now) }
 {
     if row.pt.value() > 127 {
@@ -26,11 +26,11 @@ pub(crate) fn first_large_of(row: &PayloadParams) -> Option<Pt>
 }
 
 /// The first type of the rows above 127.
-fn first_large(rows: &[PayloadParams]) -> Option<Pt>
+fn first_large_claim(rows: &[PayloadParams]) -> Option<Pt>
     ensures { result ≡ find (nat_lt 127) (types rows.now) }
 {
     for row in rows {
-        let large = first_large_of(row);
+        let large = first_large_claim_of(row);
         if large.is_some() {
             return large;
         }
@@ -43,17 +43,17 @@ pub(crate) fn check_types(
     rows: &[PayloadParams],
     remote: &[PayloadParams],
 ) -> Result<(), NegotiationError>
-    ensures ok { OnOk result (AllSmall (types rows.now ++ types remote.now)) }
+    ensures ok { OnOk result (AllTypesSmall (types rows.now ++ types remote.now)) }
     ensures err { IfErr result (λ cause. (t : ℕ) × (find (nat_lt 127) (types rows.now ++ types remote.now) ≡ Some t) × (cause ≡ NegotiationError.TypeTooLarge t)) }
 {
-    match first_large(rows).or(first_large(remote)) {
+    match first_large_claim(rows).or(first_large_claim(remote)) {
         None => Ok(()),
         Some(pt) => Err(NegotiationError::TypeTooLarge(pt)),
     }
 }
 
 /// Adds a type to a set that may have it.
-fn insert<C: Claimed>(set: &mut C, pt: Pt)
+fn insert_beginning_type<C: Claimed>(set: &mut C, pt: Pt)
     requires { pt ≤ 127 }
     ensures { C.holds set.new ≡ with_type (C.holds set.old) pt }
 {
@@ -62,15 +62,15 @@ fn insert<C: Claimed>(set: &mut C, pt: Pt)
 
 /// Adds each type of a row to a set that may have it.
 fn insert_row<C: Claimed>(set: &mut C, row: &PayloadParams)
-    requires { AllSmall (types_of row.now) }
-    ensures { C.holds set.new ≡ either (C.holds set.old) (has (types_of row.now)) }
+    requires { AllTypesSmall (types_of row.now) }
+    ensures { C.holds set.new ≡ either_set (C.holds set.old) (has (types_of row.now)) }
 {
-    insert(set, row.pt);
+    insert_beginning_type(set, row.pt);
     if let Some(resend) = row.resend {
-        insert(set, resend);
+        insert_beginning_type(set, resend);
     }
     if let Some(red) = row.red {
-        insert(set, red);
+        insert_beginning_type(set, red);
     }
 }
 
@@ -90,7 +90,7 @@ fn claim_new<C: Claimed>(set: &mut C, pt: Pt) -> Result<(), NegotiationError>
 /// Claims each type of a row, which must be new.
 #[tactic(auto, unfolding(crate::specs::round::Claims::claim_each))]
 fn claim_row<C: Claimed>(set: &mut C, row: &PayloadParams) -> Result<(), NegotiationError>
-    requires { AllSmall (types_of row.now) }
+    requires { AllTypesSmall (types_of row.now) }
     ensures ok { OnOk result (claim_each (C.holds set.old) (types_of row.now) ≡ Ok (C.holds set.new)) }
     ensures err { IfErr result (λ cause. claim_each (C.holds set.old) (types_of row.now) ≡ Err cause) }
 {
@@ -110,7 +110,7 @@ pub(crate) fn claims_of<C: Claimed>(
     rows: &[PayloadParams],
     receives: bool,
 ) -> Result<Claims<C>, NegotiationError>
-    requires { AllSmall (types rows.now) }
+    requires { AllTypesSmall (types rows.now) }
     ensures claimed { IfOk result (λ claims. claim_each (has []) (locked_types rows.now) ≡ Ok (C.holds claims.claimed)) }
     ensures unlocked { IfOk result (λ claims. C.holds claims.unlocked ≡ has (open_types rows.now)) }
     ensures receives { IfOk result (λ claims. claims.receives ≡ receives) }

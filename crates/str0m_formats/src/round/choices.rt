@@ -1,6 +1,6 @@
 //! Which row is chosen among several.
 ghost use Rattle.std.specs.Prelude.{◌≡◌};
-ghost use Rattle.str0m_formats.specs.round.Choices.{seen_best, better, is_event_row};
+ghost use Rattle.str0m_formats.specs.round.Choices.{seen_best_choice, better_row, is_event_row};
 
 use crate::row::payload_params::PayloadParams;
 use str0m_values::Pt;
@@ -13,12 +13,12 @@ pub(crate) fn is_event_row(row: &PayloadParams, pt: Pt) -> bool
 
 /// The best row so far, with its score, once one row more was seen: a later row of the same score
 /// goes before an earlier one.
-pub(crate) fn better<'a>(
+pub(crate) fn better_row<'a>(
     so_far: Option<(&'a PayloadParams, usize)>,
     row: &'a PayloadParams,
     score: Option<usize>,
 ) -> Option<(&'a PayloadParams, usize)>
-    ensures { seen_best result ≡ better (seen_best so_far.entry) row.now score }
+    ensures { seen_best_choice result ≡ better_row (seen_best_choice so_far.entry) row.now score }
 {
     match score {
         None => so_far,

@@ -1,6 +1,6 @@
 //! A table of claimed payload types in one number.
 ghost use Rattle.std.specs.Prelude.{◌≡◌, ◌<◌, ◌==◌, ◌||◌, ◌&&◌, ◌^◌, ℕ, not, nat_le};
-ghost use Rattle.str0m_formats.specs.round.ClaimMask.{bit_set, least_bit};
+ghost use Rattle.str0m_formats.specs.round.ClaimMask.{bit_set, least_claim_bit};
 ghost use Rattle.str0m_formats.specs.round.Claimed.{free};
 
 use crate::round::claimed::Claimed;
@@ -26,17 +26,17 @@ impl Model for ClaimMask {
 }
 
 // The ranges in which types are given, in order: each type as a one.
-const FROM_96_TO_127: u128 = 0xffff_ffff << 96;
+const CLAIMS_96_TO_127: u128 = 0xffff_ffff << 96;
 
-const FROM_80_TO_95: u128 = 0xffff << 80;
+const CLAIMS_80_TO_95: u128 = 0xffff << 80;
 
-const FROM_77_TO_78: u128 = 0b11 << 77;
+const CLAIMS_77_TO_78: u128 = 0b11 << 77;
 
-const FROM_35_TO_71: u128 = 0x1f_ffff_ffff << 35;
+const CLAIMS_35_TO_71: u128 = 0x1f_ffff_ffff << 35;
 
 /// The type of the least bit that is set.
 fn least_type(bits: u128) -> Option<Pt>
-    ensures { result ≡ least_bit bits }
+    ensures { result ≡ least_claim_bit bits }
 {
     if bits == 0 {
         None
@@ -77,10 +77,10 @@ impl ClaimMask {
         ensures { result ≡ free (λ t. bit_set self.now t || bit_set unlocked.now t) }
     {
         let free = !(self.bits() | unlocked.bits());
-        least_type(free & FROM_96_TO_127)
-            .or(least_type(free & FROM_80_TO_95))
-            .or(least_type(free & FROM_77_TO_78))
-            .or(least_type(free & FROM_35_TO_71))
+        least_type(free & CLAIMS_96_TO_127)
+            .or(least_type(free & CLAIMS_80_TO_95))
+            .or(least_type(free & CLAIMS_77_TO_78))
+            .or(least_type(free & CLAIMS_35_TO_71))
     }
 }
 

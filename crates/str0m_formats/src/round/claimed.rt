@@ -32,10 +32,15 @@ pub trait Claimed: Copy {
 
 /// The types that a round may give, in this order: each range with its first and its last type. First
 /// come those that RTP leaves to each session, then some that no profile assigns (RFC 3551, section 6).
-const PREFERRED_RANGES: [(u8, u8); 4] = [(96, 127), (80, 95), (77, 78), (35, 71)];
+const PREFERRED_CLAIM_RANGES: [(u8, u8); 4] = [(96, 127), (80, 95), (77, 78), (35, 71)];
 
 /// The first type from `first` to `last` that is in neither table.
-fn first_in(claimed: &[bool; 128], unlocked: &[bool; 128], first: u8, last: u8) -> Option<Pt>
+fn first_unclaimed_in(
+    claimed: &[bool; 128],
+    unlocked: &[bool; 128],
+    first: u8,
+    last: u8,
+) -> Option<Pt>
     requires { last < 128 }
     ensures { result
         ≡ find (λ t. not (slice_index_or claimed.now t false || slice_index_or unlocked.now t false)) (range_types (first, last)) }
@@ -51,12 +56,12 @@ fn first_in(claimed: &[bool; 128], unlocked: &[bool; 128], first: u8, last: u8) 
 }
 
 /// The first type that is in neither table, in the order in which types are given.
-fn first_free(claimed: &[bool; 128], unlocked: &[bool; 128]) -> Option<Pt>
+fn first_unclaimed(claimed: &[bool; 128], unlocked: &[bool; 128]) -> Option<Pt>
     ensures { result
         ≡ free (λ t. slice_index_or claimed.now t false || slice_index_or unlocked.now t false) }
 {
-    for (first, last) in PREFERRED_RANGES {
-        let found = first_in(claimed, unlocked, first, last);
+    for (first, last) in PREFERRED_CLAIM_RANGES {
+        let found = first_unclaimed_in(claimed, unlocked, first, last);
         if found.is_some() {
             return found;
         }
@@ -87,6 +92,6 @@ impl Claimed for [bool; 128] {
     }
 
     fn find_unclaimed(&self, unlocked: &Self) -> Option<Pt> {
-        first_free(self, unlocked)
+        first_unclaimed(self, unlocked)
     }
 }

@@ -1,13 +1,13 @@
 //! What a round has claimed: which remote row a row then goes with, and which types it may take.
 ghost use Rattle.std.specs.Bool.{OnTrue, OnFalse};
 ghost use Rattle.std.specs.Prelude.{◌≡◌, ◌≤◌, IfOk, IfSome, not, option_copied};
-ghost use Rattle.str0m_formats.specs.codec.Codec.{content};
-ghost use Rattle.str0m_formats.specs.round.Choices.{points_for, IsChoice};
-ghost use Rattle.str0m_formats.specs.round.Claimed.{with_type, with_option, either, free};
-ghost use Rattle.str0m_formats.specs.round.Rounds.{role_type, own_or_free, rtx_type, red_type, only_audio};
+ghost use Rattle.str0m_formats.specs.codec.Codec.{codec_content};
+ghost use Rattle.str0m_formats.specs.round.Choices.{choice_points_for, IsChoice};
+ghost use Rattle.str0m_formats.specs.round.Claimed.{with_type, claimed_with_option, either_set, free};
+ghost use Rattle.str0m_formats.specs.round.Rounds.{role_type, own_or_free_claim, rtx_type, red_type, round_red_of_audio};
 
 use crate::codec::Codec;
-use crate::round::choices::better;
+use crate::round::choices::better_row;
 use crate::round::claimed::Claimed;
 use crate::round::negotiation_error::NegotiationError;
 use crate::row::payload_params::PayloadParams;
@@ -29,9 +29,9 @@ pub(crate) struct Claims<C> {
 
 impl<C: Claimed> Claims<C> {
     /// The score of a remote row for a row; none where it doesn't match or is left aside.
-    #[tactic(auto, unfolding(crate::specs::round::Choices::points_for))]
+    #[tactic(auto, unfolding(crate::specs::round::Choices::choice_points_for))]
     fn points(&self, row: &PayloadParams, theirs: &PayloadParams) -> Option<usize>
-        ensures { result ≡ points_for (C.holds self.now.claimed) self.now.receives row.now theirs.now }
+        ensures { result ≡ choice_points_for (C.holds self.now.claimed) self.now.receives row.now theirs.now }
     {
         let points = row.match_score(theirs)?;
         // Asked of a row that matches, which few do.
@@ -48,11 +48,11 @@ impl<C: Claimed> Claims<C> {
         row: &PayloadParams,
         remote: &'a [PayloadParams],
     ) -> Option<&'a PayloadParams>
-        ensures { IsChoice (points_for (C.holds self.now.claimed) self.now.receives row.now) remote.now (option_copied result) }
+        ensures { IsChoice (choice_points_for (C.holds self.now.claimed) self.now.receives row.now) remote.now (option_copied result) }
     {
         let mut best = None;
         for theirs in remote {
-            best = better(best, theirs, self.points(row, theirs));
+            best = better_row(best, theirs, self.points(row, theirs));
         }
         match best {
             Some((theirs, _)) => Some(theirs),
@@ -95,7 +95,7 @@ impl<C: Claimed> Claims<C> {
     /// A row's own type where it isn't taken, else a free one.
     fn take_own_or_free(&mut self, own: Option<Pt>) -> Result<Pt, NegotiationError>
         requires { IfSome own (λ t. t ≤ 127) }
-        ensures value { result ≡ own_or_free (C.holds self.old.claimed) (C.holds self.old.unlocked) own }
+        ensures value { result ≡ own_or_free_claim (C.holds self.old.claimed) (C.holds self.old.unlocked) own }
         ensures claimed { IfOk result (λ t. C.holds self.new.claimed ≡ with_type (C.holds self.old.claimed) t) }
         ensures unlocked { self.new.unlocked ≡ self.old.unlocked }
         ensures receives { self.new.receives ≡ self.old.receives }
@@ -114,8 +114,8 @@ impl<C: Claimed> Claims<C> {
 
     /// Claims the first free type.
     pub(crate) fn take_free(&mut self) -> Option<Pt>
-        ensures value { result ≡ free (either (C.holds self.old.claimed) (C.holds self.old.unlocked)) }
-        ensures claimed { C.holds self.new.claimed ≡ with_option (C.holds self.old.claimed) result }
+        ensures value { result ≡ free (either_set (C.holds self.old.claimed) (C.holds self.old.unlocked)) }
+        ensures claimed { C.holds self.new.claimed ≡ claimed_with_option (C.holds self.old.claimed) result }
         ensures unlocked { self.new.unlocked ≡ self.old.unlocked }
         ensures receives { self.new.receives ≡ self.old.receives }
     {
@@ -135,7 +135,7 @@ impl<C: Claimed> Claims<C> {
         requires own { IfSome own (λ t. t ≤ 127) }
         ensures value { result
             ≡ rtx_type (C.holds self.old.claimed) (C.holds self.old.unlocked) self.old.receives asked own }
-        ensures claimed { IfOk result (λ t. C.holds self.new.claimed ≡ with_option (C.holds self.old.claimed) t) }
+        ensures claimed { IfOk result (λ t. C.holds self.new.claimed ≡ claimed_with_option (C.holds self.old.claimed) t) }
         ensures unlocked { self.new.unlocked ≡ self.old.unlocked }
         ensures receives { self.new.receives ≡ self.old.receives }
     {
@@ -154,7 +154,7 @@ impl<C: Claimed> Claims<C> {
         requires { IfSome asked (λ t. t ≤ 127) }
         ensures value { result
             ≡ red_type (C.holds self.old.claimed) (C.holds self.old.unlocked) self.old.receives asked own }
-        ensures claimed { C.holds self.new.claimed ≡ with_option (C.holds self.old.claimed) result }
+        ensures claimed { C.holds self.new.claimed ≡ claimed_with_option (C.holds self.old.claimed) result }
         ensures unlocked { self.new.unlocked ≡ self.old.unlocked }
         ensures receives { self.new.receives ≡ self.old.receives }
     {
@@ -181,8 +181,8 @@ impl<C: Claimed> Claims<C> {
     ) -> Option<Pt>
         requires { IfSome asked (λ t. t ≤ 127) }
         ensures value { result
-            ≡ only_audio (content codec) (red_type (C.holds self.old.claimed) (C.holds self.old.unlocked) self.old.receives asked own) }
-        ensures claimed { C.holds self.new.claimed ≡ with_option (C.holds self.old.claimed) result }
+            ≡ round_red_of_audio (codec_content codec) (red_type (C.holds self.old.claimed) (C.holds self.old.unlocked) self.old.receives asked own) }
+        ensures claimed { C.holds self.new.claimed ≡ claimed_with_option (C.holds self.old.claimed) result }
         ensures unlocked { self.new.unlocked ≡ self.old.unlocked }
         ensures receives { self.new.receives ≡ self.old.receives }
     {

@@ -1,9 +1,9 @@
 //! The first pass of a round: each row that is matched is locked.
 ghost use Rattle.std.specs.Prelude.{◌≡◌, Ok, IfErr, IfSome, OnOk, not, ◌&&◌, if◌then◌else◌, true, option_copied};
-ghost use Rattle.str0m_formats.specs.round.Claimed.{has, either};
+ghost use Rattle.str0m_formats.specs.round.Claimed.{has, either_set};
 ghost use Rattle.str0m_formats.specs.round.Narrowing.{narrowed};
-ghost use Rattle.str0m_formats.specs.round.Rounds.{and_then, locked_to, placed, taken_by, MayBegin, Begun, StopsFirst};
-ghost use Rattle.str0m_formats.specs.row.PayloadParams.{AllSmall, types_of, locked_types, open_types};
+ghost use Rattle.str0m_formats.specs.round.Rounds.{then_in_round, locked_to, placed, types_taken_by, RoundMayBegin, RoundBegun, StopsFirstPass};
+ghost use Rattle.str0m_formats.specs.row.PayloadParams.{AllTypesSmall, types_of, locked_types, open_types};
 
 use crate::round::claimed::Claimed;
 use crate::round::claims::Claims;
@@ -12,7 +12,7 @@ use crate::round::negotiation_error::NegotiationError;
 use crate::row::payload_params::PayloadParams;
 
 /// Locks a row whose types are those that its choice gives it: the rest of it is what both agree on.
-fn agree(row: &mut PayloadParams, choice: &PayloadParams)
+fn lock_agreed(row: &mut PayloadParams, choice: &PayloadParams)
     ensures { row.new ≡ record row.old {
       spec = narrowed row.old.spec choice.now.spec;
       fb_transport_cc = row.old.fb_transport_cc && choice.now.fb_transport_cc;
@@ -32,12 +32,12 @@ impl<C: Claimed> Claims<C> {
         row: &mut PayloadParams,
         choice: &PayloadParams,
     ) -> Result<(), NegotiationError>
-        requires row { AllSmall (types_of row.old) }
-        requires choice { AllSmall (types_of choice.now) }
-        ensures value { and_then result (λ _. Ok row.new)
+        requires row { AllTypesSmall (types_of row.old) }
+        requires choice { AllTypesSmall (types_of choice.now) }
+        ensures value { then_in_round result (λ _. Ok row.new)
             ≡ locked_to (C.holds self.old.claimed) (C.holds self.old.unlocked) self.old.receives row.old choice.now }
         ensures claimed { OnOk result
-            (C.holds self.new.claimed ≡ either (C.holds self.old.claimed) (has (types_of row.new))) }
+            (C.holds self.new.claimed ≡ either_set (C.holds self.old.claimed) (has (types_of row.new))) }
         ensures locked { OnOk result (row.new.locked ≡ true) }
         ensures unlocked { self.new.unlocked ≡ self.old.unlocked }
         ensures receives { self.new.receives ≡ self.old.receives }
@@ -49,7 +49,7 @@ impl<C: Claimed> Claims<C> {
         row.pt = pt;
         row.resend = resend;
         row.red = red;
-        agree(row, choice);
+        lock_agreed(row, choice);
         Ok(())
     }
 
@@ -60,12 +60,12 @@ impl<C: Claimed> Claims<C> {
         row: &mut PayloadParams,
         choice: Option<&PayloadParams>,
     ) -> Result<(), NegotiationError>
-        requires row { AllSmall (types_of row.old) }
-        requires choice { IfSome (option_copied choice) (λ c. AllSmall (types_of c)) }
-        ensures value { and_then result (λ _. Ok row.new)
+        requires row { AllTypesSmall (types_of row.old) }
+        requires choice { IfSome (option_copied choice) (λ c. AllTypesSmall (types_of c)) }
+        ensures value { then_in_round result (λ _. Ok row.new)
             ≡ placed (C.holds self.old.claimed) (C.holds self.old.unlocked) self.old.receives row.old (option_copied choice.entry) }
         ensures claimed { OnOk result
-            (C.holds self.new.claimed ≡ (if row.new.locked && not row.old.locked then either (C.holds self.old.claimed) (has (types_of row.new)) else C.holds self.old.claimed)) }
+            (C.holds self.new.claimed ≡ (if row.new.locked && not row.old.locked then either_set (C.holds self.old.claimed) (has (types_of row.new)) else C.holds self.old.claimed)) }
         ensures unlocked { self.new.unlocked ≡ self.old.unlocked }
         ensures receives { self.new.receives ≡ self.old.receives }
     {
@@ -88,13 +88,13 @@ impl<C: Claimed> Claims<C> {
         rows: &mut [PayloadParams],
         remote: &[PayloadParams],
     ) -> Result<(), NegotiationError>
-        requires may { MayBegin rows.old remote.now }
+        requires may { RoundMayBegin rows.old remote.now }
         requires claimed { C.holds self.old.claimed ≡ has (locked_types rows.old) }
         requires unlocked { C.holds self.old.unlocked ≡ has (open_types rows.old) }
-        ensures ok { OnOk result (Begun rows.old remote.now self.old.receives rows.new) }
-        ensures claimed { OnOk result (C.holds self.new.claimed ≡ taken_by rows.old rows.new) }
+        ensures ok { OnOk result (RoundBegun rows.old remote.now self.old.receives rows.new) }
+        ensures claimed { OnOk result (C.holds self.new.claimed ≡ types_taken_by rows.old rows.new) }
         ensures unlocked { OnOk result (C.holds self.new.unlocked ≡ has (open_types rows.old)) }
-        ensures err { IfErr result (StopsFirst rows.old remote.now self.old.receives) }
+        ensures err { IfErr result (StopsFirstPass rows.old remote.now self.old.receives) }
     {
         for row in rows.iter_mut() {
             let choice = self.choice(row, remote);

@@ -1,6 +1,6 @@
 //! How well two specs fit.
 ghost use Rattle.std.specs.Prelude.{◌≡◌, ◌≤◌, IfSome, option_map};
-ghost use Rattle.str0m_formats.specs.round.MatchScore.{same_flag, unless, opus_score, is_mono, mode_score, amr_wb_score, level_score, h264_level_score, h264_score, profile_numbers, profile_number, triple_score, profile_score, vp9_score, av1_score, format_score, codec_score, same_spec, score};
+ghost use Rattle.str0m_formats.specs.round.MatchScore.{flags_match, score_unless_cost, opus_score, scores_as_mono, mode_score, amr_wb_score, level_score, h264_level_score, h264_score, profile_numbers, profile_number, triple_score, profile_score, vp9_score, av1_score, format_score, codec_score, same_spec, score};
 
 use crate::codec::Codec;
 use crate::codec::codec_spec::CodecSpec;
@@ -8,7 +8,7 @@ use crate::format::format_params::FormatParams;
 use str0m_values::{H264ProfileLevel, Leveled, Numbered, ProfileTierLevel};
 
 /// The score of what fits in full.
-const FULL: usize = 100;
+const FULL_SCORE: usize = 100;
 
 /// The score of formats of which no more than the profiles are known to be the same.
 const SAME_PROFILE: usize = 90;
@@ -22,15 +22,15 @@ struct ProfileNumbers {
 }
 
 /// Whether two flags are the same, of which an absent one is false.
-fn is_same_flag(own: Option<bool>, other: Option<bool>) -> bool
-    ensures { result ≡ same_flag own other }
+fn is_flag_match(own: Option<bool>, other: Option<bool>) -> bool
+    ensures { result ≡ flags_match own other }
 {
     own.unwrap_or(false) == other.unwrap_or(false)
 }
 
 /// What a difference costs.
-fn cost_unless(is_same: bool, cost: usize) -> usize
-    ensures cost { result ≡ unless is_same cost }
+fn score_cost_unless(is_same: bool, cost: usize) -> usize
+    ensures cost { result ≡ score_unless_cost is_same cost }
     ensures bound { result ≤ cost }
 {
     if is_same { 0 } else { cost }
@@ -40,11 +40,12 @@ fn opus_score(own: &FormatParams, other: &FormatParams) -> usize
     ensures score { result ≡ opus_score own.now other.now }
     ensures bound { result ≤ 100 }
 {
-    FULL - cost_unless(own.min_p_time == other.min_p_time, 1)
-        - cost_unless(own.use_inband_fec == other.use_inband_fec, 2)
-        - cost_unless(own.use_dtx == other.use_dtx, 4)
-        - cost_unless(is_same_flag(own.stereo, other.stereo), 8)
-        - cost_unless(is_same_flag(own.sprop_stereo, other.sprop_stereo), 8)
+    FULL_SCORE
+        - score_cost_unless(own.min_p_time == other.min_p_time, 1)
+        - score_cost_unless(own.use_inband_fec == other.use_inband_fec, 2)
+        - score_cost_unless(own.use_dtx == other.use_dtx, 4)
+        - score_cost_unless(is_flag_match(own.stereo, other.stereo), 8)
+        - score_cost_unless(is_flag_match(own.sprop_stereo, other.sprop_stereo), 8)
 }
 
 fn mode_score(own: Option<u16>, other: Option<u16>) -> Option<usize>
@@ -52,15 +53,15 @@ fn mode_score(own: Option<u16>, other: Option<u16>) -> Option<usize>
     ensures bound { IfSome result (λ n. n ≤ 100) }
 {
     match (own, other) {
-        (None, None) => Some(FULL),
+        (None, None) => Some(FULL_SCORE),
         (Some(mine), Some(theirs)) if mine != theirs => None,
-        _ => Some(FULL - 1),
+        _ => Some(FULL_SCORE - 1),
     }
 }
 
 /// Whether there is one channel, as there is where nothing is said of it.
-fn is_mono(channels: Option<u8>) -> bool
-    ensures { result ≡ is_mono channels }
+fn scores_as_mono(channels: Option<u8>) -> bool
+    ensures { result ≡ scores_as_mono channels }
 {
     channels.unwrap_or(1) == 1
 }
@@ -69,9 +70,9 @@ fn amr_wb_score(own: &CodecSpec, other: &CodecSpec) -> Option<usize>
     ensures score { result ≡ amr_wb_score own.now other.now }
     ensures bound { IfSome result (λ n. n ≤ 100) }
 {
-    if is_mono(own.channels)
-        && is_mono(other.channels)
-        && is_same_flag(own.format.octet_align, other.format.octet_align)
+    if scores_as_mono(own.channels)
+        && scores_as_mono(other.channels)
+        && is_flag_match(own.format.octet_align, other.format.octet_align)
     {
         mode_score(own.format.mode_set, other.format.mode_set)
     } else {
@@ -85,7 +86,7 @@ fn level_score(is_same: bool, own: usize, other: usize) -> Option<usize>
     ensures bound { IfSome result (λ n. n ≤ 100) }
 {
     if is_same {
-        Some(FULL.saturating_sub(own.abs_diff(other)))
+        Some(FULL_SCORE.saturating_sub(own.abs_diff(other)))
     } else {
         None
     }
@@ -172,7 +173,7 @@ fn vp9_score(own: &FormatParams, other: &FormatParams) -> Option<usize>
     ensures bound { IfSome result (λ n. n ≤ 100) }
 {
     if own.profile_id.unwrap_or(0) == other.profile_id.unwrap_or(0) {
-        Some(FULL)
+        Some(FULL_SCORE)
     } else {
         None
     }
@@ -186,7 +187,7 @@ fn av1_score(own: &FormatParams, other: &FormatParams) -> Option<usize>
         && own.level_idx.unwrap_or(5) == other.level_idx.unwrap_or(5)
         && own.tier.unwrap_or(0) == other.tier.unwrap_or(0)
     {
-        Some(FULL)
+        Some(FULL_SCORE)
     } else {
         None
     }
@@ -224,7 +225,7 @@ fn codec_score(own: &CodecSpec, other: &CodecSpec) -> Option<usize>
     ensures bound { IfSome result (λ n. n ≤ 100) }
 {
     match own.codec {
-        Codec::Tele => Some(FULL),
+        Codec::Tele => Some(FULL_SCORE),
         Codec::AmrWb => amr_wb_score(own, other),
         codec if own.channels == other.channels => format_score(codec, &own.format, &other.format),
         _ => None,
@@ -250,7 +251,7 @@ pub(crate) fn spec_score(own: &CodecSpec, other: &CodecSpec) -> Option<usize>
     ensures bound { IfSome result (λ n. n ≤ 100) }
 {
     if is_same(own, other) && own.codec != Codec::AmrWb {
-        return Some(FULL);
+        return Some(FULL_SCORE);
     }
     if own.codec == other.codec && own.clock_rate == other.clock_rate {
         codec_score(own, other)

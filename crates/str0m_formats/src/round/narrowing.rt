@@ -1,7 +1,7 @@
 //! What the row that a row is matched with changes in its format.
 ghost use Rattle.std.specs.Prelude.{◌≡◌};
 ghost use Rattle.str0m_formats.specs.declared.codec.Codec.TheVariants.{AmrWb, H264, H265, H266, Tele};
-ghost use Rattle.str0m_formats.specs.round.Narrowing.{narrowed, narrowed_as, levels_differ, lower_triple, id_beside};
+ghost use Rattle.str0m_formats.specs.round.Narrowing.{narrowed, narrowed_as, levels_differ, lower_triple, narrowed_profile_id};
 
 use crate::codec::Codec;
 use crate::codec::codec_spec::CodecSpec;
@@ -28,8 +28,8 @@ fn lower_triple<P: Numbered, T: Numbered, L: Leveled>(
 }
 
 /// The profile id, where no triple says it.
-fn id_beside<Triple: Copy>(triple: Option<Triple>, id: Option<u32>) -> Option<u32>
-    ensures { result ≡ id_beside triple id }
+fn narrowed_profile_id<Triple: Copy>(triple: Option<Triple>, id: Option<u32>) -> Option<u32>
+    ensures { result ≡ narrowed_profile_id triple id }
 {
     match triple {
         Some(_) => None,
@@ -71,7 +71,7 @@ fn narrow_h265(own: &mut CodecSpec, chosen: &CodecSpec)
     ensures { own.new ≡ narrowed_as H265 own.old chosen.now }
 {
     let theirs = &chosen.format;
-    own.format.profile_id = id_beside(theirs.h265_profile_tier_level, theirs.profile_id);
+    own.format.profile_id = narrowed_profile_id(theirs.h265_profile_tier_level, theirs.profile_id);
     own.format.h265_profile_tier_level = lower_triple(
         own.format.h265_profile_tier_level,
         theirs.h265_profile_tier_level,
@@ -84,7 +84,7 @@ fn narrow_h266(own: &mut CodecSpec, chosen: &CodecSpec)
     ensures { own.new ≡ narrowed_as H266 own.old chosen.now }
 {
     let theirs = &chosen.format;
-    own.format.profile_id = id_beside(theirs.h266_profile_tier_level, theirs.profile_id);
+    own.format.profile_id = narrowed_profile_id(theirs.h266_profile_tier_level, theirs.profile_id);
     own.format.h266_profile_tier_level = lower_triple(
         own.format.h266_profile_tier_level,
         theirs.h266_profile_tier_level,

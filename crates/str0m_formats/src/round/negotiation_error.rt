@@ -24,9 +24,9 @@ pub enum NegotiationError {
 // Written by hand, since a derived `Display` has no contract.
 impl fmt::Display for NegotiationError {
     ghost use Rattle.std.specs.Prelude.{Some};
-    ghost use Rattle.str0m_formats.specs.round.NegotiationError.{cause_text};
+    ghost use Rattle.str0m_formats.specs.round.NegotiationError.{negotiation_cause_text};
 
-    ghost output = { λ cause. Some (cause_text cause) };
+    ghost output = { λ cause. Some (negotiation_cause_text cause) };
 
     fn fmt<W: fmt::Write>(&self, f: &mut fmt::Formatter<W>) -> fmt::Result {
         match self {

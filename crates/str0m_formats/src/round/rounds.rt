@@ -1,9 +1,9 @@
 //! Rounds of negotiation, one and many.
 ghost use Rattle.std.specs.Prelude.{◌≡◌, OnOk, OnErr, IfErr, IfOk};
 ghost use Rattle.str0m_formats.specs.Prelude.{receives};
-ghost use Rattle.str0m_formats.specs.round.Rounds.{Leaves, Refused};
-ghost use Rattle.str0m_formats.specs.round.RoundsPromises.{Negotiates, RunPromises, EveryRunPromises};
-ghost use Rattle.str0m_formats.specs.round.RoundsRuns.{Reached};
+ghost use Rattle.str0m_formats.specs.round.Rounds.{RoundLeaves, Refused};
+ghost use Rattle.str0m_formats.specs.round.RoundsPromises.{Negotiates, RoundsRunPromises, EveryRoundsRunPromises};
+ghost use Rattle.str0m_formats.specs.round.RoundsRuns.{RunReached};
 
 use crate::round::beginning::{check_types, claims_of};
 use crate::round::claim_mask::ClaimMask;
@@ -30,7 +30,7 @@ fn run_round<C: Claimed>(
     remote: &[PayloadParams],
     receives: bool,
 ) -> Result<(), NegotiationError>
-    ensures ok { OnOk result (Leaves rows.old remote.now receives rows.new) }
+    ensures ok { OnOk result (RoundLeaves rows.old remote.now receives rows.new) }
     ensures err { IfErr result (Refused rows.old remote.now receives) }
 {
     check_types(rows, remote)?;
@@ -94,11 +94,11 @@ impl CodecConfig {
         &mut self,
         rounds: &[Round],
     ) -> Result<Vec<Result<(), NegotiationError>>, AllocError>
-        ensures ok { IfOk result (λ outcomes. Reached self.old.params.items rounds.now outcomes.items self.new.params.items) }
+        ensures ok { IfOk result (λ outcomes. RunReached self.old.params.items rounds.now outcomes.items self.new.params.items) }
         // What each accepted round promises, and what holds from the first rows to the last: of this run,
         // and of every run that begins with these rows.
-        ensures promises { IfOk result (λ outcomes. RunPromises self.old.params.items rounds.now outcomes.items self.new.params.items) }
-        ensures every_run { EveryRunPromises self.old.params.items }
+        ensures promises { IfOk result (λ outcomes. RoundsRunPromises self.old.params.items rounds.now outcomes.items self.new.params.items) }
+        ensures every_run { EveryRoundsRunPromises self.old.params.items }
         ensures else_same { self.new ≡ record self.old { params = self.new.params } }
         ensures err { OnErr result (self.new ≡ self.old) }
     {

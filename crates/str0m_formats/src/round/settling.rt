@@ -1,9 +1,9 @@
 //! The second pass of a round: a row that is still open gives up each type that a locked row has.
 ghost use Rattle.std.specs.Prelude.{◌≡◌, ℕ, Ok, IfOk, IfErr, IfSome, OnOk, if◌then◌else◌, true, false, Some, slice_get};
 ghost use Rattle.str0m_formats.specs.declared.row.payload_params.PayloadParams.{PayloadParams};
-ghost use Rattle.str0m_formats.specs.round.Claimed.{TypeSet, has, with_option, either};
-ghost use Rattle.str0m_formats.specs.round.Claims.{Serves};
-ghost use Rattle.str0m_formats.specs.round.Rounds.{and_then, kept_or_free, kept_red, kept_rtx, settled_row, Settled, StopsSettling};
+ghost use Rattle.str0m_formats.specs.round.Claimed.{TypeSet, has, claimed_with_option, either_set};
+ghost use Rattle.str0m_formats.specs.round.Claims.{ClaimsServe};
+ghost use Rattle.str0m_formats.specs.round.Rounds.{then_in_round, kept_or_free_claim, kept_red, kept_rtx, settled_row, Settled, StopsSettling};
 ghost use Rattle.str0m_formats.specs.row.PayloadParams.{types_of, locked_types};
 
 use crate::round::claimed::Claimed;
@@ -19,10 +19,10 @@ impl<C: Claimed> Claims<C> {
     /// A type of an open row: kept where no locked row has it, else the first free one.
     fn keep(&mut self, pt: Pt) -> Option<Pt>
         requires { C.holds self.old.unlocked pt ≡ true }
-        ensures value { (locked taken : TypeSet) → Serves (C.holds self.old.claimed) (C.holds self.old.unlocked) locked taken
-            → result ≡ kept_or_free locked taken (C.holds self.old.unlocked) pt }
-        ensures claimed { (locked taken : TypeSet) → Serves (C.holds self.old.claimed) (C.holds self.old.unlocked) locked taken
-            → Serves (C.holds self.new.claimed) (C.holds self.old.unlocked) locked (with_option taken result) }
+        ensures value { (locked taken : TypeSet) → ClaimsServe (C.holds self.old.claimed) (C.holds self.old.unlocked) locked taken
+            → result ≡ kept_or_free_claim locked taken (C.holds self.old.unlocked) pt }
+        ensures claimed { (locked taken : TypeSet) → ClaimsServe (C.holds self.old.claimed) (C.holds self.old.unlocked) locked taken
+            → ClaimsServe (C.holds self.new.claimed) (C.holds self.old.unlocked) locked (claimed_with_option taken result) }
         ensures unlocked { self.new.unlocked ≡ self.old.unlocked }
     {
         if self.claimed.is_claimed(pt) {
@@ -34,10 +34,10 @@ impl<C: Claimed> Claims<C> {
     /// The RED type of an open row: none where no type is free for it.
     fn keep_red(&mut self, red: Option<Pt>) -> Option<Pt>
         requires { IfSome red (λ t. C.holds self.old.unlocked t ≡ true) }
-        ensures value { (locked taken : TypeSet) → Serves (C.holds self.old.claimed) (C.holds self.old.unlocked) locked taken
+        ensures value { (locked taken : TypeSet) → ClaimsServe (C.holds self.old.claimed) (C.holds self.old.unlocked) locked taken
             → result ≡ kept_red locked taken (C.holds self.old.unlocked) red }
-        ensures claimed { (locked taken : TypeSet) → Serves (C.holds self.old.claimed) (C.holds self.old.unlocked) locked taken
-            → Serves (C.holds self.new.claimed) (C.holds self.old.unlocked) locked (with_option taken result) }
+        ensures claimed { (locked taken : TypeSet) → ClaimsServe (C.holds self.old.claimed) (C.holds self.old.unlocked) locked taken
+            → ClaimsServe (C.holds self.new.claimed) (C.holds self.old.unlocked) locked (claimed_with_option taken result) }
         ensures unlocked { self.new.unlocked ≡ self.old.unlocked }
     {
         match red {
@@ -49,10 +49,10 @@ impl<C: Claimed> Claims<C> {
     /// The RTX type of an open row.
     fn keep_rtx(&mut self, resend: Option<Pt>) -> Result<Option<Pt>, NegotiationError>
         requires { IfSome resend (λ t. C.holds self.old.unlocked t ≡ true) }
-        ensures value { (locked taken : TypeSet) → Serves (C.holds self.old.claimed) (C.holds self.old.unlocked) locked taken
+        ensures value { (locked taken : TypeSet) → ClaimsServe (C.holds self.old.claimed) (C.holds self.old.unlocked) locked taken
             → result ≡ kept_rtx locked taken (C.holds self.old.unlocked) resend }
-        ensures claimed { (locked taken : TypeSet) → Serves (C.holds self.old.claimed) (C.holds self.old.unlocked) locked taken
-            → IfOk result (λ t. Serves (C.holds self.new.claimed) (C.holds self.old.unlocked) locked (with_option taken t)) }
+        ensures claimed { (locked taken : TypeSet) → ClaimsServe (C.holds self.old.claimed) (C.holds self.old.unlocked) locked taken
+            → IfOk result (λ t. ClaimsServe (C.holds self.new.claimed) (C.holds self.old.unlocked) locked (claimed_with_option taken t)) }
         ensures unlocked { self.new.unlocked ≡ self.old.unlocked }
     {
         match resend {
@@ -67,11 +67,11 @@ impl<C: Claimed> Claims<C> {
     /// What a row is after the second pass: primary, RED, RTX in this order.
     fn settle(&mut self, row: &mut PayloadParams) -> Result<(), NegotiationError>
         requires { row.old.locked ≡ false → (t : ℕ) → has (types_of row.old) t ≡ true → C.holds self.old.unlocked t ≡ true }
-        ensures value { (locked taken : TypeSet) → Serves (C.holds self.old.claimed) (C.holds self.old.unlocked) locked taken
-            → and_then result (λ _. Ok row.new) ≡ settled_row locked taken (C.holds self.old.unlocked) row.old }
-        ensures claimed { (locked taken : TypeSet) → Serves (C.holds self.old.claimed) (C.holds self.old.unlocked) locked taken
-            → OnOk result (Serves (C.holds self.new.claimed) (C.holds self.old.unlocked) locked
-            (if row.old.locked then taken else either taken (has (types_of row.new)))) }
+        ensures value { (locked taken : TypeSet) → ClaimsServe (C.holds self.old.claimed) (C.holds self.old.unlocked) locked taken
+            → then_in_round result (λ _. Ok row.new) ≡ settled_row locked taken (C.holds self.old.unlocked) row.old }
+        ensures claimed { (locked taken : TypeSet) → ClaimsServe (C.holds self.old.claimed) (C.holds self.old.unlocked) locked taken
+            → OnOk result (ClaimsServe (C.holds self.new.claimed) (C.holds self.old.unlocked) locked
+            (if row.old.locked then taken else either_set taken (has (types_of row.new)))) }
         ensures unlocked { self.new.unlocked ≡ self.old.unlocked }
     {
         if row.locked {

@@ -3,19 +3,19 @@ ghost use Rattle.std.specs.List.{list_any};
 ghost use Rattle.std.specs.List.Sorted.{IsStrictlyIncreasing};
 ghost use Rattle.std.specs.Prelude.{◌≡◌, ◌==◌, ◌+◌, ◌≤◌, ◌++◌, ◌∷◌, [], All, IfOk, IsOk, List, ℕ, OnErr, OnOk, option_copied, vec_capacity, vec_len};
 ghost use Rattle.str0m_formats.specs.Prelude.{H265ProfileTierLevel, H266ProfileTierLevel, receives};
-ghost use Rattle.str0m_formats.specs.round.Choices.{FirstAccepted, IsChoice, IsMatchedType, highest_event, points_with};
-ghost use Rattle.str0m_formats.specs.round.Claimed.{AllDistinct};
+ghost use Rattle.str0m_formats.specs.round.Choices.{FirstAccepted, IsChoice, IsMatchedType, highest_event, choice_points_with};
+ghost use Rattle.str0m_formats.specs.round.Claimed.{AllTypesDistinct};
 ghost use Rattle.str0m_formats.specs.row.CodecConfig.{video_spec, h264_row, h265_row, h266_row, IsTripleOr, IsH265Triple, IsH266Triple};
 ghost use Rattle.str0m_formats.specs.row.DefaultRows.{AreDefault};
 ghost use Rattle.str0m_formats.specs.row.KindRows.{kind_rows, rows_left};
 ghost use Rattle.str0m_formats.specs.row.PayloadParams.{new_row, types};
-ghost use Rattle.str0m_formats.specs.row.RedDistances.{AreKept};
+ghost use Rattle.str0m_formats.specs.row.RedDistances.{AreDistancesKept};
 
 use crate::codec::Codec;
 use crate::codec::codec_spec::CodecSpec;
 use crate::format::format_params::FormatParams;
-use crate::round::choices::{better, is_event_row};
-use crate::row::kind_rows::{KindRows, some_share_rate};
+use crate::round::choices::{better_row, is_event_row};
+use crate::row::kind_rows::{KindRows, some_row_shares_rate};
 use crate::row::payload_params::PayloadParams;
 use crate::row::red_distances::RedDistances;
 use std::alloc::{AllocError, Global};
@@ -37,7 +37,7 @@ pub struct CodecConfig {
 }
 
 /// How many rows a list has room for at least, once it has one.
-const LEAST_ROOM: usize = 4;
+const LEAST_ROW_ROOM: usize = 4;
 
 /// A video codec: at 90 kHz, and without channels.
 pub(crate) fn video_spec(codec: Codec, format: FormatParams) -> CodecSpec
@@ -108,7 +108,7 @@ impl CodecConfig {
         ensures rows { result.params.items ≡ [] }
         ensures distances { result.red_distances ≡ 1 ∷ [] }
         ensures default { AreDefault result.params.items }
-        ensures distinct { AllDistinct (types result.params.items) }
+        ensures distinct { AllTypesDistinct (types result.params.items) }
     {
         CodecConfig::new_from_payload_params(alloc, Vec::new(alloc))
     }
@@ -156,11 +156,11 @@ impl CodecConfig {
     /// The row that matches these parameters best: the last of those of greatest score. `None` where
     /// no row matches.
     pub fn match_params(&self, params: PayloadParams) -> Option<&PayloadParams>
-        ensures { IsChoice (points_with params) self.now.params.items (option_copied result) }
+        ensures { IsChoice (choice_points_with params) self.now.params.items (option_copied result) }
     {
         let mut best = None;
         for row in self.params.as_slice() {
-            best = better(best, row, row.match_score(&params));
+            best = better_row(best, row, row.match_score(&params));
         }
         match best {
             Some((row, _)) => Some(row),
@@ -228,7 +228,7 @@ impl CodecConfig {
             all: rows,
             rest: rows,
             kind,
-            narrowed: for_new_offer && some_share_rate(rows),
+            narrowed: for_new_offer && some_row_shares_rate(rows),
         }
     }
 
@@ -249,7 +249,7 @@ impl CodecConfig {
     /// added where it is missing: a receiver takes the nearest level for the packet before. Whether
     /// rows have a RED isn't changed, nor is any row.
     pub fn set_red_distances(&mut self, distances: &[u32])
-        ensures kept { AreKept distances.now self.new.red_distances }
+        ensures kept { AreDistancesKept distances.now self.new.red_distances }
         ensures rows { self.new.params ≡ self.old.params }
     {
         self.red_distances = RedDistances::kept(distances);
@@ -269,7 +269,7 @@ impl CodecConfig {
             return Ok(());
         }
         let room = self.params.len().saturating_add(more);
-        let room = room.max(had.saturating_mul(2)).max(LEAST_ROOM);
+        let room = room.max(had.saturating_mul(2)).max(LEAST_ROW_ROOM);
         let mut rows = Vec::with_capacity(*self.params.allocator(), room)?;
         rows.extend_from_slice(self.params.as_slice())?;
         self.params = rows;

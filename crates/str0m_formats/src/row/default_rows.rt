@@ -1,8 +1,8 @@
 //! The default rows of codecs, which are taken in and out together.
 ghost use Rattle.std.specs.Prelude.{◌≡◌, ◌++◌, ◌∷◌, [], false, IfOk, OnOk, OnErr, IsOk, length};
 ghost use Rattle.str0m_formats.specs.declared.codec.Codec.{Codec};
-ghost use Rattle.str0m_formats.specs.round.Claimed.{AllDistinct};
-ghost use Rattle.str0m_formats.specs.row.DefaultRows.{default_rows, static_rows, except, AreDefault, Enables, usual_rows};
+ghost use Rattle.str0m_formats.specs.round.Claimed.{AllTypesDistinct};
+ghost use Rattle.str0m_formats.specs.row.DefaultRows.{default_rows, static_rows, rows_except, AreDefault, Enables, usual_rows};
 ghost use Rattle.str0m_formats.specs.row.PayloadParams.{types};
 
 use crate::codec::Codec;
@@ -25,7 +25,7 @@ impl CodecConfig {
         ensures thirteen { IfOk result (λ config. length config.params.items ≡ 13) }
         ensures distances { IfOk result (λ config. config.red_distances ≡ 1 ∷ []) }
         ensures default { IfOk result (λ config. AreDefault config.params.items) }
-        ensures distinct { IfOk result (λ config. AllDistinct (types config.params.items)) }
+        ensures distinct { IfOk result (λ config. AllTypesDistinct (types config.params.items)) }
     {
         let mut config = CodecConfig::empty(alloc);
         config.enable_opus(true, false)?;
@@ -39,7 +39,7 @@ impl CodecConfig {
 
     /// Takes out all rows of the codec, and puts these last.
     fn put(&mut self, codec: Codec, rows: &[PayloadParams]) -> Result<(), AllocError>
-        ensures ok { OnOk result (self.new.params.items ≡ except codec self.old.params.items ++ rows.now) }
+        ensures ok { OnOk result (self.new.params.items ≡ rows_except codec self.old.params.items ++ rows.now) }
         ensures err { OnErr result (self.new ≡ self.old) }
         ensures none { length rows.now ≡ 0 → IsOk result }
         ensures distances { self.new.red_distances ≡ self.old.red_distances }
@@ -52,7 +52,7 @@ impl CodecConfig {
 
     /// Takes out all rows of the codec, and puts its row under its static type last, with this RED.
     fn put_static(&mut self, codec: Codec, red: Option<Pt>) -> Result<(), AllocError>
-        ensures ok { OnOk result (self.new.params.items ≡ except codec self.old.params.items ++ static_rows codec red) }
+        ensures ok { OnOk result (self.new.params.items ≡ rows_except codec self.old.params.items ++ static_rows codec red) }
         ensures err { OnErr result (self.new ≡ self.old) }
         ensures distances { self.new.red_distances ≡ self.old.red_distances }
     {
@@ -67,7 +67,7 @@ impl CodecConfig {
 
     /// Takes out all rows of the codec, and puts its default rows last.
     fn put_defaults(&mut self, codec: Codec, use_red: bool) -> Result<(), AllocError>
-        ensures ok { OnOk result (self.new.params.items ≡ except codec self.old.params.items ++ default_rows codec use_red) }
+        ensures ok { OnOk result (self.new.params.items ≡ rows_except codec self.old.params.items ++ default_rows codec use_red) }
         ensures err { OnErr result (self.new ≡ self.old) }
         ensures distances { self.new.red_distances ≡ self.old.red_distances }
     {

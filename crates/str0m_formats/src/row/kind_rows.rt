@@ -1,7 +1,7 @@
 //! The rows of a kind of media.
 ghost use Rattle.std.specs.Iterator.{YieldsFirstRef, item_count};
 ghost use Rattle.std.specs.Prelude.{◌≡◌};
-ghost use Rattle.str0m_formats.specs.row.KindRows.{is_audio, is_events, rate_of, shares_rate, some_share_rate, is_in_kind};
+ghost use Rattle.str0m_formats.specs.row.KindRows.{is_audio, is_events, row_rtp_rate, row_shares_rate, some_row_shares_rate, is_in_kind};
 
 use crate::row::payload_params::PayloadParams;
 use str0m_values::MediaKind;
@@ -29,26 +29,25 @@ fn is_events(row: &PayloadParams) -> bool
     row.spec().codec.is_tele()
 }
 
-fn rate_of(row: &PayloadParams) -> u32
-    ensures { result ≡ rate_of row.now }
+fn row_rtp_rate(row: &PayloadParams) -> u32
+    ensures { result ≡ row_rtp_rate row.now }
 {
     row.spec().rtp_clock_rate().get()
 }
 
 /// Whether some audio row has the RTP clock rate of this one.
-fn shares_rate(rows: &[PayloadParams], row: &PayloadParams) -> bool
-    ensures { result ≡ shares_rate rows.now row.now }
+fn row_shares_rate(rows: &[PayloadParams], row: &PayloadParams) -> bool
+    ensures { result ≡ row_shares_rate rows.now row.now }
 {
-    rows.iter()
-        .any(|other| is_audio(other) && rate_of(other) == rate_of(row))
+    rows.iter().any(|other| is_audio(other) && row_rtp_rate(other) == row_rtp_rate(row))
 }
 
 /// Whether some row of events has the RTP clock rate of some audio row.
-pub(crate) fn some_share_rate(rows: &[PayloadParams]) -> bool
-    ensures { result ≡ some_share_rate rows.now }
+pub(crate) fn some_row_shares_rate(rows: &[PayloadParams]) -> bool
+    ensures { result ≡ some_row_shares_rate rows.now }
 {
     rows.iter()
-        .any(|row| is_events(row) && shares_rate(rows, row))
+        .any(|row| is_events(row) && row_shares_rate(rows, row))
 }
 
 fn is_in_kind(kind: MediaKind, narrowed: bool, rows: &[PayloadParams], row: &PayloadParams) -> bool
@@ -57,7 +56,7 @@ fn is_in_kind(kind: MediaKind, narrowed: bool, rows: &[PayloadParams], row: &Pay
     match kind {
         MediaKind::Video => row.spec().codec.is_video(),
         MediaKind::Audio => {
-            is_audio(row) || (is_events(row) && (!narrowed || shares_rate(rows, row)))
+            is_audio(row) || (is_events(row) && (!narrowed || row_shares_rate(rows, row)))
         }
     }
 }

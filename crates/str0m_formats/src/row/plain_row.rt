@@ -7,7 +7,7 @@ ghost use Rattle.str0m_formats.specs.row.PlainRowBounds.{IsBounded};
 use crate::codec::Codec;
 use crate::codec::codec_spec::CodecSpec;
 use crate::format::format_params::FormatParams;
-use crate::round::beginning::first_large_of;
+use crate::round::beginning::first_large_claim_of;
 use crate::row::payload_params::PayloadParams;
 
 impl PayloadParams {
@@ -27,7 +27,7 @@ impl PayloadParams {
         ensures { IsTrue result ↔ IsPlain self.now }
     {
         let codec = self.spec.codec;
-        is_bounded(self)
+        is_plain_bounded(self)
             && has_plain_triples(self.spec)
             && if codec.is_audio() {
                 is_plain_audio(self.spec)
@@ -40,11 +40,11 @@ impl PayloadParams {
 }
 
 /// Whether the types have seven bits, and the modes and the distance keep to their ranges.
-fn is_bounded(row: &PayloadParams) -> bool
+fn is_plain_bounded(row: &PayloadParams) -> bool
     ensures { IsTrue result ↔ IsBounded row.now }
 {
     let format = row.spec.format;
-    first_large_of(row).is_none()
+    first_large_claim_of(row).is_none()
         && format
             .mode_set
             .is_none_or(|modes| 0 < modes && modes <= 511)

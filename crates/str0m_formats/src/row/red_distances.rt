@@ -1,7 +1,7 @@
 //! How far back the redundant levels of RED reach (RFC 2198, section 3).
 ghost use Rattle.std.specs.List.{list_any};
 ghost use Rattle.std.specs.Prelude.{◌≡◌, ◌==◌, ◌∷◌, []};
-ghost use Rattle.str0m_formats.specs.row.RedDistances.{AreDistances, keeps, kept_to};
+ghost use Rattle.str0m_formats.specs.row.RedDistances.{AreDistances, keeps_distance, distances_kept_to};
 
 use std::marker::Model;
 
@@ -23,16 +23,16 @@ impl Model for RedDistances {
     ghost invariant = { λ d. (d.count ≤ 16) × AreDistances (take d.count d.levels) };
 }
 
-fn has(given: &[u32], distance: u32) -> bool
+fn has_red_distance(given: &[u32], distance: u32) -> bool
     ensures { result ≡ list_any (λ g. distance == g) given.now }
 {
     given.iter().any(|g| distance == *g)
 }
 
-fn is_kept(given: &[u32], distance: u32) -> bool
-    ensures { result ≡ keeps given.now distance }
+fn is_distance_kept(given: &[u32], distance: u32) -> bool
+    ensures { result ≡ keeps_distance given.now distance }
 {
-    distance == 1 || has(given, distance)
+    distance == 1 || has_red_distance(given, distance)
 }
 
 impl RedDistances {
@@ -46,13 +46,13 @@ impl RedDistances {
     }
 
     pub(crate) fn kept(given: &[u32]) -> RedDistances
-        ensures { result ≡ kept_to 16 given.now }
+        ensures { result ≡ distances_kept_to 16 given.now }
     {
         let mut levels = [0; 16];
         let mut count = 0;
         for seen in 0..16 {
             let distance = seen + 1;
-            if is_kept(given, distance) {
+            if is_distance_kept(given, distance) {
                 levels[count] = distance;
                 count += 1;
             }

@@ -17,8 +17,8 @@ simulcast_copied a b h = grind (arith, elements)
 pub attribute_copied : (a b : MediaAttribute) → attribute.is_clone-value.it a b → b ≡ a
 attribute_copied a b h = grind (arith, elements)
 
-pub line_copied : (a b : MediaLine) → line.is_clone-value.it a b → b ≡ a
-line_copied a b h =
+pub attribute_line_copied : (a b : MediaLine) → line.is_clone-value.it a b → b ≡ a
+attribute_line_copied a b h =
     let attrs : b.attrs ≡ a.attrs = same_from_all_zip _ a.attrs b.attrs h.1.1.1.1.1.0 attribute_copied in
     grind (arith, elements)
 
@@ -28,5 +28,5 @@ session_copied a b h = grind (arith, elements)
 pub sdp_copied : (a b : Sdp) → sdp.is_clone-value.it a b → b ≡ a
 sdp_copied a b h =
     let session : b.session ≡ a.session = session_copied a.session b.session h.0 in
-    let lines : b.media_lines ≡ a.media_lines = same_from_all_zip _ a.media_lines b.media_lines h.1.0 line_copied in
+    let lines : b.media_lines ≡ a.media_lines = same_from_all_zip _ a.media_lines b.media_lines h.1.0 attribute_line_copied in
     λ i. record { session = session i; media_lines = lines i }

@@ -5,85 +5,96 @@ use Rattle.str0m_sdp.proofs.Common.{map-append, filter_map-append, line_values, 
 use Rattle.str0m_sdp.proofs.section.MappingsFilterMap.{map_one, map_more}
 use Rattle.str0m_sdp.specs.declared.attribute.MediaAttribute.{MediaAttribute}
 use Rattle.str0m_sdp.specs.declared.attribute.MediaAttribute.TheVariants.{Fmtp}
-use Rattle.str0m_sdp.specs.section.FmtpLines.{line_with, lines_with}
-use Rattle.str0m_sdp.specs.section.SectionRows.{values_in, fmtps_of}
+use Rattle.str0m_sdp.specs.section.FmtpLines.{fmtp_line_with, fmtp_lines_with}
+use Rattle.str0m_sdp.specs.section.SectionRows.{fmtp_values_in, fmtps_of}
 
 -- before any attribute there are none
-pub no_lines : (lines : List (ℕ × Bor (List FormatParam))) (pt : ℕ) → lines ≡ [] → line_values (lines_with pt lines) ≡ fmtps_of [] pt
+pub no_fmtp_lines : (lines : List (ℕ × Bor (List FormatParam))) (pt : ℕ) → lines ≡ []
+    → line_values (fmtp_lines_with pt lines) ≡ fmtps_of [] pt
 unfolding fmtps_of
-no_lines lines pt empty = ap (λ (ls : List (ℕ × Bor (List FormatParam))). line_values (lines_with pt ls)) empty
+no_fmtp_lines lines pt empty = ap (λ (ls : List (ℕ × Bor (List FormatParam))). line_values (fmtp_lines_with pt ls)) empty
 
 -- one line more, beside its type
-with_more : (pt : ℕ) (lines : List (ℕ × Bor (List FormatParam))) (item : ℕ × Bor (List FormatParam)) (o : Option (Bor (List FormatParam)))
-    → line_with pt item ≡ o
-    → line_values (lines_with pt (lines ++ item ∷ [])) ≡ line_values (lines_with pt lines) ++ line_values (option_to_list o)
-with_more pt lines item o is = grind (arith, filter_map-append, map_one, map-append)
+fmtp_line_with_more : (pt : ℕ) (lines : List (ℕ × Bor (List FormatParam))) (item : ℕ × Bor (List FormatParam))
+    (o : Option (Bor (List FormatParam)))
+    → fmtp_line_with pt item ≡ o
+    → line_values (fmtp_lines_with pt (lines ++ item ∷ [])) ≡ line_values (fmtp_lines_with pt lines) ++ line_values (option_to_list o)
+fmtp_line_with_more pt lines item o is = grind (arith, filter_map-append, map_one, map-append)
 
-lines_more : (attrs : List MediaAttribute) (i : ℕ) (attr : MediaAttribute) (pt : ℕ) (o : Option (List FormatParam)) → i < length attrs
+fmtp_lines_more : (attrs : List MediaAttribute) (i : ℕ) (attr : MediaAttribute) (pt : ℕ) (o : Option (List FormatParam)) → i < length attrs
     → attr ≡ get_or attrs i attr
-    → values_in pt attr ≡ o → fmtps_of (take (i + 1) attrs) pt ≡ fmtps_of (take i attrs) pt ++ option_to_list o
+    → fmtp_values_in pt attr ≡ o → fmtps_of (take (i + 1) attrs) pt ≡ fmtps_of (take i attrs) pt ++ option_to_list o
 unfolding fmtps_of
-lines_more attrs i attr pt o lt is says = grind (arith, map_more (values_in pt) attrs i attr lt is)
+fmtp_lines_more attrs i attr pt o lt is says = grind (arith, map_more (fmtp_values_in pt) attrs i attr lt is)
 
-lines_same : (attrs : List MediaAttribute) (i : ℕ) (attr : MediaAttribute) (pt : ℕ) → i < length attrs → attr ≡ get_or attrs i attr
-    → values_in pt attr ≡ None → fmtps_of (take (i + 1) attrs) pt ≡ fmtps_of (take i attrs) pt
-lines_same attrs i attr pt lt is silent = lines_more attrs i attr pt None lt is silent ∙ append-nil (fmtps_of (take i attrs) pt)
+fmtp_lines_same : (attrs : List MediaAttribute) (i : ℕ) (attr : MediaAttribute) (pt : ℕ) → i < length attrs → attr ≡ get_or attrs i attr
+    → fmtp_values_in pt attr ≡ None → fmtps_of (take (i + 1) attrs) pt ≡ fmtps_of (take i attrs) pt
+fmtp_lines_same attrs i attr pt lt is silent = fmtp_lines_more attrs i attr pt None lt is silent ∙ append-nil (fmtps_of (take i attrs) pt)
 
-silent_in : (pt : ℕ) (attr : MediaAttribute) → ((n : ℕ) (values : List FormatParam) → attr ≡ Fmtp n values → ⊥) → values_in pt attr ≡ None
-silent_in pt attr other = grind arith
+fmtp_silent_in : (pt : ℕ) (attr : MediaAttribute) → ((n : ℕ) (values : List FormatParam) → attr ≡ Fmtp n values → ⊥)
+    → fmtp_values_in pt attr ≡ None
+fmtp_silent_in pt attr other = grind arith
 
-own_values : (n pt : ℕ) (values : List FormatParam) → n ≡ pt → values_in pt (Fmtp n values) ≡ Some values
-own_values n pt values same = rw (eq-eqb n pt same) refl
+own_fmtp_values : (n pt : ℕ) (values : List FormatParam) → n ≡ pt → fmtp_values_in pt (Fmtp n values) ≡ Some values
+own_fmtp_values n pt values same = rw (eq-eqb n pt same) refl
 
-other_values : (n pt : ℕ) (values : List FormatParam) → (n ≡ pt → ⊥) → values_in pt (Fmtp n values) ≡ None
-other_values n pt values ne = rw (ne_eqb n pt ne) refl
+other_fmtp_values : (n pt : ℕ) (values : List FormatParam) → (n ≡ pt → ⊥) → fmtp_values_in pt (Fmtp n values) ≡ None
+other_fmtp_values n pt values ne = rw (ne_eqb n pt ne) refl
 
-with_own : (n pt : ℕ) (line : Bor (List FormatParam)) → n ≡ pt → line_with pt (n, line) ≡ Some line
-with_own n pt line same = rw (eq-eqb n pt same) refl
+fmtp_line_with_own : (n pt : ℕ) (line : Bor (List FormatParam)) → n ≡ pt → fmtp_line_with pt (n, line) ≡ Some line
+fmtp_line_with_own n pt line same = rw (eq-eqb n pt same) refl
 
-with_other : (n pt : ℕ) (line : Bor (List FormatParam)) → (n ≡ pt → ⊥) → line_with pt (n, line) ≡ None
-with_other n pt line ne = rw (ne_eqb n pt ne) refl
+fmtp_line_with_other : (n pt : ℕ) (line : Bor (List FormatParam)) → (n ≡ pt → ⊥) → fmtp_line_with pt (n, line) ≡ None
+fmtp_line_with_other n pt line ne = rw (ne_eqb n pt ne) refl
 
 -- what is no fmtp line adds none
-pub lines_other : (attrs : List MediaAttribute) (i : ℕ) (attr : MediaAttribute) (pt : ℕ) → i < length attrs → attr ≡ get_or attrs i attr
+pub fmtp_lines_other : (attrs : List MediaAttribute) (i : ℕ) (attr : MediaAttribute) (pt : ℕ) → i < length attrs
+    → attr ≡ get_or attrs i attr
     → ((n : ℕ) (values : List FormatParam) → attr ≡ Fmtp n values → ⊥) → fmtps_of (take (i + 1) attrs) pt ≡ fmtps_of (take i attrs) pt
-lines_other attrs i attr pt lt is other = lines_same attrs i attr pt lt is (silent_in pt attr other)
+fmtp_lines_other attrs i attr pt lt is other = fmtp_lines_same attrs i attr pt lt is (fmtp_silent_in pt attr other)
 
 -- an fmtp line adds its values to its own type's lines
-pub lines_pushed : (attrs : List MediaAttribute) (lines : List (ℕ × Bor (List FormatParam))) (i n : ℕ) (line : Bor (List FormatParam))
+pub fmtp_lines_pushed : (attrs : List MediaAttribute) (lines : List (ℕ × Bor (List FormatParam))) (i n : ℕ) (line : Bor (List FormatParam))
     (attr : MediaAttribute) (pt : ℕ)
     → i < length attrs → attr ≡ get_or attrs i attr → attr ≡ Fmtp n line.now
-    → line_values (lines_with pt lines) ≡ fmtps_of (take i attrs) pt
-    → line_values (lines_with pt (lines ++ (n, line) ∷ [])) ≡ fmtps_of (take (i + 1) attrs) pt
-lines_pushed attrs lines i n line attr pt lt is variant so_far =
+    → line_values (fmtp_lines_with pt lines) ≡ fmtps_of (take i attrs) pt
+    → line_values (fmtp_lines_with pt (lines ++ (n, line) ∷ [])) ≡ fmtps_of (take (i + 1) attrs) pt
+fmtp_lines_pushed attrs lines i n line attr pt lt is variant so_far =
     elim (cases_eq n pt) [
       | inl same ↦
-          with_more pt lines (n, line) (Some line) (with_own n pt line same)
+          fmtp_line_with_more pt lines (n, line) (Some line) (fmtp_line_with_own n pt line same)
           ∙ ap (λ (vs : List (List FormatParam)). vs ++ line.now ∷ []) so_far
-          ∙ sym (lines_more attrs i attr pt (Some line.now) lt is (ap (values_in pt) variant ∙ own_values n pt line.now same))
+          ∙ sym (fmtp_lines_more attrs i attr pt (Some line.now) lt is
+          (ap (fmtp_values_in pt) variant ∙ own_fmtp_values n pt line.now same))
       | inr ne ↦
-          with_more pt lines (n, line) None (with_other n pt line ne)
-          ∙ append-nil (line_values (lines_with pt lines))
-          ∙ so_far ∙ sym (lines_same attrs i attr pt lt is (ap (values_in pt) variant ∙ other_values n pt line.now ne))
+          fmtp_line_with_more pt lines (n, line) None (fmtp_line_with_other n pt line ne)
+          ∙ append-nil (line_values (fmtp_lines_with pt lines))
+          ∙ so_far ∙ sym (fmtp_lines_same attrs i attr pt lt is (ap (fmtp_values_in pt) variant ∙ other_fmtp_values n pt line.now ne))
     ]
 
-yes : (pt : ℕ) (item : ℕ × Bor (List FormatParam)) → (item.0 == pt) ≡ true → line_with pt item ≡ Some item.1
-yes pt item is = rw is refl
+is_type_line : (pt : ℕ) (item : ℕ × Bor (List FormatParam)) → (item.0 == pt) ≡ true → fmtp_line_with pt item ≡ Some item.1
+is_type_line pt item is = rw is refl
 
-no : (pt : ℕ) (item : ℕ × Bor (List FormatParam)) → (item.0 == pt) ≡ false → line_with pt item ≡ None
-no pt item is = rw is refl
+is_other_type_line : (pt : ℕ) (item : ℕ × Bor (List FormatParam)) → (item.0 == pt) ≡ false → fmtp_line_with pt item ≡ None
+is_other_type_line pt item is = rw is refl
 
 -- a line of the type is found
-pub found_own : (lines : List (ℕ × Bor (List FormatParam))) (found : List (Bor (List FormatParam))) (i pt : ℕ)
+pub own_fmtp_line_found : (lines : List (ℕ × Bor (List FormatParam))) (found : List (Bor (List FormatParam))) (i pt : ℕ)
     (item : ℕ × Bor (List FormatParam))
-    → i < length lines → item ≡ get_or lines i item → (item.0 == pt) ≡ true → found ≡ lines_with pt (take i lines)
-    → found ++ item.1 ∷ [] ≡ lines_with pt (take (i + 1) lines)
-found_own lines found i pt item lt is same so_far = grind (arith, map_more (line_with pt) lines i item lt is, yes pt item same)
+    → i < length lines → item ≡ get_or lines i item → (item.0 == pt) ≡ true → found ≡ fmtp_lines_with pt (take i lines)
+    → found ++ item.1 ∷ [] ≡ fmtp_lines_with pt (take (i + 1) lines)
+own_fmtp_line_found lines found i pt item lt is same so_far = grind
+    (arith, map_more (fmtp_line_with pt) lines i item lt is, is_type_line pt item same)
 
 -- one of another type isn't
-pub found_other : (lines : List (ℕ × Bor (List FormatParam))) (found : List (Bor (List FormatParam))) (i pt : ℕ)
+pub other_fmtp_line_not_found : (lines : List (ℕ × Bor (List FormatParam))) (found : List (Bor (List FormatParam))) (i pt : ℕ)
     (item : ℕ × Bor (List FormatParam))
-    → i < length lines → item ≡ get_or lines i item → (item.0 == pt) ≡ false → found ≡ lines_with pt (take i lines)
-    → found ≡ lines_with pt (take (i + 1) lines)
-found_other lines found i pt item lt is apart so_far =
-    grind (arith, map_more (line_with pt) lines i item lt is, no pt item apart, append-nil (lines_with pt (take i lines)))
+    → i < length lines → item ≡ get_or lines i item → (item.0 == pt) ≡ false → found ≡ fmtp_lines_with pt (take i lines)
+    → found ≡ fmtp_lines_with pt (take (i + 1) lines)
+other_fmtp_line_not_found lines found i pt item lt is apart so_far =
+    grind (
+      arith,
+      map_more (fmtp_line_with pt) lines i item lt is,
+      is_other_type_line pt item apart,
+      append-nil (fmtp_lines_with pt (take i lines)),
+    )

@@ -3,8 +3,8 @@ use Rattle.str0m_sdp.proofs.Common.{arith, ◌≡◌, ◌<◌, ◌+◌, ◌++◌
 use Rattle.str0m_sdp.proofs.Common.{Option, None, nat_eq, filter_map, option_to_list, refl, sym, ap, ◌∙◌, inl, inr, list_any, cases_eq}
 use Rattle.str0m_sdp.proofs.Common.{eq-eqb, ne_eqb, or_right, take_at_read, append-nil, filter_map-append, CodecSpec, set}
 use Rattle.str0m_sdp.proofs.section.MappingsFilterMap.{map_more}
-use Rattle.str0m_sdp.proofs.section.SectionRowsParts.{or_false}
-use Rattle.str0m_sdp.proofs.section.TypeTablesMarks.{any_more, set_marked}
+use Rattle.str0m_sdp.proofs.section.SectionRowsParts.{rows_or_false}
+use Rattle.str0m_sdp.proofs.section.TypeTablesMarks.{mark_any_more, set_marked}
 use Rattle.str0m_sdp.proofs.session.DistinctCandidatesLaws.{distinct_push}
 use Rattle.str0m_sdp.specs.Common.{distinct}
 use Rattle.str0m_sdp.specs.attribute.RtpMap.{spec_of_map}
@@ -12,7 +12,7 @@ use Rattle.str0m_sdp.specs.declared.attribute.MediaAttribute.{MediaAttribute}
 use Rattle.str0m_sdp.specs.declared.attribute.MediaAttribute.TheVariants.{RtpMap}
 use Rattle.str0m_sdp.specs.declared.attribute.rtp_map.RtpMap.{RtpMap as Mapping}
 use Rattle.str0m_sdp.specs.section.Consistency.{maps}
-use Rattle.str0m_sdp.specs.section.Mappings.{mapping, static_type, unmapped}
+use Rattle.str0m_sdp.specs.section.Mappings.{mapping, static_type, unmapped_type}
 
 -- a type that was seen adds no row; else it adds what it stands for
 one_type_more : {X Y : Type 0} (f : X → Option Y) (x : X) (o : Option Y) (a b : Bool) → f x ≡ cond a None o
@@ -20,51 +20,53 @@ one_type_more : {X Y : Type 0} (f : X → Option Y) (x : X) (o : Option Y) (a b 
 one_type_more f x o a b is = grind arith
 
 -- the rows of the m-line's types, one type more
-pub statics_more : (attrs : List MediaAttribute) (pts : List ℕ) (i pt : ℕ) → i < length pts → pt ≡ get_or pts i pt
-    → filter_map (unmapped attrs) (distinct nat_eq (take (i + 1) pts))
-    ≡ filter_map (unmapped attrs) (distinct nat_eq (take i pts))
+pub mapping_statics_more : (attrs : List MediaAttribute) (pts : List ℕ) (i pt : ℕ) → i < length pts → pt ≡ get_or pts i pt
+    → filter_map (unmapped_type attrs) (distinct nat_eq (take (i + 1) pts))
+    ≡ filter_map (unmapped_type attrs) (distinct nat_eq (take i pts))
     ++ cond (list_any (maps pt) attrs || list_any (λ n. n == pt) (take i pts)) [] (option_to_list (static_type pt))
-statics_more attrs pts i pt lt is = grind (arith, take_at_read, distinct_push, filter_map-append, one_type_more)
+mapping_statics_more attrs pts i pt lt is = grind (arith, take_at_read, distinct_push, filter_map-append, one_type_more)
 
 -- a type that is new adds what it stands for
-pub statics_new : (attrs : List MediaAttribute) (pts : List ℕ) (i pt : ℕ) → i < length pts → pt ≡ get_or pts i pt
+pub mapping_statics_new : (attrs : List MediaAttribute) (pts : List ℕ) (i pt : ℕ) → i < length pts → pt ≡ get_or pts i pt
     → (list_any (maps pt) attrs || list_any (λ n. n == pt) (take i pts)) ≡ false
-    → filter_map (unmapped attrs) (distinct nat_eq (take (i + 1) pts))
-    ≡ filter_map (unmapped attrs) (distinct nat_eq (take i pts)) ++ option_to_list (static_type pt)
-statics_new attrs pts i pt lt is new = grind (arith, statics_more)
+    → filter_map (unmapped_type attrs) (distinct nat_eq (take (i + 1) pts))
+    ≡ filter_map (unmapped_type attrs) (distinct nat_eq (take i pts)) ++ option_to_list (static_type pt)
+mapping_statics_new attrs pts i pt lt is new = grind (arith, mapping_statics_more)
 
 -- one that was seen adds nothing
-pub statics_seen : (attrs : List MediaAttribute) (pts : List ℕ) (i pt : ℕ) → i < length pts → pt ≡ get_or pts i pt
+pub mapping_statics_seen : (attrs : List MediaAttribute) (pts : List ℕ) (i pt : ℕ) → i < length pts → pt ≡ get_or pts i pt
     → (list_any (maps pt) attrs || list_any (λ n. n == pt) (take i pts)) ≡ true
-    → filter_map (unmapped attrs) (distinct nat_eq (take (i + 1) pts)) ≡ filter_map (unmapped attrs) (distinct nat_eq (take i pts))
-statics_seen attrs pts i pt lt is seen = grind (arith, statics_more, append-nil)
+    → filter_map (unmapped_type attrs) (distinct nat_eq (take (i + 1) pts))
+    ≡ filter_map (unmapped_type attrs) (distinct nat_eq (take i pts))
+mapping_statics_seen attrs pts i pt lt is seen = grind (arith, mapping_statics_more, append-nil)
 
-bools_assoc : (a b c : Bool) → ((a || b) || c) ≡ (a || (b || c))
-bools_assoc a b c = grind arith
+mapping_bools_assoc : (a b c : Bool) → ((a || b) || c) ≡ (a || (b || c))
+mapping_bools_assoc a b c = grind arith
 
 -- a new type is marked
-pub mark_new : (marks : List Bool) (pts : List ℕ) (i new pt : ℕ) (a : Bool) → i < length pts → new ≡ get_or pts i new → new < length marks
+pub mapping_mark_new : (marks : List Bool) (pts : List ℕ) (i new pt : ℕ) (a : Bool) → i < length pts → new ≡ get_or pts i new
+    → new < length marks
     → get_or marks pt false ≡ (a || list_any (λ n. n == pt) (take i pts))
     → get_or (set marks new true) pt false ≡ (a || list_any (λ n. n == pt) (take (i + 1) pts))
-mark_new marks pts i new pt a lt is row so_far =
+mapping_mark_new marks pts i new pt a lt is row so_far =
     let before = list_any (λ n. n == pt) (take i pts) in
-    set_marked marks new pt (a || before) row so_far ∙ bools_assoc a before (new == pt)
-    ∙ sym (ap (λ (b : Bool). a || b) (any_more (λ n. n == pt) pts i new lt is))
+    set_marked marks new pt (a || before) row so_far ∙ mapping_bools_assoc a before (new == pt)
+    ∙ sym (ap (λ (b : Bool). a || b) (mark_any_more (λ n. n == pt) pts i new lt is))
 
 -- one that is marked stays so
-pub mark_seen : (marks : List Bool) (pts : List ℕ) (i seen pt : ℕ) (a : Bool) → i < length pts → seen ≡ get_or pts i seen
+pub mapping_mark_seen : (marks : List Bool) (pts : List ℕ) (i seen pt : ℕ) (a : Bool) → i < length pts → seen ≡ get_or pts i seen
     → get_or marks seen false ≡ true
     → get_or marks pt false ≡ (a || list_any (λ n. n == pt) (take i pts))
     → get_or marks pt false ≡ (a || list_any (λ n. n == pt) (take (i + 1) pts))
-mark_seen marks pts i seen pt a lt is marked so_far =
+mapping_mark_seen marks pts i seen pt a lt is marked so_far =
     let before = list_any (λ n. n == pt) (take i pts) in
-    let more = any_more (λ n. n == pt) pts i seen lt is in
+    let more = mark_any_more (λ n. n == pt) pts i seen lt is in
     elim (cases_eq seen pt) [
       | inl same ↦
           (rw same at marked) ∙ sym (ap (λ (b : Bool). a || b) more
           ∙ or_right a (before || (seen == pt)) (or_right before (seen == pt) (eq-eqb seen pt same)))
       | inr apart ↦
-          so_far ∙ sym (ap (λ (b : Bool). a || b) (more ∙ ap (λ (b : Bool). before || b) (ne_eqb seen pt apart) ∙ or_false before))
+          so_far ∙ sym (ap (λ (b : Bool). a || b) (more ∙ ap (λ (b : Bool). before || b) (ne_eqb seen pt apart) ∙ rows_or_false before))
     ]
 
 -- the mappings of the lines, one line more: it is one, or none

@@ -9,30 +9,35 @@ pub map_one : {X Y : Type 0} (f : X → Option Y) (x : X) (o : Option Y) → f x
 map_one f x o is = grind arith
 
 -- the items so far, with the one that is read
-take_read : {X : Type 0} (xs : List X) (i : ℕ) (x : X) → i < length xs → x ≡ get_or xs i x → take (i + 1) xs ≡ take i xs ++ x ∷ []
-take_read {X} xs i x lt is = (take_at_read xs i x lt).1 ∙ ap (λ (y : X). take i xs ++ y ∷ []) (sym is)
+mappings_take_read : {X : Type 0} (xs : List X) (i : ℕ) (x : X) → i < length xs → x ≡ get_or xs i x → take (i + 1) xs ≡ take i xs ++ x ∷ []
+mappings_take_read {X} xs i x lt is = (take_at_read xs i x lt).1 ∙ ap (λ (y : X). take i xs ++ y ∷ []) (sym is)
 
 pub map_more : {X Y : Type 0} (f : X → Option Y) (xs : List X) (i : ℕ) (x : X) → i < length xs → x ≡ get_or xs i x
     → filter_map f (take (i + 1) xs) ≡ filter_map f (take i xs) ++ option_to_list (f x)
-map_more {X} {Y} f xs i x lt is = grind (arith, take_read xs i x lt is, filter_map-append f (take i xs) (x ∷ []), map_one f x (f x))
+map_more {X} {Y} f xs i x lt is = grind (
+  arith,
+  mappings_take_read xs i x lt is,
+  filter_map-append f (take i xs) (x ∷ []),
+  map_one f x (f x),
+)
 
 -- an item that is kept
-pub kept_item : {X Y : Type 0} (p : X → Bool) (f : X → Option Y) (xs : List X) (i : ℕ) (x : X) → i < length xs → x ≡ get_or xs i x
+pub filter_map_kept : {X Y : Type 0} (p : X → Bool) (f : X → Option Y) (xs : List X) (i : ℕ) (x : X) → i < length xs → x ≡ get_or xs i x
     → p x ≡ true
     → filter_map f (filter p (take (i + 1) xs)) ≡ filter_map f (filter p (take i xs)) ++ option_to_list (f x)
-kept_item {X} {Y} p f xs i x lt is kept =
-    ap (λ (ys : List X). filter_map f (filter p ys)) (take_read xs i x lt is)
+filter_map_kept {X} {Y} p f xs i x lt is kept =
+    ap (λ (ys : List X). filter_map f (filter p ys)) (mappings_take_read xs i x lt is)
     ∙ ap (λ (ys : List X). filter_map f ys) (filter-append p (take i xs) (x ∷ [])
     ∙ ap (λ (b : Bool). filter p (take i xs) ++ cond b (x ∷ []) []) kept)
     ∙ filter_map-append f (filter p (take i xs)) (x ∷ [])
     ∙ ap (λ (ys : List Y). filter_map f (filter p (take i xs)) ++ ys) (map_one f x (f x) refl)
 
 -- one that isn't
-pub left_out : {X Y : Type 0} (p : X → Bool) (f : X → Option Y) (xs : List X) (i : ℕ) (x : X) → i < length xs → x ≡ get_or xs i x
+pub filter_map_left_out : {X Y : Type 0} (p : X → Bool) (f : X → Option Y) (xs : List X) (i : ℕ) (x : X) → i < length xs → x ≡ get_or xs i x
     → p x ≡ false
     → filter_map f (filter p (take (i + 1) xs)) ≡ filter_map f (filter p (take i xs))
-left_out {X} {Y} p f xs i x lt is fails =
-    grind (arith, take_read xs i x lt is, filter-append p (take i xs) (x ∷ []), append-nil (filter p (take i xs)))
+filter_map_left_out {X} {Y} p f xs i x lt is fails =
+    grind (arith, mappings_take_read xs i x lt is, filter-append p (take i xs) (x ∷ []), append-nil (filter p (take i xs)))
 
 pub one_mapped : {Y : Type 0} (Q : Y → Type 0) (o : Option Y) (ys : List Y) → IfSome o Q → All Q ys → All Q (cons_option o ys)
 one_mapped Q o ys image rest = grind arith
@@ -44,10 +49,11 @@ all_mapped P Q f each [] all = All-nil Q
 all_mapped P Q f each (x ∷ xs) all =
     grind (arith, one_mapped Q (f x) (filter_map f xs) (each x (All-head P x xs all)), all_mapped P Q f each xs (All-tail P x xs all))
 
-IfSome_or : {X : Type 0} (P : X → Type 0) (o : Option X) (x : X) → IfSome o P → P x → IfSome (option_or o (Some x)) P
-IfSome_or P o x all here = grind arith
+mappings_IfSome_or : {X : Type 0} (P : X → Type 0) (o : Option X) (x : X) → IfSome o P → P x → IfSome (option_or o (Some x)) P
+mappings_IfSome_or P o x all here = grind arith
 
 -- what holds of all holds of the last
-pub last_of_all : {X : Type 0} (P : X → Type 0) (xs : List X) → All P xs → IfSome (last xs) P
-last_of_all P [] all = tt
-last_of_all P (x ∷ xs) all = IfSome_or P (last xs) x (last_of_all P xs (All-tail P x xs all)) (All-head P x xs all)
+pub filter_map_last_of_all : {X : Type 0} (P : X → Type 0) (xs : List X) → All P xs → IfSome (last xs) P
+filter_map_last_of_all P [] all = tt
+filter_map_last_of_all P (x ∷ xs) all = mappings_IfSome_or P (last xs) x (filter_map_last_of_all P xs (All-tail P x xs all))
+    (All-head P x xs all)

@@ -8,72 +8,82 @@ use Rattle.str0m_sdp.proofs.Common.{arith, ◌≡◌, ◌≤◌, ◌||◌, ℕ, 
 use Rattle.str0m_sdp.proofs.Common.{ap, ◌∙◌, append_assoc, true≢false, Decides, decided, list_any, flat_map, AllByRecursion, append-nil}
 use Rattle.str0m_sdp.proofs.Common.{drop_all, filter-append, list_any-append, insert_key, insert_all, IsEquivalence, AllPairs, Contains}
 use Rattle.str0m_sdp.proofs.Common.{filter}
-use Rattle.str0m_sdp.proofs.section.SectionRowsParts.{all-filter}
+use Rattle.str0m_sdp.proofs.section.SectionRowsParts.{row_all-filter}
 use Rattle.str0m_sdp.specs.Common.{distinct}
-use Rattle.str0m_sdp.specs.session.DistinctCandidates.{IsEachOnce}
+use Rattle.str0m_sdp.specs.session.DistinctCandidates.{IsEachCandidateOnce}
 
 module _ {X : Type 0} (same : X → X → Bool) (laws : IsEquivalence same) where
   -- those that aren't among others
-  abbrev unseen : List X → List X → List X
-  unseen seen xs = filter (λ y. not (list_any (same y) seen)) xs
+  abbrev distinct_unseen : List X → List X → List X
+  distinct_unseen seen xs = filter (λ y. not (list_any (same y) seen)) xs
 
   -- those that differ from x
-  abbrev others_than : X → List X → List X
-  others_than x xs = filter (λ y. not (same x y)) xs
+  abbrev distinct_others_than : X → List X → List X
+  distinct_others_than x xs = filter (λ y. not (same x y)) xs
 
-  unseen-none : (xs : List X) → unseen [] xs ≡ xs
-  unseen-none [] = refl
-  unseen-none (x ∷ xs) = ap (λ rest. x ∷ rest) (unseen-none xs)
+  distinct_unseen-none : (xs : List X) → distinct_unseen [] xs ≡ xs
+  distinct_unseen-none [] = refl
+  distinct_unseen-none (x ∷ xs) = ap (λ rest. x ∷ rest) (distinct_unseen-none xs)
 
   -- what is the same as one that was seen was seen
-  seen_others : (seen : List X) (x : X) → list_any (same x) seen ≡ true → (xs : List X) → unseen seen (others_than x xs) ≡ unseen seen xs
-  seen_others seen x was [] = refl
-  seen_others seen x was (y ∷ ys) = grind (arith, seen_others seen x was ys, list_any_congr)
+  distinct_seen_others : (seen : List X) (x : X) → list_any (same x) seen ≡ true → (xs : List X)
+      → distinct_unseen seen (distinct_others_than x xs) ≡ distinct_unseen seen xs
+  distinct_seen_others seen x was [] = refl
+  distinct_seen_others seen x was (y ∷ ys) = grind (arith, distinct_seen_others seen x was ys, list_any_congr)
 
   -- one more that was seen
-  unseen_more : (seen : List X) (x : X) (xs : List X) → unseen (seen ++ x ∷ []) xs ≡ unseen seen (others_than x xs)
-  unseen_more seen x [] = refl
-  unseen_more seen x (y ∷ ys) = grind (arith, list_any-append, unseen_more seen x ys)
+  unseen_candidates_more : (seen : List X) (x : X) (xs : List X) → distinct_unseen (seen ++ x ∷ []) xs
+      ≡ distinct_unseen seen (distinct_others_than x xs)
+  unseen_candidates_more seen x [] = refl
+  unseen_candidates_more seen x (y ∷ ys) = grind (arith, list_any-append, unseen_candidates_more seen x ys)
 
   -- a set keeps what it had, and then each value that it hadn't
-  inserted : (seen xs : List X) → insert_all same seen xs ≡ seen ++ unseen seen (distinct same xs)
-  inserted seen [] = sym (append-nil seen)
-  inserted seen (x ∷ xs) = grind (arith, inserted seen xs, inserted (seen ++ x ∷ []) xs, seen_others, append_assoc, unseen_more)
+  distinct_unseen_inserted : (seen xs : List X) → insert_all same seen xs ≡ seen ++ distinct_unseen seen (distinct same xs)
+  distinct_unseen_inserted seen [] = sym (append-nil seen)
+  distinct_unseen_inserted seen (x ∷ xs) = grind (
+    arith,
+    distinct_unseen_inserted seen xs,
+    distinct_unseen_inserted (seen ++ x ∷ []) xs,
+    distinct_seen_others,
+    append_assoc,
+    unseen_candidates_more,
+  )
 
   -- a set into which a list is put has its values, each once
-  pub inserted-distinct : (xs : List X) → insert_all same [] xs ≡ distinct same xs
-  inserted-distinct xs = inserted [] xs ∙ unseen-none (distinct same xs)
+  pub distinct_unseen_inserted-distinct : (xs : List X) → insert_all same [] xs ≡ distinct same xs
+  distinct_unseen_inserted-distinct xs = distinct_unseen_inserted [] xs ∙ distinct_unseen-none (distinct same xs)
 
   -- leaving out what differs from k loses no k
-  any-others : (k x : X) → same k x ≡ false → (xs : List X) → list_any (same k) (others_than x xs) ≡ list_any (same k) xs
-  any-others k x apart [] = refl
-  any-others k x apart (y ∷ ys) = grind (arith, any-others k x apart ys)
+  candidates_any-others : (k x : X) → same k x ≡ false → (xs : List X)
+      → list_any (same k) (distinct_others_than x xs) ≡ list_any (same k) xs
+  candidates_any-others k x apart [] = refl
+  candidates_any-others k x apart (y ∷ ys) = grind (arith, candidates_any-others k x apart ys)
 
   any-distinct : (k : X) (xs : List X) → list_any (same k) (distinct same xs) ≡ list_any (same k) xs
   any-distinct k [] = refl
-  any-distinct k (x ∷ xs) = grind (arith, any-distinct k xs, any-others)
+  any-distinct k (x ∷ xs) = grind (arith, any-distinct k xs, candidates_any-others)
 
   distinct-filter : (test : X → Bool) (xs : List X) → IsDistinct same xs → IsDistinct same (filter test xs)
   unfolding IsDistinct
   distinct-filter test [] apart = tt
-  distinct-filter test (x ∷ xs) apart = grind (arith, distinct-filter test xs apart.1, all-filter)
+  distinct-filter test (x ∷ xs) apart = grind (arith, distinct-filter test xs apart.1, row_all-filter)
 
-  others-apart : (x : X) (xs : List X) → AllByRecursion (λ y. same x y ≡ false) (others_than x xs)
-  others-apart x [] = tt
-  others-apart x (y ∷ ys) = grind (arith, others-apart x ys)
+  candidates_others-apart : (x : X) (xs : List X) → AllByRecursion (λ y. same x y ≡ false) (distinct_others_than x xs)
+  candidates_others-apart x [] = tt
+  candidates_others-apart x (y ∷ ys) = grind (arith, candidates_others-apart x ys)
 
   pub distinct-apart : (xs : List X) → IsDistinct same (distinct same xs)
   unfolding IsDistinct
   distinct-apart [] = tt
   distinct-apart (x ∷ xs) = (
-    others-apart x (distinct same xs),
+    candidates_others-apart x (distinct same xs),
     distinct-filter (λ y. not (same x y)) (distinct same xs) (distinct-apart xs),
   )
 
 -- where the test decides equality, `distinct` keeps each value once and no others
-pub each_once : {X : Type 0} (same : X → X → Bool) → ((x y : X) → Decides (same x y) (x ≡ y)) → (xs : List X)
-    → IsEachOnce xs (distinct same xs)
-each_once {X} same decides xs = record {
+pub each_candidate_once : {X : Type 0} (same : X → X → Bool) → ((x y : X) → Decides (same x y) (x ≡ y)) → (xs : List X)
+    → IsEachCandidateOnce xs (distinct same xs)
+each_candidate_once {X} same decides xs = record {
   apart = apart;
   same_values = λ x. (
     λ h. among x xs (sym (any-distinct same laws x xs) ∙ found x _ h),
@@ -98,26 +108,27 @@ each_once {X} same decides xs = record {
 
 module _ {X : Type 0} (same : X → X → Bool) where
   -- one of the values that are still to be put in
-  pub one_put : (old new : List X) (x : X) (left rest : List X) → new ≡ insert_key same old x → left ≡ x ∷ rest
+  pub candidates_one_put : (old new : List X) (x : X) (left rest : List X) → new ≡ insert_key same old x → left ≡ x ∷ rest
       → insert_all same new rest ≡ insert_all same old left
-  one_put old new x left rest put next = ap (λ l. insert_all same l rest) put ∙ sym (ap (insert_all same old) next)
+  candidates_one_put old new x left rest put next = ap (λ l. insert_all same l rest) put ∙ sym (ap (insert_all same old) next)
 
   -- once every value is put in, those that are there are each of them, once
-  pub all_put : {A : Type 0} → IsEquivalence same → (values : A → List X) (owners : List A) (i : ℕ) (keys given all : List X)
+  pub candidates_all_put : {A : Type 0} → IsEquivalence same → (values : A → List X) (owners : List A) (i : ℕ) (keys given all : List X)
       → length owners ≤ i → given ≡ keys
       → insert_all same keys (flat_map values (drop i owners)) ≡ insert_all same [] all → given ≡ distinct same all
-  all_put laws values owners i keys given all past is put =
-      is ∙ sym (ap (λ l. insert_all same keys (flat_map values l)) (drop_all i owners past)) ∙ put ∙ inserted-distinct same laws all
+  candidates_all_put laws values owners i keys given all past is put =
+      is ∙ sym (ap (λ l. insert_all same keys (flat_map values l)) (drop_all i owners past)) ∙ put
+      ∙ distinct_unseen_inserted-distinct same laws all
 
 -- ---- one item more
 
 -- one item under a test that is known of it
-one_kept : {X : Type 0} (test : X → Bool) (x : X) (s b : Bool) → test x ≡ not s
+candidates_one_kept : {X : Type 0} (test : X → Bool) (x : X) (s b : Bool) → test x ≡ not s
     → filter test (cond b [] (x ∷ [])) ≡ cond (s || b) [] (x ∷ [])
-one_kept test x s b is = grind arith
+candidates_one_kept test x s b is = grind arith
 
 -- one item more stands after the others, unless it is the same as one of them
 pub distinct_push : {X : Type 0} (same : X → X → Bool) (xs : List X) (x : X)
     → distinct same (xs ++ x ∷ []) ≡ distinct same xs ++ cond (list_any (λ y. same y x) xs) [] (x ∷ [])
 distinct_push same [] x = refl
-distinct_push {X} same (y ∷ xs) x = grind (arith, distinct_push same xs x, filter-append, one_kept)
+distinct_push {X} same (y ∷ xs) x = grind (arith, distinct_push same xs x, filter-append, candidates_one_kept)

@@ -1,7 +1,7 @@
 -- What attributes print: a line for each form (RFC 8866, sections 5.13 and 6). And which of them are a word alone.
 use Rattle.std.specs.Prelude.{◌<◌, ◌^◌, ℕ, List, [], ◌∷◌, ◌++◌, Option, None, All, codes, decimal, bytes_eq, IsUtf8}
 use Rattle.str0m_sdp.specs.Prelude.{Direction, IsByte, candidate_text, fingerprint_text, when, ◌<|>◌}
-use Rattle.str0m_sdp.specs.attribute.AttributeFits.{AreTexts, FitsCandidate, FitsFingerprint, FitsLayer, FitsParam, FitsRtpMap, IsMidText, IsPortNumber, IsSourceNumber}
+use Rattle.str0m_sdp.specs.attribute.AttributeFits.{AreAttributeTexts, FitsCandidate, FitsFingerprint, FitsLayer, FitsParam, FitsRtpMap, IsMidText, IsPortNumber, IsSourceNumber}
 use Rattle.str0m_sdp.specs.attribute.ExtMap.{ext_map_text}
 use Rattle.str0m_sdp.specs.attribute.Fmtp.{fmtp_text}
 use Rattle.str0m_sdp.specs.attribute.Group.{group_text, msid_semantic_text}
@@ -94,10 +94,10 @@ media_words =
     ∷ []
 
 -- what a text stands for that is one of these words
-abbrev pub word_read : {A : Type 0} → List (List ℕ × A) → List ℕ → Option A
-word_read [] text = None
-word_read (row ∷ []) text = when (bytes_eq text row.0) row.1
-word_read (row ∷ other ∷ rows) text = when (bytes_eq text row.0) row.1 <|> word_read (other ∷ rows) text
+abbrev pub attribute_word_read : {A : Type 0} → List (List ℕ × A) → List ℕ → Option A
+attribute_word_read [] text = None
+attribute_word_read (row ∷ []) text = when (bytes_eq text row.0) row.1
+attribute_word_read (row ∷ other ∷ rows) text = when (bytes_eq text row.0) row.1 <|> attribute_word_read (other ∷ rows) text
 
 -- ---- which values fit their types
 
@@ -129,7 +129,7 @@ FitsMediaAttribute (media.RtpMap pt value) = IsByte pt × FitsRtpMap value
 FitsMediaAttribute (media.RtcpFb pt value) = IsByte pt × IsUtf8 value
 FitsMediaAttribute (media.Fmtp pt values) = IsByte pt × All FitsParam values
 FitsMediaAttribute (media.Rid id direction pts restrictions) =
-    IsUtf8 id.0 × IsUtf8 direction × All IsByte pts × All AreTexts restrictions
+    IsUtf8 id.0 × IsUtf8 direction × All IsByte pts × All AreAttributeTexts restrictions
 FitsMediaAttribute (media.Simulcast simulcast) = All FitsLayer simulcast.send.0 × All FitsLayer simulcast.recv.0
 FitsMediaAttribute (media.SsrcGroup semantics ssrcs) = IsUtf8 semantics × All IsSourceNumber ssrcs
 FitsMediaAttribute (media.Ssrc ssrc attr value) = IsSourceNumber ssrc × IsUtf8 attr × IsUtf8 value

@@ -2,7 +2,7 @@
 -- numbers and bytes without a limit, so what is promised of every value is promised of those that fit.
 use Rattle.std.specs.Prelude.{◌<◌, ◌≤◌, ◌^◌, ℕ, List, length, All, IfSome, IsUtf8}
 use Rattle.str0m_formats.specs.declared.format.format_param.FormatParam.TheVariants as param
-use Rattle.str0m_sdp.specs.Prelude.{Candidate, Fingerprint, FitsType, FormatParam, IsByte, IsSocketInRange, entry, kind}
+use Rattle.str0m_sdp.specs.Prelude.{Candidate, Fingerprint, FitsType, FormatParam, IsByte, IsCandidateSocketInRange, entry, kind}
 use Rattle.str0m_sdp.specs.declared.attribute.bandwidth.Bandwidth.{Bandwidth}
 use Rattle.str0m_sdp.specs.declared.attribute.rtp_map.RtpMap.{RtpMap}
 use Rattle.str0m_sdp.specs.declared.attribute.simulcast.SimulcastLayer.{SimulcastLayer}
@@ -26,8 +26,8 @@ abbrev pub IsMidText : List ℕ → Type 0
 IsMidText name = (length name ≤ 16) × IsUtf8 name
 
 -- a name and a value
-abbrev pub AreTexts : List ℕ × List ℕ → Type 0
-AreTexts pair = IsUtf8 pair.0 × IsUtf8 pair.1
+abbrev pub AreAttributeTexts : List ℕ × List ℕ → Type 0
+AreAttributeTexts pair = IsUtf8 pair.0 × IsUtf8 pair.1
 
 -- ---- what lines hold
 
@@ -41,8 +41,8 @@ pub record FitsCandidate (c : Candidate) : Type 0 where
   pub foundation : IsUtf8 c.foundation
   pub component_id : c.component_id < 2 ^ 16
   pub prio : c.prio < 2 ^ 32
-  pub addr : IsSocketInRange c.addr
-  pub raddr : IfSome c.raddr IsSocketInRange
+  pub addr : IsCandidateSocketInRange c.addr
+  pub raddr : IfSome c.raddr IsCandidateSocketInRange
   pub ufrag : IfSome c.ufrag IsUtf8
 
 abbrev pub FitsRtpMap : RtpMap → Type 0
@@ -57,4 +57,4 @@ FitsParam (param.Red pt) = IsByte pt
 FitsParam param = IfSome (entry param) (λ e. FitsType (kind e.0) e.1)
 
 abbrev pub FitsLayer : SimulcastLayer → Type 0
-FitsLayer layer = IsUtf8 layer.restriction_id.0 × IfSome layer.attributes (All AreTexts)
+FitsLayer layer = IsUtf8 layer.restriction_id.0 × IfSome layer.attributes (All AreAttributeTexts)

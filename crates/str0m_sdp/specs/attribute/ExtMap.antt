@@ -5,9 +5,9 @@ use Rattle.str0m_sdp.specs.declared.label.TheConstants as label
 use Rattle.str0m_sdp.specs.form.Printed.{attribute_line}
 
 -- no line for an extension that isn't written
-abbrev pub if_written : Bool → List ℕ → List ℕ
-if_written true line = line
-if_written false line = []
+abbrev pub ext_map_if_written : Bool → List ℕ → List ℕ
+ext_map_if_written true line = line
+ext_map_if_written false line = []
 
 abbrev pub ext_map_text : ℕ → Extension → List ℕ
-ext_map_text id ext = if_written ext.serialized (attribute_line (label.EXTMAP.now ++ (decimal id ++ (codes " " ++ ext.uri))))
+ext_map_text id ext = ext_map_if_written ext.serialized (attribute_line (label.EXTMAP.now ++ (decimal id ++ (codes " " ++ ext.uri))))

@@ -10,9 +10,9 @@ abbrev pub restriction_text : List ℕ × List ℕ → List ℕ
 restriction_text pair = pair.0 ++ (codes "=" ++ pair.1)
 
 -- the payload types, after their label
-abbrev pub pts_part : List ℕ → List ℕ
-pts_part [] = []
-pts_part (pt ∷ pts) = codes " pt=" ++ join_by decimal (codes ",") (pt ∷ pts)
+abbrev pub rid_pts_part : List ℕ → List ℕ
+rid_pts_part [] = []
+rid_pts_part (pt ∷ pts) = codes " pt=" ++ join_by decimal (codes ",") (pt ∷ pts)
 
 -- what stands before the restrictions: `;` after payload types, else a space
 abbrev pub before_restrictions : List ℕ → List ℕ
@@ -26,4 +26,4 @@ restrictions_part pts (pair ∷ pairs) = before_restrictions pts ++ join_by rest
 -- the name, the direction, payload types, restrictions
 abbrev pub rid_text : RestrictionId → List ℕ → List ℕ → List (List ℕ × List ℕ) → List ℕ
 rid_text id direction pts restrictions =
-    attribute_line (label.RID.now ++ (id.0 ++ (codes " " ++ (direction ++ (pts_part pts ++ restrictions_part pts restrictions)))))
+    attribute_line (label.RID.now ++ (id.0 ++ (codes " " ++ (direction ++ (rid_pts_part pts ++ restrictions_part pts restrictions)))))

@@ -1,15 +1,15 @@
 -- The mapping of a payload type: as it prints, and as the codec that it names.
 use Rattle.std.specs.Prelude.{ℕ, List, [], ◌++◌, ◌==◌, Option, Some, None, codes, if◌then◌else◌, decimal}
 use Rattle.str0m_formats.specs.declared.codec.Codec.TheVariants.{G722}
-use Rattle.str0m_sdp.specs.Prelude.{Codec, CodecSpec, codec_text, empty, rtp_rate}
+use Rattle.str0m_sdp.specs.Prelude.{Codec, CodecSpec, codec_text, empty, codec_rtp_rate}
 use Rattle.str0m_sdp.specs.declared.attribute.rtp_map.RtpMap.{RtpMap}
 
-abbrev pub channels_text : Option ℕ → List ℕ
-channels_text None = []
-channels_text (Some n) = codes "/" ++ decimal n
+abbrev pub rtp_map_channels_text : Option ℕ → List ℕ
+rtp_map_channels_text None = []
+rtp_map_channels_text (Some n) = codes "/" ++ decimal n
 
 abbrev pub rtp_map_text : RtpMap → List ℕ
-rtp_map_text map = codec_text map.codec ++ (codes "/" ++ (decimal map.clock_rate ++ channels_text map.channels))
+rtp_map_text map = codec_text map.codec ++ (codes "/" ++ (decimal map.clock_rate ++ rtp_map_channels_text map.channels))
 
 -- ---- the codec that a mapping names
 
@@ -20,21 +20,21 @@ sampling_rate G722 rate = 16000
 sampling_rate _ rate = rate
 
 -- one channel is what no count says (RFC 8866, section 6.6)
-abbrev pub unless_one : Option ℕ → Option ℕ
-unless_one None = None
-unless_one (Some n) = if n == 1 then None else Some n
+abbrev pub rtp_map_channels_unless_one : Option ℕ → Option ℕ
+rtp_map_channels_unless_one None = None
+rtp_map_channels_unless_one (Some n) = if n == 1 then None else Some n
 
 -- the channels of a codec, of which G722 doesn't count a single one
-abbrev pub channels_of : Codec → Option ℕ → Option ℕ
-channels_of G722 channels = unless_one channels
-channels_of _ channels = channels
+abbrev pub rtp_map_channels_of : Codec → Option ℕ → Option ℕ
+rtp_map_channels_of G722 channels = rtp_map_channels_unless_one channels
+rtp_map_channels_of _ channels = channels
 
 -- the codec at the rate and with the channels that its mapping says, and nothing said of its format
 abbrev pub spec_of_map : RtpMap → CodecSpec
 spec_of_map map = record {
   codec = map.codec;
   clock_rate = sampling_rate map.codec map.clock_rate;
-  channels = channels_of map.codec map.channels;
+  channels = rtp_map_channels_of map.codec map.channels;
   format = empty;
 }
 
@@ -42,6 +42,6 @@ spec_of_map map = record {
 abbrev pub map_of_spec : CodecSpec → RtpMap
 map_of_spec spec = record {
   codec = spec.codec;
-  clock_rate = rtp_rate spec.codec spec.clock_rate;
+  clock_rate = codec_rtp_rate spec.codec spec.clock_rate;
   channels = spec.channels;
 }

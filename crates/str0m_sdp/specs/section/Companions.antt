@@ -4,11 +4,11 @@ use Rattle.std.specs.Prelude.{ℕ, Bool, false, ◌==◌, ◌&&◌, List, Option
 use Rattle.str0m_formats.specs.declared.codec.Codec.TheVariants as codecs
 use Rattle.str0m_formats.specs.declared.format.format_param.FormatParam.TheVariants.{BarePtList, Red}
 use Rattle.str0m_sdp.specs.Common.{last}
-use Rattle.str0m_sdp.specs.Prelude.{Codec, CodecSpec, FormatParam, content, has_audio, when}
+use Rattle.str0m_sdp.specs.Prelude.{Codec, CodecSpec, FormatParam, codec_content, row_content_has_audio, when}
 use Rattle.str0m_sdp.specs.declared.attribute.MediaAttribute.{MediaAttribute}
 use Rattle.str0m_sdp.specs.declared.attribute.MediaAttribute.TheVariants.{Fmtp}
 use Rattle.str0m_sdp.specs.declared.section.media_line.MediaLine.{MediaLine}
-use Rattle.str0m_sdp.specs.section.Consistency.{apt_of}
+use Rattle.str0m_sdp.specs.section.Consistency.{section_apt_of}
 use Rattle.str0m_sdp.specs.section.Mappings.{mapped, is_mapped_to}
 
 -- the first type of a list of types (RFC 2198, section 5)
@@ -19,22 +19,22 @@ listed_type _ = None
 
 -- the type that a value names in an fmtp line of the codec: by `apt` for RTX (RFC 4588, section 8.1), by a list of types
 -- for RED (RFC 2198, section 5)
-abbrev pub named_by : Codec → FormatParam → Option ℕ
-named_by codecs.Rtx value = apt_of value
-named_by codecs.Red value = listed_type value
-named_by _ value = None
+abbrev pub companion_named_by : Codec → FormatParam → Option ℕ
+companion_named_by codecs.Rtx value = section_apt_of value
+companion_named_by codecs.Red value = listed_type value
+companion_named_by _ value = None
 
 abbrev pub is_type : ℕ → Option ℕ → Bool
 is_type pt None = false
 is_type pt (Some n) = n == pt
 
 -- whether a value names the type
-abbrev pub names : Codec → ℕ → FormatParam → Bool
-names codec pt value = is_type pt (named_by codec value)
+abbrev pub names_type : Codec → ℕ → FormatParam → Bool
+names_type codec pt value = is_type pt (companion_named_by codec value)
 
 -- the type of an fmtp line, where it stands for the codec and a value of the line names the other type
 abbrev pub companion_in : Codec → List (ℕ × CodecSpec) → ℕ → MediaAttribute → Option ℕ
-companion_in codec mapped pt (Fmtp n values) = when (is_mapped_to codec mapped n && list_any (names codec pt) values) n
+companion_in codec mapped pt (Fmtp n values) = when (is_mapped_to codec mapped n && list_any (names_type codec pt) values) n
 companion_in codec mapped pt _ = None
 
 -- the last such type
@@ -47,4 +47,4 @@ rtx_companion m pt = companion codecs.Rtx (mapped m) m.attrs pt
 
 -- the type under which audio is repeated (RFC 2198)
 abbrev pub red_companion : MediaLine → ℕ → Codec → Option ℕ
-red_companion m pt codec = if has_audio (content codec) then companion codecs.Red (mapped m) m.attrs pt else None
+red_companion m pt codec = if row_content_has_audio (codec_content codec) then companion codecs.Red (mapped m) m.attrs pt else None

@@ -1,7 +1,7 @@
 -- Which sections are consistent.
 use Rattle.std.specs.Prelude.{◌≡◌, ◌≢◌, ◌≤◌, ◌⊎◌, ◌==◌, ℕ, Bool, true, false, List, [], ◌∷◌, Option, Some, None, IfSome, MatchOption, All, count_by, if◌then◌else◌}
 use Rattle.str0m_formats.specs.declared.format.format_param.FormatParam.TheVariants.{Apt}
-use Rattle.str0m_sdp.specs.Prelude.{CodecSpec, FormatParam, IsStatic, ◌<|>◌}
+use Rattle.str0m_sdp.specs.Prelude.{CodecSpec, FormatParam, IsStaticSpec, ◌<|>◌}
 use Rattle.str0m_sdp.specs.declared.attribute.MediaAttribute.{MediaAttribute}
 use Rattle.str0m_sdp.specs.declared.attribute.MediaAttribute.TheVariants.{Setup, Mid, RecvOnly, SendRecv, SendOnly, Inactive, RtpMap, Fmtp}
 use Rattle.str0m_sdp.specs.declared.attribute.proto.Proto.TheVariants.{Srtp}
@@ -35,7 +35,7 @@ maps pt _ = false
 
 -- the payload type stands for a codec without a mapping (RFC 3551, section 6)
 abbrev pub NeedsNoMapping : ℕ → Type 0
-NeedsNoMapping pt = (spec : CodecSpec) × IsStatic pt spec
+NeedsNoMapping pt = (spec : CodecSpec) × IsStaticSpec pt spec
 
 -- one mapping, or none where the type needs none
 abbrev pub IsMapped : List MediaAttribute → ℕ → Type 0
@@ -46,31 +46,31 @@ abbrev pub FitsProto : MediaLine → Type 0
 FitsProto m = m.proto ≡ Srtp → (count_by is_direction m.attrs ≡ 1) × (m.disabled ≡ false → m.pts ≢ [])
 
 -- the primary type that a value of an fmtp line names (RFC 4588, section 8.1)
-abbrev pub apt_of : FormatParam → Option ℕ
-apt_of (Apt pt) = Some pt
-apt_of _ = None
+abbrev pub section_apt_of : FormatParam → Option ℕ
+section_apt_of (Apt pt) = Some pt
+section_apt_of _ = None
 
 -- the first that the values name
-abbrev pub apt_among : List FormatParam → Option ℕ
-apt_among [] = None
-apt_among (value ∷ values) = apt_of value <|> apt_among values
+abbrev pub section_apt_among : List FormatParam → Option ℕ
+section_apt_among [] = None
+section_apt_among (value ∷ values) = section_apt_of value <|> section_apt_among values
 
 -- the first that an fmtp line of the payload type names
-abbrev pub apt_in : ℕ → MediaAttribute → Option ℕ
-apt_in pt (Fmtp n values) = if n == pt then apt_among values else None
-apt_in pt _ = None
+abbrev pub section_apt_in : ℕ → MediaAttribute → Option ℕ
+section_apt_in pt (Fmtp n values) = if n == pt then section_apt_among values else None
+section_apt_in pt _ = None
 
-abbrev pub first_apt : ℕ → List MediaAttribute → Option ℕ
-first_apt pt [] = None
-first_apt pt (attr ∷ attrs) = apt_in pt attr <|> first_apt pt attrs
+abbrev pub first_section_apt : ℕ → List MediaAttribute → Option ℕ
+first_section_apt pt [] = None
+first_section_apt pt (attr ∷ attrs) = section_apt_in pt attr <|> first_section_apt pt attrs
 
 -- the value names no other type than this one
-abbrev pub NamesNoOther : ℕ → FormatParam → Type 0
-NamesNoOther first value = IfSome (apt_of value) (λ other. first ≡ other)
+abbrev pub NamesNoOtherApt : ℕ → FormatParam → Type 0
+NamesNoOtherApt first value = IfSome (section_apt_of value) (λ other. first ≡ other)
 
 -- no value of an fmtp line names another primary type than the first that is named for its payload type
 abbrev pub AgreesOnApt : List MediaAttribute → MediaAttribute → Type 0
-AgreesOnApt attrs (Fmtp pt values) = IfSome (first_apt pt attrs) (λ first. All (NamesNoOther first) values)
+AgreesOnApt attrs (Fmtp pt values) = IfSome (first_section_apt pt attrs) (λ first. All (NamesNoOtherApt first) values)
 AgreesOnApt attrs _ = Unit {0}
 
 pub record Consistent (m : MediaLine) : Type 0 where
@@ -81,5 +81,5 @@ pub record Consistent (m : MediaLine) : Type 0 where
   pub apt : All (AgreesOnApt m.attrs) m.attrs
 
 -- none where P holds, and a value where it doesn't
-abbrev pub NoneIff : {A : Type 0} → Option A → Type 0 → Type 0
-NoneIff o P = MatchOption o P (λ _. ¬ P)
+abbrev pub NoSectionFaultIff : {A : Type 0} → Option A → Type 0 → Type 0
+NoSectionFaultIff o P = MatchOption o P (λ _. ¬ P)

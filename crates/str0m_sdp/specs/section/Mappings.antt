@@ -20,17 +20,17 @@ abbrev pub static_type : ℕ → Option (ℕ × CodecSpec)
 static_type pt = option_map (λ spec. (pt, spec)) (static_spec pt)
 
 -- where no rtpmap line names the type
-abbrev pub unmapped : List MediaAttribute → ℕ → Option (ℕ × CodecSpec)
-unmapped attrs pt = if list_any (maps pt) attrs then None else static_type pt
+abbrev pub unmapped_type : List MediaAttribute → ℕ → Option (ℕ × CodecSpec)
+unmapped_type attrs pt = if list_any (maps pt) attrs then None else static_type pt
 
 -- the types with their codecs: those of rtpmap lines, then those of the m-line that need none, each once
 unfoldable pub mapped : MediaLine → List (ℕ × CodecSpec)
-mapped m = filter_map mapping m.attrs ++ filter_map (unmapped m.attrs) (distinct nat_eq m.pts)
+mapped m = filter_map mapping m.attrs ++ filter_map (unmapped_type m.attrs) (distinct nat_eq m.pts)
 
 -- whether the type stands for the codec
-abbrev pub is_of : Codec → ℕ → ℕ × CodecSpec → Bool
-is_of codec pt row = row.0 == pt && same_codec row.1.codec codec
+abbrev pub stands_for_codec : Codec → ℕ → ℕ × CodecSpec → Bool
+stands_for_codec codec pt row = row.0 == pt && same_codec row.1.codec codec
 
 -- whether one of these types is this one, for the codec
 abbrev pub is_mapped_to : Codec → List (ℕ × CodecSpec) → ℕ → Bool
-is_mapped_to codec mapped pt = list_any (is_of codec pt) mapped
+is_mapped_to codec mapped pt = list_any (stands_for_codec codec pt) mapped

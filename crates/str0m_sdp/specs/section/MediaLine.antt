@@ -17,17 +17,17 @@ port_text true = codes "0"
 port_text false = codes "9"
 
 -- payload types parted by spaces, and 0 where there is none
-abbrev pub pts_text : List ℕ → List ℕ
-pts_text [] = codes "0"
-pts_text (pt ∷ pts) = join_by decimal (codes " ") (pt ∷ pts)
+abbrev pub m_line_pts_text : List ℕ → List ℕ
+m_line_pts_text [] = codes "0"
+m_line_pts_text (pt ∷ pts) = join_by decimal (codes " ") (pt ∷ pts)
 
 -- the formats of an m-line: a data channel for application sections (RFC 8841, section 4.3), else
 -- payload types
 abbrev pub formats_text : MediaType → List ℕ → List ℕ
 formats_text Application pts = codes "webrtc-datachannel"
-formats_text Audio pts = pts_text pts
-formats_text Video pts = pts_text pts
-formats_text (Unknown text) pts = pts_text pts
+formats_text Audio pts = m_line_pts_text pts
+formats_text Video pts = m_line_pts_text pts
+formats_text (Unknown text) pts = m_line_pts_text pts
 
 -- media type, port, protocol, formats
 abbrev pub m_line : MediaLine → List ℕ

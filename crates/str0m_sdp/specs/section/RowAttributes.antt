@@ -3,7 +3,7 @@ use Rattle.std.specs.Prelude.{◌≡◌, ℕ, Bool, true, false, List, [], ◌�
 use Rattle.str0m_formats.specs.declared.codec.Codec.TheVariants as codec
 use Rattle.str0m_formats.specs.declared.format.format_param.FormatParam.TheVariants.{TelephoneEvents, Apt, Red}
 use Rattle.str0m_formats.specs.round.Narrowing.{telephone_max}
-use Rattle.str0m_sdp.specs.Prelude.{Codec, FormatParam, FormatParams, PayloadParams, params_of, rtp_rate}
+use Rattle.str0m_sdp.specs.Prelude.{Codec, FormatParam, FormatParams, PayloadParams, params_of, codec_rtp_rate}
 use Rattle.str0m_sdp.specs.attribute.RtpMap.{map_of_spec}
 use Rattle.str0m_sdp.specs.declared.attribute.MediaAttribute.{MediaAttribute}
 use Rattle.str0m_sdp.specs.declared.attribute.MediaAttribute.TheVariants.{RtpMap, RtcpFb, Fmtp}
@@ -41,7 +41,7 @@ format_attrs row = fmtp_line row.pt (format_values row.spec.codec row.spec.forma
 abbrev pub rtx_lines : PayloadParams → Option ℕ → List MediaAttribute
 rtx_lines row None = []
 rtx_lines row (Some pt) =
-    RtpMap pt (record { codec = codec.Rtx; clock_rate = rtp_rate row.spec.codec row.spec.clock_rate; channels = None })
+    RtpMap pt (record { codec = codec.Rtx; clock_rate = codec_rtp_rate row.spec.codec row.spec.clock_rate; channels = None })
     ∷ (Fmtp pt (Apt row.pt ∷ []) ∷ [])
 
 abbrev pub rtx_attrs : PayloadParams → List MediaAttribute
@@ -51,7 +51,7 @@ rtx_attrs row = rtx_lines row row.resend
 abbrev pub red_lines : PayloadParams → Option ℕ → List MediaAttribute
 red_lines row None = []
 red_lines row (Some pt) =
-    RtpMap pt (record { codec = codec.Red; clock_rate = rtp_rate row.spec.codec row.spec.clock_rate; channels = row.spec.channels })
+    RtpMap pt (record { codec = codec.Red; clock_rate = codec_rtp_rate row.spec.codec row.spec.clock_rate; channels = row.spec.channels })
     ∷ (Fmtp pt (Red row.pt ∷ []) ∷ [])
 
 abbrev pub red_attrs : PayloadParams → List MediaAttribute
@@ -64,5 +64,5 @@ row_attrs row =
     ∷ (feedback_attrs row ++ (format_attrs row ++ (rtx_attrs row ++ red_attrs row)))
 
 -- the second list begins with the first
-abbrev pub Appends : List MediaAttribute → List MediaAttribute → Type 0
-Appends before after = (rest : List MediaAttribute) × (after ≡ before ++ rest)
+abbrev pub AppendsRowLines : List MediaAttribute → List MediaAttribute → Type 0
+AppendsRowLines before after = (rest : List MediaAttribute) × (after ≡ before ++ rest)

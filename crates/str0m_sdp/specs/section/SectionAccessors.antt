@@ -8,7 +8,7 @@ use Rattle.str0m_sdp.specs.declared.attribute.MediaAttribute.TheVariants as medi
 use Rattle.str0m_sdp.specs.declared.attribute.msid.Msid.{Msid}
 use Rattle.str0m_sdp.specs.declared.attribute.simulcast.Simulcast.{Simulcast}
 use Rattle.str0m_sdp.specs.declared.section.media_line.MediaLine.{MediaLine}
-use Rattle.str0m_values.specs.ShortText.{IsLongestBeginning}
+use Rattle.str0m_values.specs.ShortText.{IsLongestShortText}
 
 -- an INIT chunk in base 64
 abbrev pub sctp_init_of : MediaAttribute → Option (List ℕ)
@@ -25,9 +25,9 @@ msid_of (media.Msid msid) = Some msid
 msid_of _ = None
 
 -- the most bytes that a message may have (RFC 8841, section 6)
-abbrev pub max_message_size_of : MediaAttribute → Option ℕ
-max_message_size_of (media.MaxMessageSize size) = Some size
-max_message_size_of _ = None
+abbrev pub section_max_message_size_of : MediaAttribute → Option ℕ
+section_max_message_size_of (media.MaxMessageSize size) = Some size
+section_max_message_size_of _ = None
 
 -- the layers (RFC 8853, section 5.1)
 abbrev pub simulcast_of : MediaAttribute → Option Simulcast
@@ -51,4 +51,4 @@ rid_name_of _ = None
 -- the rid that keeps of a name what has room in it: all of a name of at most 16 bytes, else its
 -- longest beginning of at most 16 bytes that ends between characters
 abbrev pub IsRidOf : List ℕ → List ℕ → Type 0
-IsRidOf name rid = IsLongestBeginning 16 name rid × (length name ≤ 16 → rid ≡ name)
+IsRidOf name rid = IsLongestShortText 16 name rid × (length name ≤ 16 → rid ≡ name)

@@ -3,13 +3,13 @@ use Rattle.std.specs.Borrow.{Bor}
 use Rattle.std.specs.List.{list_any}
 use Rattle.std.specs.Prelude.{◌≡◌, ◌==◌, ◌<◌, ℕ, false, List, None, get_or, length, if◌then◌else◌}
 use Rattle.str0m_formats.specs.declared.codec.Codec.TheVariants.{Rtx, Red}
-use Rattle.str0m_sdp.specs.Prelude.{CodecSpec, FormatParam, PayloadParams, content, has_audio, line_values, new_row}
+use Rattle.str0m_sdp.specs.Prelude.{CodecSpec, FormatParam, PayloadParams, codec_content, row_content_has_audio, line_values, new_row}
 use Rattle.str0m_sdp.specs.attribute.Feedback.{empty_feedback, feedback_of, with_feedback}
 use Rattle.str0m_sdp.specs.declared.attribute.MediaAttribute.{MediaAttribute}
 use Rattle.str0m_sdp.specs.declared.section.media_line.MediaLine.{MediaLine}
 use Rattle.str0m_sdp.specs.declared.section.section_rows.TypeFacts.{TypeFacts}
 use Rattle.str0m_sdp.specs.section.Companions.{companion}
-use Rattle.str0m_sdp.specs.section.FmtpLines.{lines_with}
+use Rattle.str0m_sdp.specs.section.FmtpLines.{fmtp_lines_with}
 use Rattle.str0m_sdp.specs.section.Mappings.{mapped}
 use Rattle.str0m_sdp.specs.section.SectionRows.{fmtps_of}
 
@@ -18,22 +18,22 @@ abbrev pub row_of : TypeFacts → ℕ → CodecSpec → PayloadParams
 row_of words pt spec =
     with_feedback (get_or words.feedback pt empty_feedback)
     (record (new_row pt (get_or words.rtx pt None) spec) {
-      red = if has_audio (content spec.codec) then get_or words.red pt None else None;
+      red = if row_content_has_audio (codec_content spec.codec) then get_or words.red pt None else None;
     })
 
 -- the tables say what the section says
-pub record SayOf (m : MediaLine) (words : TypeFacts) : Type 0 where
+pub record RowTablesSayOf (m : MediaLine) (words : TypeFacts) : Type 0 where
   pub in_m_line : (pt : ℕ) → pt < 256 → get_or words.in_m_line pt false ≡ list_any (λ n. n == pt) m.pts
   pub rtx : (pt : ℕ) → pt < 256 → get_or words.rtx pt None ≡ companion Rtx (mapped m) m.attrs pt
   pub red : (pt : ℕ) → pt < 256 → get_or words.red pt None ≡ companion Red (mapped m) m.attrs pt
   pub feedback : (pt : ℕ) → pt < 256 → get_or words.feedback pt empty_feedback ≡ feedback_of m.attrs pt
 
 -- the tables, and the fmtp lines beside their types, say what these attributes say of each type
-pub record AreOf (types : List (ℕ × CodecSpec)) (attrs : List MediaAttribute) (words : TypeFacts) (lines : List (ℕ × Bor (List FormatParam))) : Type 0 where
+pub record RowTablesAreOf (types : List (ℕ × CodecSpec)) (attrs : List MediaAttribute) (words : TypeFacts) (lines : List (ℕ × Bor (List FormatParam))) : Type 0 where
   pub rtx_rows : length words.rtx ≡ 256
   pub red_rows : length words.red ≡ 256
   pub feedback_rows : length words.feedback ≡ 256
   pub rtx : (pt : ℕ) → pt < 256 → get_or words.rtx pt None ≡ companion Rtx types attrs pt
   pub red : (pt : ℕ) → pt < 256 → get_or words.red pt None ≡ companion Red types attrs pt
   pub feedback : (pt : ℕ) → pt < 256 → get_or words.feedback pt empty_feedback ≡ feedback_of attrs pt
-  pub gathered : (pt : ℕ) → line_values (lines_with pt lines) ≡ fmtps_of attrs pt
+  pub gathered : (pt : ℕ) → line_values (fmtp_lines_with pt lines) ≡ fmtps_of attrs pt

@@ -7,24 +7,24 @@ use Rattle.str0m_sdp.specs.declared.section.sources.Sources.{Sources}
 use Rattle.str0m_sdp.specs.declared.section.ssrc_info.SsrcInfo.{SsrcInfo}
 
 -- each source, and what is said of it
-abbrev pub entries_of : List SsrcInfo → List (ℕ × SsrcInfo)
-entries_of infos = map (λ info. (info.ssrc, info)) infos
+abbrev pub source_entries_of : List SsrcInfo → List (ℕ × SsrcInfo)
+source_entries_of infos = map (λ info. (info.ssrc, info)) infos
 
 abbrev pub entries : Sources → List (ℕ × SsrcInfo)
-entries sources = entries_of sources.infos.items
+entries sources = source_entries_of sources.infos.items
 
 -- the first place of a source
-abbrev pub place_in : ℕ → List SsrcInfo → Option ℕ
-place_in s [] = None
-place_in s (info ∷ infos) = cond (nat_eq s info.ssrc) (Some 0) (option_map suc (place_in s infos))
+abbrev pub source_place_in : ℕ → List SsrcInfo → Option ℕ
+source_place_in s [] = None
+source_place_in s (info ∷ infos) = cond (nat_eq s info.ssrc) (Some 0) (option_map suc (source_place_in s infos))
 
 -- the place of each source is known, and of no other
-abbrev pub ArePlaced : Sources → Type 0
-ArePlaced sources = (s : ℕ) → get nat_cmp sources.places s ≡ place_in s sources.infos.items
+abbrev pub AreSourcesPlaced : Sources → Type 0
+AreSourcesPlaced sources = (s : ℕ) → get nat_cmp sources.places s ≡ source_place_in s sources.infos.items
 
 -- what is written at the place is written at the source, and places stay
-abbrev pub IsPutAt : Sources → Sources → ℕ → ℕ → Type 0
-IsPutAt old new s place =
+abbrev pub IsPutAtSource : Sources → Sources → ℕ → ℕ → Type 0
+IsPutAtSource old new s place =
     (info : SsrcInfo) → info.ssrc ≡ s
-    → (entries_of (slice_set new.infos.items place info) ≡ insert_entry nat_eq (entries old) s info)
-    × ((q : ℕ) → get nat_cmp new.places q ≡ place_in q (slice_set new.infos.items place info))
+    → (source_entries_of (slice_set new.infos.items place info) ≡ insert_entry nat_eq (entries old) s info)
+    × ((q : ℕ) → get nat_cmp new.places q ≡ source_place_in q (slice_set new.infos.items place info))

@@ -16,13 +16,13 @@ source_of (Ssrc ssrc name value) = Some ssrc
 source_of _ = None
 
 -- two sources and no more
-abbrev pub only_pair : List ℕ → Option (ℕ × ℕ)
-only_pair (first ∷ second ∷ []) = Some (first, second)
-only_pair _ = None
+abbrev pub only_source_pair : List ℕ → Option (ℕ × ℕ)
+only_source_pair (first ∷ second ∷ []) = Some (first, second)
+only_source_pair _ = None
 
 -- a source and the one that repairs it: a group FID of two (RFC 5576, section 4.2)
 abbrev pub repair_pair : MediaAttribute → Option (ℕ × ℕ)
-repair_pair (SsrcGroup semantics ssrcs) = if str_eq_ignore_ascii_case semantics (codes "fid") then only_pair ssrcs else None
+repair_pair (SsrcGroup semantics ssrcs) = if str_eq_ignore_ascii_case semantics (codes "fid") then only_source_pair ssrcs else None
 repair_pair _ = None
 
 -- the source that repairs another one
@@ -45,33 +45,33 @@ abbrev pub repaired_by : ℕ → MediaAttribute → Option ℕ
 repaired_by s attr = repair_pair attr >>= (λ pair. when (pair.1 == s) pair.0)
 
 -- its name (RFC 5576, section 6.1)
-abbrev pub cname_said : ℕ → MediaAttribute → Option (List ℕ)
-cname_said s attr = source_value_of (codes "cname") s attr
+abbrev pub source_cname_said : ℕ → MediaAttribute → Option (List ℕ)
+source_cname_said s attr = source_value_of (codes "cname") s attr
 
 -- the id in a piece, without white space at its ends, where `-` says that there is none (RFC 8830, section 2)
-abbrev pub id_of : List ℕ → Option (List ℕ)
-id_of piece = if bytes_eq (trim piece) (codes "-") then None else Some (trim piece)
+abbrev pub source_id_of : List ℕ → Option (List ℕ)
+source_id_of piece = if bytes_eq (trim piece) (codes "-") then None else Some (trim piece)
 
 -- its stream: the text before the first space
 abbrev pub stream_said : ℕ → MediaAttribute → Option (Option (List ℕ))
-stream_said s attr = option_map (λ value. id_of (before 32 value)) (source_value_of (codes "msid") s attr)
+stream_said s attr = option_map (λ value. source_id_of (before 32 value)) (source_value_of (codes "msid") s attr)
 
 -- its track: the text after the first space, up to the next one
-abbrev pub track_said : ℕ → MediaAttribute → Option (Option (List ℕ))
-track_said s attr = source_value_of (codes "msid") s attr >>= (λ value. option_map (λ parts. id_of (before 32 parts.1)) (cut 32 value))
+abbrev pub source_track_said : ℕ → MediaAttribute → Option (Option (List ℕ))
+source_track_said s attr = source_value_of (codes "msid") s attr >>= (λ value. option_map (λ parts. source_id_of (before 32 parts.1)) (cut 32 value))
 
 -- what the last attribute says that says something
-abbrev pub latest : {X : Type 0} → (MediaAttribute → Option X) → List MediaAttribute → Option X
-latest said attrs = last (filter_map said attrs)
+abbrev pub latest_source_said : {X : Type 0} → (MediaAttribute → Option X) → List MediaAttribute → Option X
+latest_source_said said attrs = last (filter_map said attrs)
 
 -- the source, with what is said of it last
 abbrev pub info : List MediaAttribute → ℕ → SsrcInfo
 info attrs s = record {
   ssrc = s;
-  repairs = latest (repaired_by s) attrs;
-  cname = latest (cname_said s) attrs;
-  stream_id = option_flatten (latest (stream_said s) attrs);
-  track_id = option_flatten (latest (track_said s) attrs);
+  repairs = latest_source_said (repaired_by s) attrs;
+  cname = latest_source_said (source_cname_said s) attrs;
+  stream_id = option_flatten (latest_source_said (stream_said s) attrs);
+  track_id = option_flatten (latest_source_said (source_track_said s) attrs);
 }
 
 -- each source of a section

@@ -5,23 +5,23 @@ use Rattle.str0m_sdp.specs.Prelude.{FormatParam, format_of_fmtp, line_values}
 use Rattle.str0m_sdp.specs.declared.attribute.MediaAttribute.{MediaAttribute}
 use Rattle.str0m_sdp.specs.declared.section.type_lines.KnownFormat.{KnownFormat}
 use Rattle.str0m_sdp.specs.declared.section.type_lines.TypeLines.{TypeLines}
-use Rattle.str0m_sdp.specs.section.FmtpLines.{lines_with}
+use Rattle.str0m_sdp.specs.section.FmtpLines.{fmtp_lines_with}
 use Rattle.str0m_sdp.specs.section.SectionRows.{fmtps_of}
 
 -- it is what these lines say
-unfoldable pub IsKnown : List (List FormatParam) → KnownFormat → Type 0
-IsKnown lines known = known.format ≡ format_of_fmtp known.codec lines
+unfoldable pub IsKnownFormat : List (List FormatParam) → KnownFormat → Type 0
+IsKnownFormat lines known = known.format ≡ format_of_fmtp known.codec lines
 
 -- a group has these lines, and what is known of them is so
 abbrev pub IsTypeGroup : List (List FormatParam) → TypeLines → Type 0
-IsTypeGroup lines group = (line_values group.lines.items ≡ lines) × All (IsKnown lines) group.known.items
+IsTypeGroup lines group = (line_values group.lines.items ≡ lines) × All (IsKnownFormat lines) group.known.items
 
 -- each group has the lines of its type among these attributes
-abbrev pub AreKnown : List MediaAttribute → List TypeLines → Type 0
-AreKnown attrs groups = (pt : ℕ) (d : TypeLines) → pt < length groups → IsTypeGroup (fmtps_of attrs pt) (get_or groups pt d)
+abbrev pub AreGroupsKnown : List MediaAttribute → List TypeLines → Type 0
+AreGroupsKnown attrs groups = (pt : ℕ) (d : TypeLines) → pt < length groups → IsTypeGroup (fmtps_of attrs pt) (get_or groups pt d)
 
 -- there is a group for each type, which has its lines among these, and nothing is known
 abbrev pub AreGrouped : List (ℕ × Bor (List FormatParam)) → List TypeLines → Type 0
 AreGrouped lines groups =
     (length groups ≡ 256)
-    × ((pt : ℕ) (d : TypeLines) → pt < 256 → ((get_or groups pt d).lines.items ≡ lines_with pt lines) × ((get_or groups pt d).known.items ≡ []))
+    × ((pt : ℕ) (d : TypeLines) → pt < 256 → ((get_or groups pt d).lines.items ≡ fmtp_lines_with pt lines) × ((get_or groups pt d).known.items ≡ []))

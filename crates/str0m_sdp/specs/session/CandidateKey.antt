@@ -10,12 +10,12 @@ use Rattle.str0m_values.specs.declared.protocol.Protocol.TheVariants.{Udp, Tcp, 
 use Rattle.str0m_values.specs.declared.protocol.TcpType.TheVariants.{Active, Passive, So}
 
 -- an address by its numbers
-abbrev pub ip_part : IpAddr → IpPart
-ip_part (address.V4 bytes) = part.V4 bytes
-ip_part (address.V6 groups) = part.V6 groups
+abbrev pub candidate_ip_part : IpAddr → IpPart
+candidate_ip_part (address.V4 bytes) = part.V4 bytes
+candidate_ip_part (address.V6 groups) = part.V6 groups
 
 abbrev pub address_part : SocketAddr → IpPart × ℕ
-address_part addr = (ip_part addr.ip, addr.port)
+address_part addr = (candidate_ip_part addr.ip, addr.port)
 
 -- words by numbers
 abbrev pub protocol_part : Protocol → ℕ
@@ -24,11 +24,11 @@ protocol_part Tcp = 1
 protocol_part SslTcp = 2
 protocol_part Tls = 3
 
-abbrev pub kind_part : CandidateKind → ℕ
-kind_part Host = 0
-kind_part PeerReflexive = 1
-kind_part ServerReflexive = 2
-kind_part Relayed = 3
+abbrev pub candidate_kind_part : CandidateKind → ℕ
+candidate_kind_part Host = 0
+candidate_kind_part PeerReflexive = 1
+candidate_kind_part ServerReflexive = 2
+candidate_kind_part Relayed = 3
 
 abbrev pub type_part : TcpType → ℕ
 type_part Active = 0
@@ -42,7 +42,7 @@ pub record IsKeyOf (candidate : Candidate) (key : CandidateKey) : Type 0 where
   pub proto : key.proto ≡ protocol_part candidate.proto
   pub prio : key.prio ≡ candidate.prio
   pub addr : key.addr ≡ address_part candidate.addr
-  pub kind : key.kind ≡ kind_part candidate.kind
+  pub kind : key.kind ≡ candidate_kind_part candidate.kind
   pub raddr : key.raddr ≡ option_map address_part candidate.raddr
   pub tcptype : key.tcptype ≡ option_map type_part candidate.tcptype
   pub ufrag : option_map (λ text. text.now) key.ufrag ≡ candidate.ufrag

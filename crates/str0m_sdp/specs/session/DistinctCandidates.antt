@@ -9,6 +9,6 @@ abbrev pub distinct_left : DistinctCandidates → List Candidate
 distinct_left candidates = map (λ c. c.now) (into_iter_items candidates.left)
 
 -- no two of them are equal, and a value is among them exactly where it stands in the whole list
-pub record IsEachOnce {X : Type 0} (all once : List X) : Type 0 where
+pub record IsEachCandidateOnce {X : Type 0} (all once : List X) : Type 0 where
   pub apart : AllPairs ◌≢◌ once
   pub same_values : (x : X) → Contains once x ↔ Contains all x

@@ -12,7 +12,7 @@ use Rattle.str0m_sdp.specs.declared.section.media_line.MediaLine.{MediaLine}
 use Rattle.str0m_sdp.specs.declared.session.fault.Clash.{Clash}
 use Rattle.str0m_sdp.specs.declared.session.fault.Fault.{Fault}
 use Rattle.str0m_sdp.specs.declared.session.fault.Fault.TheVariants.{MissingMid, SecondMid, SecondSetup, Directions, MissingType, MissingMap, SecondMap, Apts}
-use Rattle.str0m_sdp.specs.section.Consistency.{is_mid, mid_of, is_setup, is_direction, maps, apt_of, first_apt}
+use Rattle.str0m_sdp.specs.section.Consistency.{is_mid, mid_of, is_setup, is_direction, maps, section_apt_of, first_section_apt}
 
 -- ---- what may be wrong, a question each
 
@@ -45,13 +45,13 @@ abbrev pub map_fault : List MediaAttribute → List ℕ → ℕ → Option Fault
 map_fault attrs mid pt = mapping_fault (count_by (maps pt) attrs) mid pt
 
 -- another primary type than the first that is named for the payload type
-abbrev pub clash : List ℕ → ℕ → ℕ → Option ℕ → Option Fault
-clash mid pt first None = None
-clash mid pt first (Some other) =
+abbrev pub apt_clash_fault : List ℕ → ℕ → ℕ → Option ℕ → Option Fault
+apt_clash_fault mid pt first None = None
+apt_clash_fault mid pt first (Some other) =
     when (not (other == first)) (Apts (record { mid = mid; pt = pt; first = first; other = other }))
 
 abbrev pub value_fault : List ℕ → ℕ → ℕ → FormatParam → Option Fault
-value_fault mid pt first value = clash mid pt first (apt_of value)
+value_fault mid pt first value = apt_clash_fault mid pt first (section_apt_of value)
 
 -- the first value of an fmtp line that names one
 abbrev pub values_fault : List ℕ → ℕ → List FormatParam → Option ℕ → Option Fault
@@ -59,7 +59,7 @@ values_fault mid pt values None = None
 values_fault mid pt values (Some named) = first (filter_map (value_fault mid pt named) values)
 
 abbrev pub apt_fault : List MediaAttribute → List ℕ → MediaAttribute → Option Fault
-apt_fault attrs mid (Fmtp pt values) = values_fault mid pt values (first_apt pt attrs)
+apt_fault attrs mid (Fmtp pt values) = values_fault mid pt values (first_section_apt pt attrs)
 apt_fault attrs mid _ = None
 
 -- ---- the first
@@ -82,9 +82,9 @@ abbrev pub first_fault : MediaLine → Option Fault
 first_fault m = after_mid (only_mid m.attrs) (fault_beside m)
 
 -- the error of what finds a fault
-abbrev pub err_if : {E : Type 0} → Option E → Result (Unit {0}) E
-err_if None = Ok tt
-err_if (Some fault) = Err fault
+abbrev pub err_if_fault : {E : Type 0} → Option E → Result (Unit {0}) E
+err_if_fault None = Ok tt
+err_if_fault (Some fault) = Err fault
 
 -- ---- the message
 
@@ -93,24 +93,24 @@ abbrev pub for_mid : List ℕ → List ℕ
 for_mid mid = codes " for mid: " ++ mid
 
 -- a section without a name of its own, by its media type and its protocol
-abbrev pub nameless : MediaLine → List ℕ
-nameless m = media_type_text m.typ ++ (codes " " ++ proto_text m.proto)
+abbrev pub nameless_section : MediaLine → List ℕ
+nameless_section m = media_type_text m.typ ++ (codes " " ++ proto_text m.proto)
 
-abbrev pub clash_text : Clash → List ℕ
-clash_text c =
+abbrev pub fault_clash_text : Clash → List ℕ
+fault_clash_text c =
     codes "PT " ++ (decimal c.pt ++ (codes " has conflicting apt values " ++ (decimal c.first
     ++ (codes " and " ++ (decimal c.other ++ for_mid c.mid)))))
 
 abbrev pub fault_text : MediaLine → Fault → List ℕ
-fault_text m MissingMid = codes "Media is missing a=mid: " ++ nameless m
-fault_text m SecondMid = codes "Media has more than one a=mid: " ++ nameless m
+fault_text m MissingMid = codes "Media is missing a=mid: " ++ nameless_section m
+fault_text m SecondMid = codes "Media has more than one a=mid: " ++ nameless_section m
 fault_text m (SecondSetup mid) = codes "Expected 0 or 1 a=setup: line" ++ for_mid mid
 fault_text m (Directions mid) =
     codes "Expected exactly one of a=sendrecv, a=sendonly, a=recvonly, a=inactive" ++ for_mid mid
 fault_text m (MissingType mid) = codes "Expected at least one PT" ++ for_mid mid
 fault_text m (MissingMap mid pt) = codes "Missing a=rtp_map:" ++ (decimal pt ++ for_mid mid)
 fault_text m (SecondMap mid pt) = codes "More than one a=rtp_map:" ++ (decimal pt ++ for_mid mid)
-fault_text m (Apts c) = clash_text c
+fault_text m (Apts c) = fault_clash_text c
 
 -- the message of a section that isn't consistent
 abbrev pub section_message : MediaLine → Option (List ℕ)

@@ -14,7 +14,7 @@ abbrev pub seen : SeenCandidates → List Candidate
 seen candidates = map (λ c. c.now) candidates.once.items
 
 -- a key is there exactly where an equal candidate was seen
-abbrev pub AreByKey : SeenCandidates → Type 0
-AreByKey candidates =
+abbrev pub AreCandidatesByKey : SeenCandidates → Type 0
+AreCandidatesByKey candidates =
     (candidate : Candidate) (key : CandidateKey) → IsKeyOf candidate key
     → contains order.cmp-value.it candidates.keys key ≡ list_any (same_candidate candidate) (seen candidates)

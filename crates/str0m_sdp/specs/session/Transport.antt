@@ -69,8 +69,8 @@ creds (Some ufrag) None = None
 creds (Some ufrag) (Some pass) = Some (record { ufrag = ufrag; pass = pass })
 
 -- credentials that are lent
-abbrev pub lent_creds : Bor (List ℕ) × Bor (List ℕ) → IceCreds
-lent_creds lent = record { ufrag = lent.0.now; pass = lent.1.now }
+abbrev pub lent_transport_creds : Bor (List ℕ) × Bor (List ℕ) → IceCreds
+lent_transport_creds lent = record { ufrag = lent.0.now; pass = lent.1.now }
 
 -- those of the first fragment and the first password
 abbrev pub session_creds : List SessionAttribute → Option IceCreds

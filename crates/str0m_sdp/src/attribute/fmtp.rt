@@ -2,7 +2,7 @@
 ghost use Rattle.std.specs.List.{join_by};
 ghost use Rattle.std.specs.Prelude.{◌≡◌, ◌∷◌, ◌++◌, [], Some, MatchOption, codes, filter, refl, flat_map};
 ghost use Rattle.str0m_sdp.specs.Prelude.{param_text};
-ghost use Rattle.str0m_sdp.specs.attribute.Fmtp.{is_shown, fmtp_text};
+ghost use Rattle.str0m_sdp.specs.attribute.Fmtp.{is_fmtp_shown, fmtp_text};
 
 use crate::form::printed::{Labelled, Pair, Printed};
 use crate::label;
@@ -18,21 +18,21 @@ pub(crate) struct FmtpLine<'a> {
     pub(crate) values: &'a [FormatParam],
 }
 
-pub(crate) fn is_shown(value: FormatParam) -> bool
-    ensures { result ≡ is_shown value }
+pub(crate) fn is_fmtp_shown(value: FormatParam) -> bool
+    ensures { result ≡ is_fmtp_shown value }
 {
     !matches!(value, FormatParam::Unknown | FormatParam::AmrWbUnsupported)
 }
 
 /// The first value that is shown, and those after it.
-pub(crate) fn first_shown(values: &[FormatParam]) -> Option<(FormatParam, &[FormatParam])>
+pub(crate) fn first_fmtp_shown(values: &[FormatParam]) -> Option<(FormatParam, &[FormatParam])>
     ensures { MatchOption result
-        (filter is_shown values.now ≡ [])
-        (λ found. filter is_shown values.now ≡ found.0 ∷ filter is_shown found.1.now) }
+        (filter is_fmtp_shown values.now ≡ [])
+        (λ found. filter is_fmtp_shown values.now ≡ found.0 ∷ filter is_fmtp_shown found.1.now) }
 {
     let mut left = values;
     while let Some((first, more)) = left.split_first() {
-        if is_shown(*first) {
+        if is_fmtp_shown(*first) {
             return Some((*first, more));
         }
         left = more;
@@ -44,7 +44,7 @@ impl<'a> fmt::Display for FmtpLine<'a> {
     ghost output = { λ line. Some (fmtp_text line.pt line.values.now) };
 
     fn fmt<W: fmt::Write>(&self, f: &mut fmt::Formatter<W>) -> fmt::Result {
-        let Some((first, more)) = first_shown(self.values) else {
+        let Some((first, more)) = first_fmtp_shown(self.values) else {
             return Ok(());
         };
         let shown = Shown { first, more };
@@ -62,7 +62,7 @@ struct Shown<'a> {
 }
 
 impl<'a> fmt::Display for Shown<'a> {
-    ghost output = { λ shown. Some (join_by param_text (codes ";") (shown.first ∷ filter is_shown shown.more.now)) };
+    ghost output = { λ shown. Some (join_by param_text (codes ";") (shown.first ∷ filter is_fmtp_shown shown.more.now)) };
 
     fn fmt<W: fmt::Write>(&self, f: &mut fmt::Formatter<W>) -> fmt::Result {
         self.first.fmt(f)?;
@@ -71,7 +71,7 @@ impl<'a> fmt::Display for Shown<'a> {
 }
 
 impl<'a> Printed for Shown<'a> {
-    ghost text = { λ shown. join_by param_text (codes ";") (shown.first ∷ filter is_shown shown.more.now) };
+    ghost text = { λ shown. join_by param_text (codes ";") (shown.first ∷ filter is_fmtp_shown shown.more.now) };
 
     ghost prints = { λ _. refl };
 }
@@ -81,11 +81,11 @@ impl<'a> Printed for Shown<'a> {
 struct MoreShown<'a>(&'a [FormatParam]);
 
 impl<'a> fmt::Display for MoreShown<'a> {
-    ghost output = { λ more. Some (flat_map (λ value. codes ";" ++ param_text value) (filter is_shown more.0.now)) };
+    ghost output = { λ more. Some (flat_map (λ value. codes ";" ++ param_text value) (filter is_fmtp_shown more.0.now)) };
 
     fn fmt<W: fmt::Write>(&self, f: &mut fmt::Formatter<W>) -> fmt::Result {
         for value in self.0 {
-            if is_shown(*value) {
+            if is_fmtp_shown(*value) {
                 f.write_str(";")?;
                 value.fmt(f)?;
             }

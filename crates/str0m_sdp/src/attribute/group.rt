@@ -2,7 +2,7 @@
 ghost use Rattle.std.specs.Prelude.{Some};
 ghost use Rattle.str0m_sdp.specs.attribute.Group.{group_text, msid_semantic_text};
 
-use crate::form::printed::{Led, Paired, spaced};
+use crate::form::printed::{Led, Paired, printed_spaced};
 use crate::label;
 use std::fmt;
 use str0m_values::{Items, Mid, Text};
@@ -38,7 +38,7 @@ impl<'a> fmt::Display for MsidSemanticLine<'a> {
     ghost output = { λ line. Some (msid_semantic_text line.semantic.now line.ids.now) };
 
     fn fmt<W: fmt::Write>(&self, f: &mut fmt::Formatter<W>) -> fmt::Result {
-        let ids = spaced(self.ids.as_slice());
+        let ids = printed_spaced(self.ids.as_slice());
         Paired("msid-semantic: ", self.semantic, &ids).fmt(f)
     }
 }

@@ -1,7 +1,7 @@
 //! The lines of streams that may be restricted.
 ghost use Rattle.std.specs.List.{join_by};
 ghost use Rattle.std.specs.Prelude.{Some, codes};
-ghost use Rattle.str0m_sdp.specs.attribute.Rid.{restriction_text, rid_text, pts_part, restrictions_part};
+ghost use Rattle.str0m_sdp.specs.attribute.Rid.{restriction_text, rid_text, rid_pts_part, restrictions_part};
 
 use crate::attribute::simulcast::RestrictionId;
 use crate::form::printed::Joined;
@@ -43,7 +43,7 @@ impl<'a> fmt::Display for RidLine<'a> {
 struct PtsPart<'a>(&'a [Pt]);
 
 impl<'a> fmt::Display for PtsPart<'a> {
-    ghost output = { λ part. Some (pts_part part.0.now) };
+    ghost output = { λ part. Some (rid_pts_part part.0.now) };
 
     fn fmt<W: fmt::Write>(&self, f: &mut fmt::Formatter<W>) -> fmt::Result {
         let items = self.0;

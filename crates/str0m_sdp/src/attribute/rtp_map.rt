@@ -1,6 +1,6 @@
 //! What a payload type stands for.
 ghost use Rattle.std.specs.Prelude.{◌≡◌, Some, refl};
-ghost use Rattle.str0m_sdp.specs.attribute.RtpMap.{rtp_map_text, channels_text, sampling_rate, channels_of, spec_of_map, map_of_spec};
+ghost use Rattle.str0m_sdp.specs.attribute.RtpMap.{rtp_map_text, rtp_map_channels_text, sampling_rate, rtp_map_channels_of, spec_of_map, map_of_spec};
 
 use crate::form::printed::Printed;
 use std::fmt;
@@ -42,7 +42,7 @@ impl Printed for RtpMap {
 struct Channels(Option<u8>);
 
 impl fmt::Display for Channels {
-    ghost output = { λ channels. Some (channels_text channels.0) };
+    ghost output = { λ channels. Some (rtp_map_channels_text channels.0) };
 
     fn fmt<W: fmt::Write>(&self, f: &mut fmt::Formatter<W>) -> fmt::Result {
         match self.0 {
@@ -67,8 +67,8 @@ fn sampling_rate(codec: Codec, clock_rate: Frequency) -> Frequency
 }
 
 /// The channels of the codec, without a count that says no more than none does.
-fn channels_of(codec: Codec, channels: Option<u8>) -> Option<u8>
-    ensures { result ≡ channels_of codec channels }
+fn rtp_map_channels_of(codec: Codec, channels: Option<u8>) -> Option<u8>
+    ensures { result ≡ rtp_map_channels_of codec channels }
 {
     match (codec, channels) {
         (Codec::G722, Some(1)) => None,
@@ -87,7 +87,7 @@ impl From<RtpMap> for CodecSpec {
         CodecSpec {
             codec: map.codec,
             clock_rate: sampling_rate(map.codec, map.clock_rate),
-            channels: channels_of(map.codec, map.channels),
+            channels: rtp_map_channels_of(map.codec, map.channels),
             format: FormatParams::default(),
         }
     }

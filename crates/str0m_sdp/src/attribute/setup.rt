@@ -1,6 +1,6 @@
 //! Who begins the DTLS handshake.
 ghost use Rattle.std.specs.Prelude.{◌≡◌, ◌≢◌, Some, None, MatchOption, refl};
-ghost use Rattle.str0m_sdp.specs.attribute.Setup.{AnswersRole, setup_text, inverse, settled};
+ghost use Rattle.str0m_sdp.specs.attribute.Setup.{AnswersSetupRole, setup_text, inverse_setup, settled_setup};
 ghost use Rattle.str0m_sdp.specs.declared.attribute.setup.Setup.TheVariants.{ActPass};
 
 use crate::form::printed::Printed;
@@ -46,7 +46,7 @@ impl Setup {
     /// 4.1): it is active or passive, and both sides settle on it. Where the offer leaves the choice, by
     /// `actpass` or by saying nothing, the answer is active (RFC 8829, section 5.3.1).
     pub fn answer(offered: Option<Setup>) -> Setup
-        ensures { AnswersRole offered result }
+        ensures { AnswersSetupRole offered result }
     {
         match offered {
             None | Some(Setup::ActPass | Setup::Passive) => Setup::Active,
@@ -57,10 +57,10 @@ impl Setup {
     /// The role of the other side: who begins on one side waits on the other. A side that offers
     /// both offers both.
     pub fn invert(&self) -> Setup
-        ensures inverse { result ≡ inverse self.now }
+        ensures inverse { result ≡ inverse_setup self.now }
 
         // The other side of the other side is this one.
-        ensures twice { inverse result ≡ self.now }
+        ensures twice { inverse_setup result ≡ self.now }
     {
         match self {
             Setup::ActPass => Setup::ActPass,
@@ -75,12 +75,12 @@ impl Setup {
     /// A side that offers both takes the inverse of what the other offers; one that offers a single
     /// role keeps it.
     pub fn compare_to_remote(&self, remote: Setup) -> Option<Setup>
-        ensures settled { result ≡ settled self.now remote }
+        ensures settled { result ≡ settled_setup self.now remote }
 
         // The other side settles on the inverse role, and on none where this one does.
         ensures agreed { MatchOption result
-            (settled remote self.now ≡ None)
-            (λ role. (role ≢ ActPass) × (settled remote self.now ≡ Some (inverse role))) }
+            (settled_setup remote self.now ≡ None)
+            (λ role. (role ≢ ActPass) × (settled_setup remote self.now ≡ Some (inverse_setup role))) }
     {
         match (*self, remote) {
             (Setup::ActPass, Setup::Active) => Some(Setup::Passive),

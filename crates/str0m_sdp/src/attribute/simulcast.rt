@@ -1,6 +1,6 @@
 //! Streams that are sent and received in several layers.
 ghost use Rattle.std.specs.Prelude.{◌≡◌, IfOk, Some, [], true, refl, string_bytes};
-ghost use Rattle.str0m_sdp.specs.attribute.Simulcast.{id_text, inverted, layer_text, layers_text, sides_text, simulcast_text};
+ghost use Rattle.str0m_sdp.specs.attribute.Simulcast.{simulcast_id_text, inverted_simulcast, layer_text, layers_text, simulcast_sides_text, simulcast_text};
 
 use crate::form::printed::{Joined, Labelled, Printed};
 use std::alloc::{AllocError, Global};
@@ -38,7 +38,7 @@ impl RestrictionId {
     /// The name as simulcast lines show it: after `~` where the stream isn't active (RFC 8853,
     /// section 5.1). The only error is that memory was refused.
     pub fn to_sdp(&self, alloc: Global) -> Result<String, AllocError>
-        ensures { IfOk result (λ text. string_bytes text ≡ id_text self.now) }
+        ensures { IfOk result (λ text. string_bytes text ≡ simulcast_id_text self.now) }
     {
         self.to_string(alloc)
     }
@@ -53,7 +53,7 @@ impl RestrictionId {
 
 /// The text of `to_sdp`.
 impl fmt::Display for RestrictionId {
-    ghost output = { λ id. Some (id_text id) };
+    ghost output = { λ id. Some (simulcast_id_text id) };
 
     fn fmt<W: fmt::Write>(&self, f: &mut fmt::Formatter<W>) -> fmt::Result {
         let name = self.0.as_str();
@@ -157,10 +157,10 @@ pub struct Simulcast {
 impl Simulcast {
     /// What the other side calls it: what is sent here is received there.
     pub fn invert(self) -> Simulcast
-        ensures inverted { result ≡ inverted self }
+        ensures inverted { result ≡ inverted_simulcast self }
 
         // The other side of the other side is this one.
-        ensures twice { inverted result ≡ self }
+        ensures twice { inverted_simulcast result ≡ self }
     {
         Simulcast {
             send: self.recv,
@@ -203,7 +203,7 @@ struct Sides<'a> {
 }
 
 impl<'a> fmt::Display for Sides<'a> {
-    ghost output = { λ sides. Some (sides_text sides.send.now.0 sides.recv.now.0) };
+    ghost output = { λ sides. Some (simulcast_sides_text sides.send.now.0 sides.recv.now.0) };
 
     fn fmt<W: fmt::Write>(&self, f: &mut fmt::Formatter<W>) -> fmt::Result {
         let (send, recv) = (self.send, self.recv);

@@ -2,7 +2,7 @@
 ghost use Rattle.std.specs.Prelude.{Some};
 ghost use Rattle.str0m_sdp.specs.attribute.SsrcGroup.{ssrc_group_text};
 
-use crate::form::printed::{Paired, spaced};
+use crate::form::printed::{Paired, printed_spaced};
 use crate::label;
 use std::fmt;
 use str0m_values::{Ssrc, Text};
@@ -21,7 +21,7 @@ impl<'a> fmt::Display for SsrcGroupLine<'a> {
         if self.ssrcs.is_empty() {
             return Ok(());
         }
-        let sources = spaced(self.ssrcs);
+        let sources = printed_spaced(self.ssrcs);
         Paired(label::SSRC_GROUP, self.semantics, &sources).fmt(f)
     }
 }

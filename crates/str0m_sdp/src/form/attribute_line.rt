@@ -1,6 +1,6 @@
 //! The lines of attributes, by the kinds of what they are made of.
 ghost use Rattle.std.specs.Prelude.{Some};
-ghost use Rattle.str0m_sdp.specs.form.AttributeLine.{line_text};
+ghost use Rattle.str0m_sdp.specs.form.AttributeLine.{form_line_text};
 
 use crate::attribute::setup::Setup;
 use crate::form::numbered_line::NumberedLine;
@@ -27,7 +27,7 @@ pub(crate) enum Line<'a> {
 
 /// The `a=` line, with its end; nothing for what has no line.
 impl<'a> fmt::Display for Line<'a> {
-    ghost output = { λ line. Some (line_text line) };
+    ghost output = { λ line. Some (form_line_text line) };
 
     // Inlined where the kind of the line is known, so that it is asked for once: a text prints in a tenth less.
     #[inline(always)]

@@ -1,6 +1,6 @@
 //! Lines that say something of a number: a payload type or a source.
 ghost use Rattle.std.specs.Prelude.{◌++◌, Some, codes, refl};
-ghost use Rattle.str0m_sdp.specs.form.AttributeLine.{numbered_text};
+ghost use Rattle.str0m_sdp.specs.form.AttributeLine.{numbered_line_text};
 
 use crate::attribute::rtp_map::RtpMap;
 use crate::form::printed::{Paired, Printed};
@@ -18,7 +18,7 @@ pub(crate) enum NumberedLine<'a> {
 
 /// The `a=` line, with its end.
 impl<'a> fmt::Display for NumberedLine<'a> {
-    ghost output = { λ line. Some (numbered_text line) };
+    ghost output = { λ line. Some (numbered_line_text line) };
 
     #[inline(always)]
     fn fmt<W: fmt::Write>(&self, f: &mut fmt::Formatter<W>) -> fmt::Result {

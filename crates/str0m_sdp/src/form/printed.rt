@@ -99,7 +99,7 @@ pub(crate) struct Joined<'a, T> {
 }
 
 /// Items with a space between each two.
-pub(crate) fn spaced<T>(items: &[T]) -> Joined<T>
+pub(crate) fn printed_spaced<T>(items: &[T]) -> Joined<T>
     ensures items { result.items.now ≡ items.now }
     ensures separator { result.separator.now ≡ codes " " }
 {

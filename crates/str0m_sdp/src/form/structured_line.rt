@@ -1,6 +1,6 @@
 //! Lines of several parts, each with a form of its own.
 ghost use Rattle.std.specs.Prelude.{Some};
-ghost use Rattle.str0m_sdp.specs.form.AttributeLine.{structured_text};
+ghost use Rattle.str0m_sdp.specs.form.AttributeLine.{structured_line_text};
 
 use crate::attribute::ext_map::ExtMapLine;
 use crate::attribute::fmtp::FmtpLine;
@@ -27,7 +27,7 @@ pub(crate) enum StructuredLine<'a> {
 
 /// The `a=` line, with its end; nothing for what has no line.
 impl<'a> fmt::Display for StructuredLine<'a> {
-    ghost output = { λ line. Some (structured_text line) };
+    ghost output = { λ line. Some (structured_line_text line) };
 
     #[inline(always)]
     fn fmt<W: fmt::Write>(&self, f: &mut fmt::Formatter<W>) -> fmt::Result {

@@ -1,17 +1,17 @@
 //! Attributes that say the same once they are printed and read.
 
 ghost use Rattle.std.specs.Prelude.{◌≡◌, ◌∷◌, ◌↔◌, [], IsTrue, MatchOption};
-ghost use Rattle.str0m_sdp.specs.section.Alike.{Alike, AlikeLayers, as_read, ids, showing};
+ghost use Rattle.str0m_sdp.specs.section.Alike.{Alike, AlikeLayers, alike_as_read, layer_ids, alike_shown};
 
 use crate::attribute::MediaAttribute;
-use crate::attribute::fmtp::{first_shown, is_shown};
+use crate::attribute::fmtp::{first_fmtp_shown, is_fmtp_shown};
 use crate::attribute::simulcast::{Simulcast, SimulcastLayer};
 use str0m_formats::FormatParam;
 
 /// What a parameter is read as once it is printed: a range of events, and a list of types, however
 /// it came about.
-fn as_read(param: FormatParam) -> FormatParam
-    ensures { result ≡ as_read param }
+fn alike_as_read(param: FormatParam) -> FormatParam
+    ensures { result ≡ alike_as_read param }
 {
     match param {
         FormatParam::TelephoneEvents(last) => FormatParam::BareRange(last),
@@ -21,59 +21,59 @@ fn as_read(param: FormatParam) -> FormatParam
 }
 
 /// The first value that is shown, as it is read, and those after it.
-fn next_shown(values: &[FormatParam]) -> Option<(FormatParam, &[FormatParam])>
+fn next_alike_shown(values: &[FormatParam]) -> Option<(FormatParam, &[FormatParam])>
     ensures { MatchOption result
-        (showing values.now ≡ [])
-        (λ found. showing values.now ≡ found.0 ∷ showing found.1.now) }
+        (alike_shown values.now ≡ [])
+        (λ found. alike_shown values.now ≡ found.0 ∷ alike_shown found.1.now) }
 {
-    match first_shown(values) {
-        Some((value, more)) => Some((as_read(value), more)),
+    match first_fmtp_shown(values) {
+        Some((value, more)) => Some((alike_as_read(value), more)),
         None => None,
     }
 }
 
 #[tactic(auto, using(str0m_formats::proofs::param_Decides))]
-fn is_same(param: FormatParam, other: FormatParam) -> bool
+fn is_alike_param(param: FormatParam, other: FormatParam) -> bool
     ensures { IsTrue result ↔ (param ≡ other) }
 {
     param == other
 }
 
 /// Whether the same values are shown, in the same order.
-fn are_same_shown(values: &[FormatParam], others: &[FormatParam]) -> bool
-    ensures { IsTrue result ↔ (showing values.now ≡ showing others.now) }
+fn are_alike_shown(values: &[FormatParam], others: &[FormatParam]) -> bool
+    ensures { IsTrue result ↔ (alike_shown values.now ≡ alike_shown others.now) }
 {
     let mut left = others;
     for value in values {
-        if is_shown(*value) {
-            let Some((other, more)) = next_shown(left) else {
+        if is_fmtp_shown(*value) {
+            let Some((other, more)) = next_alike_shown(left) else {
                 return false;
             };
-            if !is_same(other, as_read(*value)) {
+            if !is_alike_param(other, alike_as_read(*value)) {
                 return false;
             }
             left = more;
         }
     }
-    next_shown(left).is_none()
+    next_alike_shown(left).is_none()
 }
 
-#[tactic(auto, using(crate::proofs::attribute::AttributeEqual::id_Decides))]
-fn has_same_name(layer: &SimulcastLayer, other: &SimulcastLayer) -> bool
+#[tactic(auto, using(crate::proofs::attribute::AttributeEqual::restriction_id_Decides))]
+fn has_alike_name(layer: &SimulcastLayer, other: &SimulcastLayer) -> bool
     ensures { IsTrue result ↔ (layer.now.restriction_id ≡ other.now.restriction_id) }
 {
     layer.restriction_id == other.restriction_id
 }
 
 /// Whether the layers have the same names, in the same order.
-fn have_same_names(layers: &[SimulcastLayer], others: &[SimulcastLayer]) -> bool
-    ensures { IsTrue result ↔ (ids layers.now ≡ ids others.now) }
+fn have_alike_names(layers: &[SimulcastLayer], others: &[SimulcastLayer]) -> bool
+    ensures { IsTrue result ↔ (layer_ids layers.now ≡ layer_ids others.now) }
 {
     if layers.len() != others.len() {
         return false;
     }
     for (i, layer) in layers.iter().enumerate() {
-        if !has_same_name(layer, &others[i]) {
+        if !has_alike_name(layer, &others[i]) {
             return false;
         }
     }
@@ -86,8 +86,8 @@ fn are_alike_layers(simulcast: &Simulcast, other: &Simulcast) -> bool
 {
     !simulcast.is_munged
         && !other.is_munged
-        && have_same_names(simulcast.send.0.as_slice(), other.send.0.as_slice())
-        && have_same_names(simulcast.recv.0.as_slice(), other.recv.0.as_slice())
+        && have_alike_names(simulcast.send.0.as_slice(), other.send.0.as_slice())
+        && have_alike_names(simulcast.recv.0.as_slice(), other.recv.0.as_slice())
 }
 
 #[tactic(auto, using(crate::proofs::attribute::AttributeEqual::simulcast_Decides))]
@@ -117,7 +117,7 @@ impl MediaAttribute {
                     pt: other_pt,
                     values: others,
                 },
-            ) => pt == other_pt && are_same_shown(values.as_slice(), others.as_slice()),
+            ) => pt == other_pt && are_alike_shown(values.as_slice(), others.as_slice()),
             (MediaAttribute::Simulcast(simulcast), MediaAttribute::Simulcast(other)) => {
                 is_same_simulcast(simulcast, other) || are_alike_layers(simulcast, other)
             }

@@ -2,7 +2,7 @@
 ghost use Rattle.std.specs.Prelude.{◌≡◌, option_copied, option_map};
 ghost use Rattle.str0m_sdp.specs.section.Consistency.{is_direction, is_mid, is_setup, mid_of};
 ghost use Rattle.str0m_sdp.specs.section.MadeSection.{is_of_type};
-ghost use Rattle.str0m_sdp.specs.section.SectionAccessors.{ext_map_at, ext_map_of, max_message_size_of, msid_of, rid_name_of, sctp_init_of, simulcast_of};
+ghost use Rattle.str0m_sdp.specs.section.SectionAccessors.{ext_map_at, ext_map_of, section_max_message_size_of, msid_of, rid_name_of, sctp_init_of, simulcast_of};
 ghost use Rattle.str0m_sdp.specs.section.SectionDirection.{direction_of};
 ghost use Rattle.str0m_sdp.specs.section.SsrcInfo.{repair_pair};
 
@@ -91,7 +91,7 @@ impl MediaAttribute {
     }
 
     pub(crate) fn as_max_message_size(&self) -> Option<u64>
-        ensures { result ≡ max_message_size_of self.now }
+        ensures { result ≡ section_max_message_size_of self.now }
     {
         match self {
             MediaAttribute::MaxMessageSize(size) => Some(*size),

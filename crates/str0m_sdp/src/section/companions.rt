@@ -1,9 +1,9 @@
 //! The payload types that go with another type, by type.
 ghost use Rattle.std.specs.List.{list_any};
 ghost use Rattle.std.specs.Prelude.{◌≡◌, ◌<◌, ◌&&◌, ℕ, false, Some, None, get_or, length, if◌then◌else◌};
-ghost use Rattle.str0m_sdp.specs.section.Companions.{listed_type, named_by, names};
+ghost use Rattle.str0m_sdp.specs.section.Companions.{listed_type, companion_named_by, names_type};
 
-use crate::section::type_tables::{TYPES, apt_of, place};
+use crate::section::type_tables::{TYPES, place, section_apt_of};
 use str0m_formats::{Codec, FormatParam};
 use str0m_values::Pt;
 
@@ -18,24 +18,29 @@ fn listed_type(value: FormatParam) -> Option<Pt>
 }
 
 /// The type that a value names in an fmtp line of the codec.
-fn named_by(codec: Codec, value: FormatParam) -> Option<Pt>
-    ensures { result ≡ named_by codec value }
+fn companion_named_by(codec: Codec, value: FormatParam) -> Option<Pt>
+    ensures { result ≡ companion_named_by codec value }
 {
     match codec {
-        Codec::Rtx => apt_of(value),
+        Codec::Rtx => section_apt_of(value),
         Codec::Red => listed_type(value),
         _ => None,
     }
 }
 
 /// Notes the type for each type that the values of its fmtp line name.
-fn note(companions: &mut [Option<Pt>; TYPES], codec: Codec, pt: Pt, values: &[FormatParam])
+fn note_companions(
+    companions: &mut [Option<Pt>; TYPES],
+    codec: Codec,
+    pt: Pt,
+    values: &[FormatParam],
+)
     ensures rows { (n : ℕ) → n < length companions.old →
-        get_or companions.new n None ≡ (if list_any (names codec n) values.now then Some pt else get_or companions.old n None) }
+        get_or companions.new n None ≡ (if list_any (names_type codec n) values.now then Some pt else get_or companions.old n None) }
     ensures whole { length companions.new ≡ length companions.old }
 {
     for value in values {
-        if let Some(named) = named_by(codec, *value) {
+        if let Some(named) = companion_named_by(codec, *value) {
             companions[place(named)] = Some(pt);
         }
     }
@@ -43,7 +48,7 @@ fn note(companions: &mut [Option<Pt>; TYPES], codec: Codec, pt: Pt, values: &[Fo
 
 /// Notes the type for each type that its fmtp line names, where it is one of the codec's, which is RTX (RFC 4588, section 8.1)
 /// or RED (RFC 2198, section 5).
-pub(crate) fn note_line(
+pub(crate) fn note_companion_line(
     companions: &mut [Option<Pt>; TYPES],
     codec: Codec,
     of_codec: &[bool; TYPES],
@@ -51,10 +56,10 @@ pub(crate) fn note_line(
     values: &[FormatParam],
 )
     ensures rows { (n : ℕ) → n < length companions.old → get_or companions.new n None
-        ≡ (if get_or of_codec.now pt false && list_any (names codec n) values.now then Some pt else get_or companions.old n None) }
+        ≡ (if get_or of_codec.now pt false && list_any (names_type codec n) values.now then Some pt else get_or companions.old n None) }
     ensures whole { length companions.new ≡ length companions.old }
 {
     if of_codec[place(pt)] {
-        note(companions, codec, pt, values);
+        note_companions(companions, codec, pt, values);
     }
 }

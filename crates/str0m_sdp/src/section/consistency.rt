@@ -2,13 +2,13 @@
 ghost use Rattle.std.specs.Prelude.{◌≡◌, ◌<◌, ◌↔◌, IsSome, Some, count_by, filter_map};
 ghost use Rattle.str0m_sdp.specs.Common.{first};
 ghost use Rattle.str0m_sdp.specs.section.Consistency.{is_mid, mid_of, is_setup, is_direction};
-ghost use Rattle.str0m_sdp.specs.session.Fault.{err_if, only_mid, setup_fault, proto_fault, mapping_fault, map_fault, value_fault, values_fault, apt_fault, first_fault};
+ghost use Rattle.str0m_sdp.specs.session.Fault.{err_if_fault, only_mid, setup_fault, proto_fault, mapping_fault, map_fault, value_fault, values_fault, apt_fault, first_fault};
 
 use crate::attribute::MediaAttribute;
 use crate::attribute::proto::Proto;
 use crate::section::mappings::static_spec;
 use crate::section::media_line::MediaLine;
-use crate::section::type_tables::{apt_of, count_maps, first_apts, place};
+use crate::section::type_tables::{count_maps, first_section_apts, place, section_apt_of};
 use crate::session::fault::{Clash, Fault};
 use str0m_formats::FormatParam;
 use str0m_values::{Mid, Pt};
@@ -53,7 +53,7 @@ fn only_mid(attrs: &[MediaAttribute]) -> Result<Mid, Fault>
 }
 
 fn check_setups(attrs: &[MediaAttribute], mid: Mid) -> Result<(), Fault>
-    ensures { result ≡ err_if (setup_fault attrs.now mid) }
+    ensures { result ≡ err_if_fault (setup_fault attrs.now mid) }
 {
     if count_setups(attrs) > 1 {
         return Err(Fault::SecondSetup(mid));
@@ -62,7 +62,7 @@ fn check_setups(attrs: &[MediaAttribute], mid: Mid) -> Result<(), Fault>
 }
 
 fn check_proto(m: &MediaLine, mid: Mid) -> Result<(), Fault>
-    ensures { result ≡ err_if (proto_fault m.now mid m.now.proto) }
+    ensures { result ≡ err_if_fault (proto_fault m.now mid m.now.proto) }
 {
     match m.proto {
         Proto::Sctp => Ok(()),
@@ -80,7 +80,7 @@ fn check_proto(m: &MediaLine, mid: Mid) -> Result<(), Fault>
 
 /// Of a payload type that has this many mappings.
 fn check_map(count: usize, pt: Pt, mid: Mid) -> Result<(), Fault>
-    ensures { result ≡ err_if (mapping_fault count mid pt) }
+    ensures { result ≡ err_if_fault (mapping_fault count mid pt) }
 {
     match count {
         0 => if static_spec(pt).is_some() {
@@ -94,7 +94,7 @@ fn check_map(count: usize, pt: Pt, mid: Mid) -> Result<(), Fault>
 }
 
 fn check_maps(attrs: &[MediaAttribute], pts: &[Pt], mid: Mid) -> Result<(), Fault>
-    ensures { result ≡ err_if (first (filter_map (map_fault attrs.now mid) pts.now)) }
+    ensures { result ≡ err_if_fault (first (filter_map (map_fault attrs.now mid) pts.now)) }
 {
     // A section without types, as each of data channels, needs no table.
     if pts.is_empty() {
@@ -109,10 +109,10 @@ fn check_maps(attrs: &[MediaAttribute], pts: &[Pt], mid: Mid) -> Result<(), Faul
     Ok(())
 }
 
-fn check_value(value: FormatParam, first: Pt, pt: Pt, mid: Mid) -> Result<(), Fault>
-    ensures { result ≡ err_if (value_fault mid pt first value) }
+fn check_section_value(value: FormatParam, first: Pt, pt: Pt, mid: Mid) -> Result<(), Fault>
+    ensures { result ≡ err_if_fault (value_fault mid pt first value) }
 {
-    let Some(other) = apt_of(value) else {
+    let Some(other) = section_apt_of(value) else {
         return Ok(());
     };
     if other == first {
@@ -126,35 +126,40 @@ fn check_value(value: FormatParam, first: Pt, pt: Pt, mid: Mid) -> Result<(), Fa
     }))
 }
 
-fn check_values(values: &[FormatParam], first: Pt, pt: Pt, mid: Mid) -> Result<(), Fault>
-    ensures { result ≡ err_if (values_fault mid pt values.now (Some first)) }
+fn check_section_values(values: &[FormatParam], first: Pt, pt: Pt, mid: Mid) -> Result<(), Fault>
+    ensures { result ≡ err_if_fault (values_fault mid pt values.now (Some first)) }
 {
     let mut left = values;
     while let Some((value, more)) = left.split_first() {
-        check_value(*value, first, pt, mid)?;
+        check_section_value(*value, first, pt, mid)?;
         left = more;
     }
     Ok(())
 }
 
 /// Of an fmtp line, where this is the first primary type that is named for its payload type.
-fn check_apt(first: Option<Pt>, values: &[FormatParam], pt: Pt, mid: Mid) -> Result<(), Fault>
-    ensures { result ≡ err_if (values_fault mid pt values.now first) }
+fn check_section_apt(
+    first: Option<Pt>,
+    values: &[FormatParam],
+    pt: Pt,
+    mid: Mid,
+) -> Result<(), Fault>
+    ensures { result ≡ err_if_fault (values_fault mid pt values.now first) }
 {
     match first {
-        Some(first) => check_values(values, first, pt, mid),
+        Some(first) => check_section_values(values, first, pt, mid),
         None => Ok(()),
     }
 }
 
-fn check_apts(attrs: &[MediaAttribute], mid: Mid) -> Result<(), Fault>
-    ensures { result ≡ err_if (first (filter_map (apt_fault attrs.now mid) attrs.now)) }
+fn check_section_apts(attrs: &[MediaAttribute], mid: Mid) -> Result<(), Fault>
+    ensures { result ≡ err_if_fault (first (filter_map (apt_fault attrs.now mid) attrs.now)) }
 {
-    let firsts = first_apts(attrs);
+    let firsts = first_section_apts(attrs);
     let mut left = attrs;
     while let Some((attr, more)) = left.split_first() {
         if let MediaAttribute::Fmtp { pt, values } = attr {
-            check_apt(firsts[place(*pt)], values.as_slice(), *pt, mid)?;
+            check_section_apt(firsts[place(*pt)], values.as_slice(), *pt, mid)?;
         }
         left = more;
     }
@@ -162,13 +167,13 @@ fn check_apts(attrs: &[MediaAttribute], mid: Mid) -> Result<(), Fault>
 }
 
 /// The first fault of a section, as the error.
-pub(crate) fn check(m: &MediaLine) -> Result<(), Fault>
-    ensures { result ≡ err_if (first_fault m.now) }
+pub(crate) fn check_section(m: &MediaLine) -> Result<(), Fault>
+    ensures { result ≡ err_if_fault (first_fault m.now) }
 {
     let attrs = m.attrs.as_slice();
     let mid = only_mid(attrs)?;
     check_setups(attrs, mid)?;
     check_proto(m, mid)?;
     check_maps(attrs, m.pts.as_slice(), mid)?;
-    check_apts(attrs, mid)
+    check_section_apts(attrs, mid)
 }

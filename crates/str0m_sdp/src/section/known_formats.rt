@@ -2,11 +2,11 @@
 ghost use Rattle.std.specs.Prelude.{◌≡◌, ℕ, IfOk, List};
 ghost use Rattle.str0m_sdp.specs.Prelude.{format_of_fmtp, line_values};
 ghost use Rattle.str0m_sdp.specs.declared.attribute.MediaAttribute.{MediaAttribute};
-ghost use Rattle.str0m_sdp.specs.section.FmtpLines.{lines_with};
+ghost use Rattle.str0m_sdp.specs.section.FmtpLines.{fmtp_lines_with};
 ghost use Rattle.str0m_sdp.specs.section.SectionRows.{fmtps_of};
-ghost use Rattle.str0m_sdp.specs.section.TypeLines.{AreKnown};
+ghost use Rattle.str0m_sdp.specs.section.TypeLines.{AreGroupsKnown};
 
-use crate::section::fmtp_lines::find_lines;
+use crate::section::fmtp_lines::find_fmtp_lines;
 use crate::section::type_lines::{TypeLines, grouped};
 use crate::section::type_tables::place;
 use std::alloc::{AllocError, Global};
@@ -14,12 +14,12 @@ use str0m_formats::{Codec, FormatParam, FormatParams};
 use str0m_values::Pt;
 
 /// As many lines and values, together, as are gone over for each type anew: that takes no longer than to look up what is known.
-const FEW_VALUES: usize = 128;
+const FEW_FORMAT_VALUES: usize = 128;
 
 /// Whether the lines, with their values, are so few. Where they aren't, and many types are mapped, or one time after time, all of
 /// them would be gone over as often.
-fn are_few(lines: &[(u8, &[FormatParam])]) -> bool {
-    let mut left = FEW_VALUES;
+fn are_format_lines_few(lines: &[(u8, &[FormatParam])]) -> bool {
+    let mut left = FEW_FORMAT_VALUES;
     for (_, values) in lines {
         match left.checked_sub(1 + values.len()) {
             Some(fewer) => left = fewer,
@@ -34,9 +34,9 @@ pub(crate) fn groups_of<'a>(
     alloc: Global,
     lines: &[(u8, &'a [FormatParam])],
 ) -> Result<Vec<TypeLines<'a>>, AllocError>
-    ensures { (attrs : List MediaAttribute) → ((pt : ℕ) → line_values (lines_with pt lines.now) ≡ fmtps_of attrs pt) → IfOk result (λ groups. AreKnown attrs groups.items) }
+    ensures { (attrs : List MediaAttribute) → ((pt : ℕ) → line_values (fmtp_lines_with pt lines.now) ≡ fmtps_of attrs pt) → IfOk result (λ groups. AreGroupsKnown attrs groups.items) }
 {
-    if are_few(lines) {
+    if are_format_lines_few(lines) {
         return Ok(Vec::new(alloc));
     }
     grouped(alloc, lines)
@@ -49,9 +49,9 @@ fn format_said<'a>(
     pt: Pt,
     codec: Codec,
 ) -> Result<Option<FormatParams>, AllocError>
-    ensures { IfOk result (λ format. format ≡ format_of_fmtp codec (line_values (lines_with pt lines.now))) }
+    ensures { IfOk result (λ format. format ≡ format_of_fmtp codec (line_values (fmtp_lines_with pt lines.now))) }
 {
-    find_lines(found, lines, pt)?;
+    find_fmtp_lines(found, lines, pt)?;
     Ok(FormatParams::from_sdp_fmtp(codec, found.as_slice()))
 }
 
@@ -64,9 +64,9 @@ pub(crate) fn format_of<'a>(
     pt: Pt,
     codec: Codec,
 ) -> Result<Option<FormatParams>, AllocError>
-    ensures format { (attrs : List MediaAttribute) → AreKnown attrs groups.old.items → line_values (lines_with pt lines.now) ≡ fmtps_of attrs pt →
+    ensures format { (attrs : List MediaAttribute) → AreGroupsKnown attrs groups.old.items → line_values (fmtp_lines_with pt lines.now) ≡ fmtps_of attrs pt →
         IfOk result (λ format. format ≡ format_of_fmtp codec (fmtps_of attrs pt)) }
-    ensures known { (attrs : List MediaAttribute) → AreKnown attrs groups.old.items → AreKnown attrs groups.new.items }
+    ensures known { (attrs : List MediaAttribute) → AreGroupsKnown attrs groups.old.items → AreGroupsKnown attrs groups.new.items }
 {
     let place = place(pt);
     if place < groups.len() {

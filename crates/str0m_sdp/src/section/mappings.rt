@@ -63,7 +63,10 @@ pub(crate) fn types_of(mapped: &[(Pt, CodecSpec)], codec: Codec) -> [bool; TYPES
 }
 
 /// One more type, where it needs no rtpmap line.
-pub(crate) fn push_static(mapped: &mut Vec<(Pt, CodecSpec)>, pt: Pt) -> Result<(), AllocError>
+pub(crate) fn push_static_mapping(
+    mapped: &mut Vec<(Pt, CodecSpec)>,
+    pt: Pt,
+) -> Result<(), AllocError>
     ensures { OnOk result (mapped.new.items ≡ mapped.old.items ++ option_to_list (static_type pt)) }
 {
     match static_spec(pt) {

@@ -2,13 +2,13 @@
 ghost use Rattle.std.specs.Prelude.{◌≡◌, [], IfOk, None, Some, false, refl, string_bytes};
 ghost use Rattle.str0m_sdp.specs.declared.attribute.media_type.MediaType.TheVariants.{Audio};
 ghost use Rattle.str0m_sdp.specs.declared.attribute.proto.Proto.TheVariants.{Srtp};
-ghost use Rattle.str0m_sdp.specs.section.MediaLine.{formats_text, m_line, media_line_text, port_text, pts_text};
+ghost use Rattle.str0m_sdp.specs.section.MediaLine.{formats_text, m_line, media_line_text, port_text, m_line_pts_text};
 
 use crate::attribute::MediaAttribute;
 use crate::attribute::bandwidth::{Bandwidth, BandwidthLine};
 use crate::attribute::media_type::MediaType;
 use crate::attribute::proto::Proto;
-use crate::form::printed::{Each, Printed, spaced};
+use crate::form::printed::{Each, Printed, printed_spaced};
 use std::alloc::{AllocError, Global};
 use std::fmt;
 use str0m_values::{Items, Pt};
@@ -48,7 +48,7 @@ impl MediaLine {
     }
 
     /// A copy that equals its source; the only error is that memory was refused.
-    #[tactic(auto, using(crate::proofs::attribute::AttributeCopies::line_copied))]
+    #[tactic(auto, using(crate::proofs::attribute::AttributeCopies::attribute_line_copied))]
     pub fn clone(&self) -> Result<MediaLine, AllocError>
         ensures { IfOk result (λ line. line ≡ self.now) }
     {
@@ -88,13 +88,13 @@ impl<'a> fmt::Display for Formats<'a> {
 struct Types<'a>(&'a [Pt]);
 
 impl<'a> fmt::Display for Types<'a> {
-    ghost output = { λ types. Some (pts_text types.0.now) };
+    ghost output = { λ types. Some (m_line_pts_text types.0.now) };
 
     fn fmt<W: fmt::Write>(&self, f: &mut fmt::Formatter<W>) -> fmt::Result {
         if self.0.is_empty() {
             return f.write_str("0");
         }
-        spaced(self.0).fmt(f)
+        printed_spaced(self.0).fmt(f)
     }
 }
 

@@ -2,7 +2,7 @@
 ghost use Rattle.std.specs.Prelude.{◌≡◌, ◌∷◌, ◌++◌, [], List, OnOk, OnErr, IfOk};
 ghost use Rattle.str0m_sdp.specs.Prelude.{FormatParam};
 ghost use Rattle.str0m_sdp.specs.declared.attribute.MediaAttribute.{MediaAttribute};
-ghost use Rattle.str0m_sdp.specs.section.RowAttributes.{Appends, feedback_line, feedback_attrs, fmtp_line, format_values, format_attrs, rtx_lines, rtx_attrs, red_lines, red_attrs, row_attrs};
+ghost use Rattle.str0m_sdp.specs.section.RowAttributes.{AppendsRowLines, feedback_line, feedback_attrs, fmtp_line, format_values, format_attrs, rtx_lines, rtx_attrs, red_lines, red_attrs, row_attrs};
 
 use crate::attribute::MediaAttribute;
 use crate::attribute::rtp_map::RtpMap;
@@ -51,7 +51,7 @@ fn push_feedback(
 }
 
 /// A line with values, where there are some.
-fn push_values(
+fn push_row_values(
     list: &mut Vec<MediaAttribute>,
     pt: Pt,
     values: Vec<FormatParam>,
@@ -68,7 +68,7 @@ fn push_values(
 }
 
 /// A list of one value.
-fn one_value(alloc: Global, value: FormatParam) -> Result<Vec<FormatParam>, AllocError>
+fn one_row_value_list(alloc: Global, value: FormatParam) -> Result<Vec<FormatParam>, AllocError>
     ensures { IfOk result (λ values. values.items ≡ value ∷ []) }
 {
     let mut values = Vec::new(alloc);
@@ -78,7 +78,7 @@ fn one_value(alloc: Global, value: FormatParam) -> Result<Vec<FormatParam>, Allo
 
 fn append_feedback(list: &mut Vec<MediaAttribute>, row: &PayloadParams) -> Result<(), AllocError>
     ensures ok { OnOk result (list.new.items ≡ list.old.items ++ feedback_attrs row.now) }
-    ensures begins { Appends list.old.items list.new.items }
+    ensures begins { AppendsRowLines list.old.items list.new.items }
 {
     let pt = row.pt();
     push_feedback(list, pt, TRANSPORT_CC, row.fb_transport_cc())?;
@@ -94,7 +94,7 @@ fn format_values(alloc: Global, spec: CodecSpec) -> Result<Vec<FormatParam>, All
     ensures { IfOk result (λ values. values.items ≡ format_values spec.codec spec.format) }
 {
     match spec.codec {
-        Codec::Tele => one_value(
+        Codec::Tele => one_row_value_list(
             alloc,
             FormatParam::TelephoneEvents(spec.format.highest_event()),
         ),
@@ -107,27 +107,27 @@ fn append_format(list: &mut Vec<MediaAttribute>, row: &PayloadParams) -> Result<
     ensures err { OnErr result (list.new.items ≡ list.old.items) }
 {
     let values = format_values(*list.allocator(), row.spec())?;
-    push_values(list, row.pt(), values)
+    push_row_values(list, row.pt(), values)
 }
 
 /// The lines of a payload type beside the primary one: what it stands for, and one value.
-fn append_beside(
+fn append_row_beside(
     list: &mut Vec<MediaAttribute>,
     pt: Pt,
     map: RtpMap,
     value: FormatParam,
 ) -> Result<(), AllocError>
     ensures ok { OnOk result (list.new.items ≡ list.old.items ++ MediaAttribute.RtpMap pt map ∷ (MediaAttribute.Fmtp pt (value ∷ []) ∷ [])) }
-    ensures begins { Appends list.old.items list.new.items }
+    ensures begins { AppendsRowLines list.old.items list.new.items }
 {
     push_map(list, pt, map)?;
-    let values = one_value(*list.allocator(), value)?;
-    push_values(list, pt, values)
+    let values = one_row_value_list(*list.allocator(), value)?;
+    push_row_values(list, pt, values)
 }
 
 fn append_rtx(list: &mut Vec<MediaAttribute>, row: &PayloadParams) -> Result<(), AllocError>
     ensures ok { OnOk result (list.new.items ≡ list.old.items ++ rtx_attrs row.now) }
-    ensures begins { Appends list.old.items list.new.items }
+    ensures begins { AppendsRowLines list.old.items list.new.items }
 {
     let Some(pt) = row.resend() else {
         return Ok(());
@@ -137,12 +137,12 @@ fn append_rtx(list: &mut Vec<MediaAttribute>, row: &PayloadParams) -> Result<(),
         clock_rate: row.spec().rtp_clock_rate(),
         channels: None,
     };
-    append_beside(list, pt, map, FormatParam::Apt(row.pt()))
+    append_row_beside(list, pt, map, FormatParam::Apt(row.pt()))
 }
 
 fn append_red(list: &mut Vec<MediaAttribute>, row: &PayloadParams) -> Result<(), AllocError>
     ensures ok { OnOk result (list.new.items ≡ list.old.items ++ red_attrs row.now) }
-    ensures begins { Appends list.old.items list.new.items }
+    ensures begins { AppendsRowLines list.old.items list.new.items }
 {
     let Some(pt) = row.red() else {
         return Ok(());
@@ -153,13 +153,13 @@ fn append_red(list: &mut Vec<MediaAttribute>, row: &PayloadParams) -> Result<(),
         clock_rate: row.spec().rtp_clock_rate(),
         channels,
     };
-    append_beside(list, pt, map, FormatParam::Red(row.pt()))
+    append_row_beside(list, pt, map, FormatParam::Red(row.pt()))
 }
 
 /// Appends as far as there is memory.
-fn append(list: &mut Vec<MediaAttribute>, row: &PayloadParams) -> Result<(), AllocError>
+fn append_row_lines(list: &mut Vec<MediaAttribute>, row: &PayloadParams) -> Result<(), AllocError>
     ensures ok { OnOk result (list.new.items ≡ list.old.items ++ row_attrs row.now) }
-    ensures begins { Appends list.old.items list.new.items }
+    ensures begins { AppendsRowLines list.old.items list.new.items }
 {
     push_map(list, row.pt(), RtpMap::from(row.spec()))?;
     append_feedback(list, row)?;
@@ -178,7 +178,7 @@ impl AsMediaAttrs for PayloadParams {
 
     fn as_media_attrs(&self, list: &mut Vec<MediaAttribute>) -> Result<(), AllocError> {
         let before = list.len();
-        let appended = append(list, self);
+        let appended = append_row_lines(list, self);
         if appended.is_err() {
             list.truncate(before);
         }

@@ -2,12 +2,12 @@
 ghost use Rattle.std.specs.List.{AllZip, list_any};
 ghost use Rattle.std.specs.Prelude.{◌≡◌, ◌<◌, ◌↔◌, ◌++◌, [], IfOk, IsTrue, None, Ok, OnOk, Some, count_by, filter_map, length, map, option_copied, option_map, slice_set, string_bytes};
 ghost use Rattle.str0m_sdp.specs.Common.{first, last};
-ghost use Rattle.str0m_sdp.specs.section.Consistency.{Consistent, NoneIff, is_direction, is_mid, mid_of};
-ghost use Rattle.str0m_sdp.specs.section.SectionAccessors.{IsRidOf, ext_map_at, ext_map_of, max_message_size_of, msid_of, rid_name_of, sctp_init_of, simulcast_of};
+ghost use Rattle.str0m_sdp.specs.section.Consistency.{Consistent, NoSectionFaultIff, is_direction, is_mid, mid_of};
+ghost use Rattle.str0m_sdp.specs.section.SectionAccessors.{IsRidOf, ext_map_at, ext_map_of, section_max_message_size_of, msid_of, rid_name_of, sctp_init_of, simulcast_of};
 ghost use Rattle.str0m_sdp.specs.section.SectionDirection.{section_direction, with_direction};
-ghost use Rattle.str0m_sdp.specs.section.Sources.{ArePlaced, entries};
+ghost use Rattle.str0m_sdp.specs.section.Sources.{AreSourcesPlaced, entries};
 ghost use Rattle.str0m_sdp.specs.section.SsrcInfo.{infos, repair_source, source_of};
-ghost use Rattle.str0m_sdp.specs.section.SsrcInfoReading.{AreGathered};
+ghost use Rattle.str0m_sdp.specs.section.SsrcInfoReading.{AreSourcesGathered};
 ghost use Rattle.str0m_sdp.specs.session.Candidates.{candidates_left, section_candidates};
 ghost use Rattle.str0m_sdp.specs.session.Fault.{section_message};
 ghost use Rattle.str0m_sdp.specs.session.PreferredFingerprint.{IsPreferred};
@@ -17,7 +17,7 @@ use crate::attribute::MediaAttribute;
 use crate::attribute::msid::Msid;
 use crate::attribute::setup::Setup;
 use crate::attribute::simulcast::Simulcast;
-use crate::section::consistency::{check, first_mid};
+use crate::section::consistency::{check_section, first_mid};
 use crate::section::media_line::MediaLine;
 use crate::section::section_direction::{direction_place, first_direction};
 use crate::section::sources::Sources;
@@ -25,7 +25,7 @@ use crate::section::ssrc_info::SsrcInfo;
 use crate::session::candidates::Candidates;
 use crate::session::fault::Message;
 use crate::session::preferred_fingerprint::{copied_fingerprint, preferred};
-use crate::session::transport::{copied_creds, ends, first_creds, first_setup};
+use crate::session::transport::{copied_transport_creds, ends, first_setup, first_transport_creds};
 use std::alloc::{AllocError, Global};
 use str0m_values::{Direction, Extension, Fingerprint, IceCreds, Mid, Rid};
 
@@ -97,7 +97,7 @@ impl MediaLine {
     pub fn ice_creds(&self) -> Result<Option<IceCreds>, AllocError>
         ensures { IfOk result (λ found. found ≡ media_creds self.now.attrs) }
     {
-        copied_creds(first_creds(self.attrs.as_slice()))
+        copied_transport_creds(first_transport_creds(self.attrs.as_slice()))
     }
 
     /// A copy of the preferred fingerprint (RFC 8122, section 5.1): the first of those with the
@@ -152,7 +152,7 @@ impl MediaLine {
     /// The most bytes that a message may have (RFC 8841, section 6), by the first attribute that says
     /// it.
     pub fn max_message_size(&self) -> Option<u64>
-        ensures { result ≡ first (filter_map max_message_size_of self.now.attrs) }
+        ensures { result ≡ first (filter_map section_max_message_size_of self.now.attrs) }
     {
         let attrs = self.attrs.as_slice();
         attrs.iter().find_map(|attr| attr.as_max_message_size())
@@ -203,8 +203,8 @@ impl MediaLine {
 
     /// What the `Ssrc` attributes say of each source, in order of first appearance.
     fn gather_values(&self, alloc: Global) -> Result<Sources, AllocError>
-        ensures said { IfOk result (λ sources. AreGathered (filter_map source_of self.now.attrs) [] self.now.attrs (entries sources)) }
-        ensures placed { IfOk result ArePlaced }
+        ensures said { IfOk result (λ sources. AreSourcesGathered (filter_map source_of self.now.attrs) [] self.now.attrs (entries sources)) }
+        ensures placed { IfOk result AreSourcesPlaced }
     {
         let mut sources = Sources::new(alloc);
         for line in self.attrs.as_slice() {
@@ -217,9 +217,9 @@ impl MediaLine {
 
     /// Adds which sources repair others. Those that have no entry yet come last.
     fn add_repairs(&self, sources: &mut Sources) -> Result<(), AllocError>
-        requires said { AreGathered (filter_map source_of self.now.attrs) [] self.now.attrs (entries sources.old) }
-        requires placed { ArePlaced sources.old }
-        ensures { OnOk result (AreGathered (filter_map source_of self.now.attrs ++ filter_map repair_source self.now.attrs) self.now.attrs self.now.attrs (entries sources.new)) }
+        requires said { AreSourcesGathered (filter_map source_of self.now.attrs) [] self.now.attrs (entries sources.old) }
+        requires placed { AreSourcesPlaced sources.old }
+        ensures { OnOk result (AreSourcesGathered (filter_map source_of self.now.attrs ++ filter_map repair_source self.now.attrs) self.now.attrs self.now.attrs (entries sources.new)) }
     {
         for line in self.attrs.as_slice() {
             if let Some((repaired, repairing)) = line.repair_pair() {
@@ -261,11 +261,11 @@ impl MediaLine {
     /// memory for the message was refused.
     #[tactic(auto, using(crate::proofs::session::FaultLaws::consistent_if_ok, crate::proofs::session::FaultLaws::consistent_not_err))]
     pub fn check_consistent(&self) -> Result<Option<String>, AllocError>
-        ensures told { IfOk result (λ message. NoneIff message (Consistent self.now)) }
+        ensures told { IfOk result (λ message. NoSectionFaultIff message (Consistent self.now)) }
         ensures first { IfOk result (λ message. option_map string_bytes message ≡ section_message self.now) }
         ensures takes_no_memory { Consistent self.now → result ≡ Ok None }
     {
-        match check(self) {
+        match check_section(self) {
             Ok(()) => Ok(None),
             Err(fault) => {
                 let section = self;

@@ -1,14 +1,14 @@
 //! The rows that a section describes.
 ghost use Rattle.std.specs.Prelude.{◌≡◌, ◌<◌, ◌++◌, [], All, IfOk, OnOk, option_to_list};
-ghost use Rattle.str0m_sdp.specs.Prelude.{IsBounded, content, format_of_fmtp, has_events, has_video, has_audio};
+ghost use Rattle.str0m_sdp.specs.Prelude.{IsBounded, codec_content, format_of_fmtp, has_events, row_content_has_video, row_content_has_audio};
 ghost use Rattle.str0m_sdp.specs.declared.section.media_line.MediaLine.{MediaLine};
-ghost use Rattle.str0m_sdp.specs.section.SectionRows.{KeepsToLines, fmtps_of, is_kept, row, rows};
+ghost use Rattle.str0m_sdp.specs.section.SectionRows.{KeepsToRowLines, fmtps_of, is_kept, row, rows};
 
 use crate::attribute::MediaAttribute;
 use crate::attribute::feedback::{Feedback, note_feedback};
-use crate::section::companions::note_line;
+use crate::section::companions::note_companion_line;
 use crate::section::known_formats::{format_of, groups_of};
-use crate::section::mappings::{mapped_types, mappings, push_static, types_of};
+use crate::section::mappings::{mapped_types, mappings, push_static_mapping, types_of};
 use crate::section::media_line::MediaLine;
 use crate::section::type_tables::{TYPES, place, types_in};
 use std::alloc::{AllocError, Global};
@@ -27,7 +27,7 @@ struct TypeFacts {
 }
 
 impl TypeFacts {
-    ghost use Rattle.str0m_sdp.specs.section.SectionRowsFacts.{row_of, SayOf, AreOf};
+    ghost use Rattle.str0m_sdp.specs.section.SectionRowsFacts.{row_of, RowTablesSayOf, RowTablesAreOf};
 
     /// Gathers in one pass what the attributes say of each type: the fmtp lines (RFC 8866, section 6.15), each beside the number
     /// of its type, and in the tables what these and the rtcp-fb lines name. A table is changed where it stands, since to hand
@@ -38,8 +38,8 @@ impl TypeFacts {
         attrs: &'a [MediaAttribute],
         types: &[(Pt, CodecSpec)],
     ) -> Result<Vec<(u8, &'a [FormatParam])>, AllocError>
-        requires { AreOf types.now [] self.old [] }
-        ensures words { IfOk result (λ lines. AreOf types.now attrs.now self.new lines.items) }
+        requires { RowTablesAreOf types.now [] self.old [] }
+        ensures words { IfOk result (λ lines. RowTablesAreOf types.now attrs.now self.new lines.items) }
         ensures in_m_line { self.new.in_m_line ≡ self.old.in_m_line }
     {
         let mut lines = Vec::with_capacity(alloc, types.len())?;
@@ -49,8 +49,8 @@ impl TypeFacts {
             match attr {
                 MediaAttribute::Fmtp { pt, values } => {
                     let values = values.as_slice();
-                    note_line(&mut self.rtx, Codec::Rtx, &rtx_types, *pt, values);
-                    note_line(&mut self.red, Codec::Red, &red_types, *pt, values);
+                    note_companion_line(&mut self.rtx, Codec::Rtx, &rtx_types, *pt, values);
+                    note_companion_line(&mut self.red, Codec::Red, &red_types, *pt, values);
                     lines.push((pt.value(), values))?;
                 }
                 MediaAttribute::RtcpFb { pt, value } => {
@@ -68,7 +68,7 @@ impl TypeFacts {
         ensures within { pt < 256 }
     {
         let place = place(pt);
-        let red = if is_audio(spec.codec) {
+        let red = if is_row_audio(spec.codec) {
             self.red[place]
         } else {
             None
@@ -79,10 +79,12 @@ impl TypeFacts {
 
     /// Whether the type has a row.
     fn is_kept(&self, pt: Pt, spec: CodecSpec) -> bool
-        ensures { (m : MediaLine) → SayOf m self.now → result ≡ is_kept m (pt, spec) }
+        ensures { (m : MediaLine) → RowTablesSayOf m self.now → result ≡ is_kept m (pt, spec) }
     {
         let codec = spec.codec;
-        is_audio(codec) || is_video(codec) || (is_events(codec) && self.in_m_line[place(pt)])
+        is_row_audio(codec)
+            || is_row_video(codec)
+            || (is_row_events(codec) && self.in_m_line[place(pt)])
     }
 
     /// One more row, where the type has one, by what its fmtp lines say of the codec.
@@ -93,7 +95,7 @@ impl TypeFacts {
         pt: Pt,
         spec: CodecSpec,
     ) -> Result<(), AllocError>
-        ensures { (m : MediaLine) → SayOf m self.now → format ≡ format_of_fmtp spec.codec (fmtps_of m.attrs pt) →
+        ensures { (m : MediaLine) → RowTablesSayOf m self.now → format ≡ format_of_fmtp spec.codec (fmtps_of m.attrs pt) →
             OnOk result (rows.new.items ≡ rows.old.items ++ option_to_list (row m (pt, spec))) }
     {
         match format {
@@ -108,20 +110,20 @@ impl TypeFacts {
     }
 }
 
-fn is_audio(codec: Codec) -> bool
-    ensures { result ≡ has_audio (content codec) }
+fn is_row_audio(codec: Codec) -> bool
+    ensures { result ≡ row_content_has_audio (codec_content codec) }
 {
     codec.is_audio()
 }
 
-fn is_video(codec: Codec) -> bool
-    ensures { result ≡ has_video (content codec) }
+fn is_row_video(codec: Codec) -> bool
+    ensures { result ≡ row_content_has_video (codec_content codec) }
 {
     codec.is_video()
 }
 
-fn is_events(codec: Codec) -> bool
-    ensures { result ≡ has_events (content codec) }
+fn is_row_events(codec: Codec) -> bool
+    ensures { result ≡ has_events (codec_content codec) }
 {
     codec.is_tele()
 }
@@ -143,7 +145,7 @@ impl MediaLine {
             let place = place(*pt);
             if !seen[place] {
                 seen[place] = true;
-                push_static(&mut mapped, *pt)?;
+                push_static_mapping(&mut mapped, *pt)?;
             }
         }
         Ok(mapped)
@@ -153,7 +155,7 @@ impl MediaLine {
     fn rows_of(&self, types: &[(Pt, CodecSpec)]) -> Result<Vec<PayloadParams>, AllocError>
         requires { types.now ≡ mapped self.now }
         ensures rows { IfOk result (λ params. params.items ≡ rows self.now) }
-        ensures bounded { KeepsToLines self.now → IfOk result (λ params. All IsBounded params.items) }
+        ensures bounded { KeepsToRowLines self.now → IfOk result (λ params. All IsBounded params.items) }
     {
         let alloc = *self.attrs.allocator();
         let mut words = TypeFacts {
@@ -196,7 +198,7 @@ impl MediaLine {
     pub fn rtp_params(&self) -> Result<Vec<PayloadParams>, AllocError>
         ensures rows { IfOk result (λ params. params.items ≡ rows self.now) }
         // Types of seven bits and parameters in their ranges give rows of such.
-        ensures bounded { KeepsToLines self.now → IfOk result (λ params. All IsBounded params.items) }
+        ensures bounded { KeepsToRowLines self.now → IfOk result (λ params. All IsBounded params.items) }
     {
         let mapped = self.mapped()?;
         match mapped.as_slice() {

@@ -4,8 +4,8 @@
 ghost use Rattle.indexmap.specs.IndexMap.{insert_entry};
 ghost use Rattle.std.specs.Map.{values_of};
 ghost use Rattle.std.specs.Prelude.{◌≡◌, ◌<◌, [], length, nat_eq, slice_get, IfOk, OnOk, Some};
-ghost use Rattle.str0m_sdp.specs.section.Sources.{ArePlaced, IsPutAt, entries};
-ghost use Rattle.str0m_sdp.specs.section.SsrcInfoReading.{so_far, with_value};
+ghost use Rattle.str0m_sdp.specs.section.Sources.{AreSourcesPlaced, IsPutAtSource, entries};
+ghost use Rattle.str0m_sdp.specs.section.SsrcInfoReading.{source_so_far, source_with_value};
 
 use crate::section::ssrc_info::SsrcInfo;
 use std::alloc::{AllocError, Global};
@@ -23,7 +23,7 @@ impl Sources {
     /// No source. Takes no memory.
     pub(crate) fn new(alloc: Global) -> Sources
         ensures none { entries result ≡ [] }
-        ensures placed { ArePlaced result }
+        ensures placed { AreSourcesPlaced result }
     {
         Sources {
             infos: Vec::new(alloc),
@@ -33,10 +33,10 @@ impl Sources {
 
     /// The place of a source, which joins the others where it isn't among them.
     fn place_of(&mut self, ssrc: Ssrc) -> Result<usize, AllocError>
-        requires { ArePlaced self.old }
+        requires { AreSourcesPlaced self.old }
         ensures within { IfOk result (λ place. place < length self.new.infos.items) }
-        ensures info { IfOk result (λ place. slice_get self.new.infos.items place ≡ Some (so_far (entries self.old) ssrc)) }
-        ensures put { IfOk result (λ place. IsPutAt self.old self.new ssrc place) }
+        ensures info { IfOk result (λ place. slice_get self.new.infos.items place ≡ Some (source_so_far (entries self.old) ssrc)) }
+        ensures put { IfOk result (λ place. IsPutAtSource self.old self.new ssrc place) }
     {
         if let Some(place) = self.places.get(&*ssrc) {
             return Ok(*place);
@@ -55,9 +55,9 @@ impl Sources {
         name: &str,
         value: &str,
     ) -> Result<(), AllocError>
-        requires { ArePlaced self.old }
-        ensures entries { OnOk result (entries self.new ≡ insert_entry nat_eq (entries self.old) ssrc (with_value name.now value.now (so_far (entries self.old) ssrc))) }
-        ensures placed { OnOk result (ArePlaced self.new) }
+        requires { AreSourcesPlaced self.old }
+        ensures entries { OnOk result (entries self.new ≡ insert_entry nat_eq (entries self.old) ssrc (source_with_value name.now value.now (source_so_far (entries self.old) ssrc))) }
+        ensures placed { OnOk result (AreSourcesPlaced self.new) }
     {
         let place = self.place_of(ssrc)?;
         self.infos[place].set_value(alloc, name, value)?;
@@ -66,9 +66,9 @@ impl Sources {
 
     /// Adds that a source repairs another one.
     pub(crate) fn add_repair(&mut self, repaired: Ssrc, repairing: Ssrc) -> Result<(), AllocError>
-        requires { ArePlaced self.old }
-        ensures entries { OnOk result (entries self.new ≡ insert_entry nat_eq (entries self.old) repairing (record (so_far (entries self.old) repairing) { repairs = Some repaired })) }
-        ensures placed { OnOk result (ArePlaced self.new) }
+        requires { AreSourcesPlaced self.old }
+        ensures entries { OnOk result (entries self.new ≡ insert_entry nat_eq (entries self.old) repairing (record (source_so_far (entries self.old) repairing) { repairs = Some repaired })) }
+        ensures placed { OnOk result (AreSourcesPlaced self.new) }
     {
         let place = self.place_of(repairing)?;
         let info = &mut self.infos[place];
@@ -77,7 +77,7 @@ impl Sources {
     }
 
     /// What is said of each, in order of first appearance. Takes no memory.
-    #[tactic(auto, using(crate::proofs::section::SourceLaws::values_stand))]
+    #[tactic(auto, using(crate::proofs::section::SourceLaws::source_values_stand))]
     pub(crate) fn into_infos(self) -> Vec<SsrcInfo>
         ensures { result.items ≡ values_of (entries self) }
     {

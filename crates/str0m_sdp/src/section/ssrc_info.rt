@@ -1,7 +1,7 @@
 //! The sources of a section.
 ghost use Rattle.std.specs.Prelude.{◌≡◌, IfOk, OnOk};
-ghost use Rattle.str0m_sdp.specs.section.SsrcInfo.{id_of, empty_info};
-ghost use Rattle.str0m_sdp.specs.section.SsrcInfoReading.{with_value};
+ghost use Rattle.str0m_sdp.specs.section.SsrcInfo.{source_id_of, empty_info};
+ghost use Rattle.str0m_sdp.specs.section.SsrcInfoReading.{source_with_value};
 
 use crate::attribute::msid::is_no_stream;
 use std::alloc::{AllocError, Global};
@@ -24,8 +24,8 @@ pub struct SsrcInfo {
 }
 
 /// The id in a piece of a value, where it has one (RFC 8830, section 2).
-fn id_of(alloc: Global, piece: &str) -> Result<Option<Text>, AllocError>
-    ensures { IfOk result (λ id. id ≡ id_of piece.now) }
+fn source_id_of(alloc: Global, piece: &str) -> Result<Option<Text>, AllocError>
+    ensures { IfOk result (λ id. id ≡ source_id_of piece.now) }
 {
     if is_no_stream(piece) {
         return Ok(None);
@@ -34,7 +34,7 @@ fn id_of(alloc: Global, piece: &str) -> Result<Option<Text>, AllocError>
 }
 
 impl SsrcInfo {
-    ghost use Rattle.str0m_sdp.specs.section.SsrcInfoReading.{with_ids};
+    ghost use Rattle.str0m_sdp.specs.section.SsrcInfoReading.{source_with_ids};
 
     /// A source of which nothing is said.
     pub(crate) fn empty(ssrc: Ssrc) -> SsrcInfo
@@ -58,11 +58,11 @@ impl SsrcInfo {
 
     /// Sets the ids of an `msid` value: a stream, and after a space a track.
     fn set_ids(&mut self, alloc: Global, value: &str) -> Result<(), AllocError>
-        ensures { OnOk result (self.new ≡ with_ids value.now self.old) }
+        ensures { OnOk result (self.new ≡ source_with_ids value.now self.old) }
     {
-        self.stream_id = id_of(alloc, before(value, Separator::Space))?;
+        self.stream_id = source_id_of(alloc, before(value, Separator::Space))?;
         if let Some((_, rest)) = cut(value, Separator::Space) {
-            self.track_id = id_of(alloc, before(rest, Separator::Space))?;
+            self.track_id = source_id_of(alloc, before(rest, Separator::Space))?;
         }
         Ok(())
     }
@@ -74,7 +74,7 @@ impl SsrcInfo {
         name: &str,
         value: &str,
     ) -> Result<(), AllocError>
-        ensures { OnOk result (self.new ≡ with_value name.now value.now self.old) }
+        ensures { OnOk result (self.new ≡ source_with_value name.now value.now self.old) }
     {
         if is_same_text(name, "cname") {
             self.cname = Some(Text::from_str(alloc, value)?);

@@ -1,7 +1,7 @@
 //! The fmtp lines of a section by payload type, and what they say of codecs, each made once.
 ghost use Rattle.std.specs.Prelude.{◌≡◌, ◌++◌, [], ◌∷◌, All, IfOk, IfSome, List, OnOk};
 ghost use Rattle.str0m_sdp.specs.Prelude.{FormatParam, format_of_fmtp};
-ghost use Rattle.str0m_sdp.specs.section.TypeLines.{AreGrouped, IsTypeGroup, IsKnown};
+ghost use Rattle.str0m_sdp.specs.section.TypeLines.{AreGrouped, IsTypeGroup, IsKnownFormat};
 
 use crate::section::type_tables::TYPES;
 use std::alloc::{AllocError, Global};
@@ -15,9 +15,9 @@ pub(crate) struct KnownFormat {
 }
 
 /// What is known of the codec, where it was asked for.
-#[tactic(auto, unfolding(crate::specs::section::TypeLines::IsKnown))]
+#[tactic(auto, unfolding(crate::specs::section::TypeLines::IsKnownFormat))]
 fn known_format(known: &[KnownFormat], codec: Codec) -> Option<Option<FormatParams>>
-    ensures { (lines : List (List FormatParam)) → All (IsKnown lines) known.now → IfSome result (λ format. format ≡ format_of_fmtp codec lines) }
+    ensures { (lines : List (List FormatParam)) → All (IsKnownFormat lines) known.now → IfSome result (λ format. format ≡ format_of_fmtp codec lines) }
 {
     for it in known {
         if it.codec == codec {
@@ -56,7 +56,7 @@ impl<'a> TypeLines<'a> {
     }
 
     /// What the lines say of the codec, which joins what is known.
-    #[tactic(auto, unfolding(crate::specs::section::TypeLines::IsKnown))]
+    #[tactic(auto, unfolding(crate::specs::section::TypeLines::IsKnownFormat))]
     fn learn(&mut self, codec: Codec) -> Result<Option<FormatParams>, AllocError>
         ensures format { (lines : List (List FormatParam)) → IsTypeGroup lines self.old → IfOk result (λ format. format ≡ format_of_fmtp codec lines) }
         ensures group { (lines : List (List FormatParam)) → IsTypeGroup lines self.old → IsTypeGroup lines self.new }
@@ -79,7 +79,7 @@ impl<'a> TypeLines<'a> {
 }
 
 /// A group for each payload type, without lines.
-fn no_lines<'a>(alloc: Global) -> Result<Vec<TypeLines<'a>>, AllocError>
+fn no_type_lines<'a>(alloc: Global) -> Result<Vec<TypeLines<'a>>, AllocError>
     ensures { IfOk result (λ groups. AreGrouped [] groups.items) }
 {
     let mut groups = Vec::with_capacity(alloc, TYPES)?;
@@ -96,7 +96,7 @@ pub(crate) fn grouped<'a>(
 ) -> Result<Vec<TypeLines<'a>>, AllocError>
     ensures { IfOk result (λ groups. AreGrouped lines.now groups.items) }
 {
-    let mut groups = no_lines(alloc)?;
+    let mut groups = no_type_lines(alloc)?;
     for (number, values) in lines {
         groups[usize::from(*number)].add(*values)?;
     }

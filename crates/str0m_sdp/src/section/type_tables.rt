@@ -1,7 +1,7 @@
 //! What a section says of each payload type, gathered in one pass over its attributes.
 ghost use Rattle.std.specs.List.{list_any};
 ghost use Rattle.std.specs.Prelude.{◌≡◌, ◌==◌, ◌<◌, ℕ, false, None, count_by, get_or, length};
-ghost use Rattle.str0m_sdp.specs.section.Consistency.{maps, apt_of, apt_among, first_apt};
+ghost use Rattle.str0m_sdp.specs.section.Consistency.{maps, section_apt_of, section_apt_among, first_section_apt};
 
 use crate::attribute::MediaAttribute;
 use str0m_formats::FormatParam;
@@ -43,8 +43,8 @@ pub(crate) fn count_maps(attrs: &[MediaAttribute]) -> [usize; TYPES]
 }
 
 /// The primary type that the value names (RFC 4588, section 8.1).
-pub(crate) fn apt_of(value: FormatParam) -> Option<Pt>
-    ensures { result ≡ apt_of value }
+pub(crate) fn section_apt_of(value: FormatParam) -> Option<Pt>
+    ensures { result ≡ section_apt_of value }
 {
     match value {
         FormatParam::Apt(pt) => Some(pt),
@@ -53,12 +53,12 @@ pub(crate) fn apt_of(value: FormatParam) -> Option<Pt>
 }
 
 /// The first primary type that the values name.
-fn apt_among(values: &[FormatParam]) -> Option<Pt>
-    ensures { result ≡ apt_among values.now }
+fn section_apt_among(values: &[FormatParam]) -> Option<Pt>
+    ensures { result ≡ section_apt_among values.now }
 {
     let mut left = values;
     while let Some((value, more)) = left.split_first() {
-        if let Some(apt) = apt_of(*value) {
+        if let Some(apt) = section_apt_of(*value) {
             return Some(apt);
         }
         left = more;
@@ -67,8 +67,8 @@ fn apt_among(values: &[FormatParam]) -> Option<Pt>
 }
 
 /// The first primary type that fmtp lines name for each payload type.
-pub(crate) fn first_apts(attrs: &[MediaAttribute]) -> [Option<Pt>; TYPES]
-    ensures rows { (pt : ℕ) → pt < 256 → get_or result pt None ≡ first_apt pt attrs.now }
+pub(crate) fn first_section_apts(attrs: &[MediaAttribute]) -> [Option<Pt>; TYPES]
+    ensures rows { (pt : ℕ) → pt < 256 → get_or result pt None ≡ first_section_apt pt attrs.now }
     ensures whole { length result ≡ 256 }
 {
     let mut firsts = [None; TYPES];
@@ -76,7 +76,7 @@ pub(crate) fn first_apts(attrs: &[MediaAttribute]) -> [Option<Pt>; TYPES]
         if let MediaAttribute::Fmtp { pt, values } = attr {
             let place = place(*pt);
             if firsts[place].is_none() {
-                firsts[place] = apt_among(values.as_slice());
+                firsts[place] = section_apt_among(values.as_slice());
             }
         }
     }

@@ -1,7 +1,7 @@
 //! Candidates in the order of their parts, so that one is found among many without a look at each, whoever chose them. A table
 //! whose hash is known has to look at all that were chosen to fall together.
 ghost use Rattle.std.specs.Prelude.{◌≡◌};
-ghost use Rattle.str0m_sdp.specs.session.CandidateKey.{IsKeyOf, address_part, ip_part, type_part};
+ghost use Rattle.str0m_sdp.specs.session.CandidateKey.{IsKeyOf, address_part, candidate_ip_part, type_part};
 
 use str0m_values::{Candidate, IpAddr, SocketAddr, TcpType};
 
@@ -26,8 +26,8 @@ pub(crate) struct CandidateKey<'a> {
     ufrag: Option<&'a str>,
 }
 
-fn ip_part(ip: IpAddr) -> IpPart
-    ensures { result ≡ ip_part ip }
+fn candidate_ip_part(ip: IpAddr) -> IpPart
+    ensures { result ≡ candidate_ip_part ip }
 {
     match ip {
         IpAddr::V4(bytes) => IpPart::V4(bytes),
@@ -38,7 +38,7 @@ fn ip_part(ip: IpAddr) -> IpPart
 fn address_part(addr: SocketAddr) -> (IpPart, u16)
     ensures { result ≡ address_part addr }
 {
-    (ip_part(addr.ip), addr.port)
+    (candidate_ip_part(addr.ip), addr.port)
 }
 
 fn type_part(tcptype: TcpType) -> u8

@@ -3,7 +3,7 @@ ghost use Rattle.indexmap.specs.IndexSet.{insert_all};
 ghost use Rattle.std.specs.Iterator.{YieldsFirstBy, item_count};
 ghost use Rattle.std.specs.Prelude.{◌≡◌, OnOk};
 ghost use Rattle.str0m_sdp.specs.session.Candidates.{candidates_left, same_candidate};
-ghost use Rattle.str0m_sdp.specs.session.SeenCandidates.{AreByKey, seen};
+ghost use Rattle.str0m_sdp.specs.session.SeenCandidates.{AreCandidatesByKey, seen};
 
 use crate::session::candidates::Candidates;
 use crate::session::seen_candidates::SeenCandidates;
@@ -26,13 +26,13 @@ impl<'a> fmt::Debug for DistinctCandidates<'a> {
 }
 
 /// Adds those that aren't there yet, in order.
-pub(crate) fn add_all<'a>(
+pub(crate) fn add_all_candidates<'a>(
     found: &mut SeenCandidates<'a>,
     candidates: Candidates<'a>,
 ) -> Result<(), AllocError>
-    requires { AreByKey found.old }
+    requires { AreCandidatesByKey found.old }
     ensures seen { OnOk result (seen found.new ≡ insert_all same_candidate (seen found.old) (candidates_left candidates.entry)) }
-    ensures by_key { OnOk result (AreByKey found.new) }
+    ensures by_key { OnOk result (AreCandidatesByKey found.new) }
 {
     for candidate in candidates {
         found.add(candidate)?;

@@ -65,9 +65,9 @@ struct Nameless<'a>(&'a MediaLine);
 
 impl<'a> fmt::Display for Nameless<'a> {
     ghost use Rattle.std.specs.Prelude.{Some};
-    ghost use Rattle.str0m_sdp.specs.session.Fault.{nameless};
+    ghost use Rattle.str0m_sdp.specs.session.Fault.{nameless_section};
 
-    ghost output = { λ section. Some (nameless section.0.now) };
+    ghost output = { λ section. Some (nameless_section section.0.now) };
 
     fn fmt<W: fmt::Write>(&self, f: &mut fmt::Formatter<W>) -> fmt::Result {
         let (typ, proto) = (&self.0.typ, self.0.proto);
@@ -78,9 +78,9 @@ impl<'a> fmt::Display for Nameless<'a> {
 /// What is said of a clash.
 impl fmt::Display for Clash {
     ghost use Rattle.std.specs.Prelude.{Some};
-    ghost use Rattle.str0m_sdp.specs.session.Fault.{clash_text};
+    ghost use Rattle.str0m_sdp.specs.session.Fault.{fault_clash_text};
 
-    ghost output = { λ clash. Some (clash_text clash) };
+    ghost output = { λ clash. Some (fault_clash_text clash) };
 
     fn fmt<W: fmt::Write>(&self, f: &mut fmt::Formatter<W>) -> fmt::Result {
         let Clash {

@@ -1,14 +1,17 @@
 //! Which of several fingerprints is preferred.
 ghost use Rattle.std.specs.Prelude.{◌≡◌, IfOk, filter_map, option_copied};
-ghost use Rattle.str0m_sdp.specs.session.PreferredFingerprint.{better_of, preferred};
+ghost use Rattle.str0m_sdp.specs.session.PreferredFingerprint.{better_fingerprint_of, preferred};
 
 use crate::session::transport::TransportAttribute;
 use std::alloc::AllocError;
 use str0m_values::Fingerprint;
 
 /// The one to keep of the best so far and another: the best, unless the other is preferred to it.
-fn better_of<'a>(best: Option<&'a Fingerprint>, other: &'a Fingerprint) -> &'a Fingerprint
-    ensures { result.now ≡ better_of (option_copied best.entry) other.now }
+fn better_fingerprint_of<'a>(
+    best: Option<&'a Fingerprint>,
+    other: &'a Fingerprint,
+) -> &'a Fingerprint
+    ensures { result.now ≡ better_fingerprint_of (option_copied best.entry) other.now }
 {
     match best {
         Some(best) if best.hash_preference() <= other.hash_preference() => best,
@@ -23,7 +26,7 @@ pub(crate) fn preferred<A: TransportAttribute>(attrs: &[A]) -> Option<&Fingerpri
     let mut best = None;
     for attr in attrs {
         if let Some(print) = attr.as_fingerprint() {
-            best = Some(better_of(best, print));
+            best = Some(better_fingerprint_of(best, print));
         }
     }
     best

@@ -4,19 +4,19 @@ ghost use Rattle.str0m_sdp.specs.Common.{distinct, first};
 ghost use Rattle.str0m_sdp.specs.attribute.MediaType.{is_channel};
 ghost use Rattle.str0m_sdp.specs.declared.section.media_line.MediaLine.{MediaLine};
 ghost use Rattle.str0m_sdp.specs.session.Candidates.{all_candidates, same_candidate};
-ghost use Rattle.str0m_sdp.specs.session.DistinctCandidates.{IsEachOnce, distinct_left};
+ghost use Rattle.str0m_sdp.specs.session.DistinctCandidates.{IsEachCandidateOnce, distinct_left};
 ghost use Rattle.str0m_sdp.specs.session.PreferredFingerprint.{IsPreferred, media_fingerprints, preferred, sdp_fingerprints};
 ghost use Rattle.str0m_sdp.specs.session.SdpAccessors.{bundled_of, sdp_sctp_init};
-ghost use Rattle.str0m_sdp.specs.session.Transport.{lent_creds, media_creds, media_setup, sdp_creds, sdp_setup};
+ghost use Rattle.str0m_sdp.specs.session.Transport.{lent_transport_creds, media_creds, media_setup, sdp_creds, sdp_setup};
 
 use crate::attribute::SessionAttribute;
 use crate::attribute::setup::Setup;
 use crate::section::media_line::MediaLine;
 use crate::session::Sdp;
-use crate::session::distinct_candidates::{DistinctCandidates, add_all};
+use crate::session::distinct_candidates::{DistinctCandidates, add_all_candidates};
 use crate::session::preferred_fingerprint::{copied_fingerprint, preferred};
 use crate::session::seen_candidates::SeenCandidates;
-use crate::session::transport::{copied_creds, first_creds};
+use crate::session::transport::{copied_transport_creds, first_transport_creds};
 use std::alloc::AllocError;
 use str0m_values::{Fingerprint, IceCreds, Mid, Text};
 
@@ -60,9 +60,9 @@ impl Sdp {
     pub fn ice_creds(&self) -> Result<Option<IceCreds>, AllocError>
         ensures { IfOk result (λ found. found ≡ sdp_creds self.now) }
     {
-        match first_creds(self.session.attrs.as_slice()) {
-            Some(found) => copied_creds(Some(found)),
-            None => copied_creds(creds_among(self.media_lines.as_slice())),
+        match first_transport_creds(self.session.attrs.as_slice()) {
+            Some(found) => copied_transport_creds(Some(found)),
+            None => copied_transport_creds(session_creds_among(self.media_lines.as_slice())),
         }
     }
 
@@ -74,7 +74,7 @@ impl Sdp {
     {
         match preferred(self.session.attrs.as_slice()) {
             Some(print) => copied_fingerprint(Some(print)),
-            None => copied_fingerprint(preferred_among(self.media_lines.as_slice())),
+            None => copied_fingerprint(preferred_fingerprint_among(self.media_lines.as_slice())),
         }
     }
 
@@ -83,12 +83,12 @@ impl Sdp {
     /// sort, whatever they are. `AllocError` where memory is refused.
     pub fn ice_candidates(&self) -> Result<DistinctCandidates<'_>, AllocError>
         ensures distinct { IfOk result (λ candidates. distinct_left candidates ≡ distinct same_candidate (all_candidates self.now)) }
-        ensures once { IfOk result (λ candidates. IsEachOnce (all_candidates self.now) (distinct_left candidates)) }
+        ensures once { IfOk result (λ candidates. IsEachCandidateOnce (all_candidates self.now) (distinct_left candidates)) }
     {
         let mut found = SeenCandidates::new(*self.media_lines.allocator());
-        add_all(&mut found, self.session.ice_candidates())?;
+        add_all_candidates(&mut found, self.session.ice_candidates())?;
         for line in self.media_lines.as_slice() {
-            add_all(&mut found, line.ice_candidates())?;
+            add_all_candidates(&mut found, line.ice_candidates())?;
         }
         Ok(DistinctCandidates {
             left: found.into_iter(),
@@ -100,7 +100,7 @@ impl Sdp {
     pub fn sctp_init(&self) -> Option<&str>
         ensures { option_copied result ≡ sdp_sctp_init self.now }
     {
-        match first_channel(self.media_lines.as_slice()) {
+        match first_session_channel(self.media_lines.as_slice()) {
             Some(line) => line.sctp_init(),
             None => None,
         }
@@ -113,15 +113,15 @@ fn setup_among(lines: &[MediaLine]) -> Option<Setup>
     lines.iter().find_map(|line| line.setup())
 }
 
-fn creds_among(lines: &[MediaLine]) -> Option<(&Text, &Text)>
-    ensures { option_map lent_creds result ≡ first (filter_map (λ (m : MediaLine). media_creds m.attrs) lines.now) }
+fn session_creds_among(lines: &[MediaLine]) -> Option<(&Text, &Text)>
+    ensures { option_map lent_transport_creds result ≡ first (filter_map (λ (m : MediaLine). media_creds m.attrs) lines.now) }
 {
     lines
         .iter()
-        .find_map(|line| first_creds(line.attrs.as_slice()))
+        .find_map(|line| first_transport_creds(line.attrs.as_slice()))
 }
 
-fn preferred_among(lines: &[MediaLine]) -> Option<&Fingerprint>
+fn preferred_fingerprint_among(lines: &[MediaLine]) -> Option<&Fingerprint>
     ensures { option_copied result ≡ first (filter_map (λ m. preferred (media_fingerprints m)) lines.now) }
 {
     lines
@@ -129,7 +129,7 @@ fn preferred_among(lines: &[MediaLine]) -> Option<&Fingerprint>
         .find_map(|line| preferred(line.attrs.as_slice()))
 }
 
-fn first_channel(lines: &[MediaLine]) -> Option<&MediaLine>
+fn first_session_channel(lines: &[MediaLine]) -> Option<&MediaLine>
     ensures { option_copied result ≡ find (λ (m : MediaLine). is_channel m.typ) lines.now }
 {
     lines.iter().find(|line| line.typ.is_channel())

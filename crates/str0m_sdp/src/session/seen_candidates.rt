@@ -2,7 +2,7 @@
 ghost use Rattle.indexmap.specs.IndexSet.{insert_key};
 ghost use Rattle.std.specs.Prelude.{◌≡◌, [], OnOk};
 ghost use Rattle.str0m_sdp.specs.session.Candidates.{same_candidate};
-ghost use Rattle.str0m_sdp.specs.session.SeenCandidates.{AreByKey, seen};
+ghost use Rattle.str0m_sdp.specs.session.SeenCandidates.{AreCandidatesByKey, seen};
 
 use crate::session::candidate_key::{CandidateKey, key_of};
 use std::alloc::{AllocError, Global};
@@ -24,7 +24,7 @@ impl<'a> SeenCandidates<'a> {
     /// None was seen. Takes no memory.
     pub(crate) fn new(alloc: Global) -> SeenCandidates<'a>
         ensures none { seen result ≡ [] }
-        ensures by_key { AreByKey result }
+        ensures by_key { AreCandidatesByKey result }
     {
         SeenCandidates {
             keys: BTreeSet::new(alloc),
@@ -34,9 +34,9 @@ impl<'a> SeenCandidates<'a> {
 
     /// One more, which joins the others where it isn't among them.
     pub(crate) fn add(&mut self, candidate: &'a Candidate) -> Result<(), AllocError>
-        requires { AreByKey self.old }
+        requires { AreCandidatesByKey self.old }
         ensures seen { OnOk result (seen self.new ≡ insert_key same_candidate (seen self.old) candidate.now) }
-        ensures by_key { OnOk result (AreByKey self.new) }
+        ensures by_key { OnOk result (AreCandidatesByKey self.new) }
     {
         if self.keys.insert(key_of(candidate))? {
             self.once.push(candidate)?;

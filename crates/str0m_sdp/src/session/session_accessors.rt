@@ -11,7 +11,7 @@ use crate::attribute::setup::Setup;
 use crate::session::Session;
 use crate::session::candidates::Candidates;
 use crate::session::preferred_fingerprint::{copied_fingerprint, preferred};
-use crate::session::transport::{copied_creds, ends, first_creds, first_setup};
+use crate::session::transport::{copied_transport_creds, ends, first_setup, first_transport_creds};
 use std::alloc::AllocError;
 use str0m_values::{Fingerprint, IceCreds};
 
@@ -28,7 +28,7 @@ impl Session {
     pub fn ice_creds(&self) -> Result<Option<IceCreds>, AllocError>
         ensures { IfOk result (λ found. found ≡ session_creds self.now.attrs) }
     {
-        copied_creds(first_creds(self.attrs.as_slice()))
+        copied_transport_creds(first_transport_creds(self.attrs.as_slice()))
     }
 
     /// A copy of the preferred fingerprint (RFC 8122, section 5.1): the first of those with the

@@ -2,9 +2,9 @@
 ghost use Rattle.std.specs.Prelude.{◌≡◌, ◌==◌, ◌++◌, IfErr, IfOk, IsOk, None, Ok, OnOk, filter_map, length, not, option_map, option_to_list, Some, bytes_eq, string_bytes};
 ghost use Rattle.str0m_sdp.specs.Prelude.{when, ◌<|>◌};
 ghost use Rattle.str0m_sdp.specs.declared.session.fault.SessionFault.TheVariants.{Count, Order};
-ghost use Rattle.str0m_sdp.specs.session.OrderedMids.{is_member, part_mid};
-ghost use Rattle.str0m_sdp.specs.session.SessionConsistency.{AreFew, ConsistentSdp, IsContradiction, SaysWhether, first_group, is_listed, mids_in_part, section_mid, section_mids, takes_part};
-ghost use Rattle.str0m_sdp.specs.session.SessionFault.{Tells, first_again, first_difference, first_session_fault, listing_fault, sections_message, session_message};
+ghost use Rattle.str0m_sdp.specs.session.OrderedMids.{is_group_member, part_mid};
+ghost use Rattle.str0m_sdp.specs.session.SessionConsistency.{AreSectionsFew, ConsistentSdp, IsSessionContradiction, SaysWhetherConsistent, first_group, is_group_listed, mids_in_part, section_mid, section_mids, takes_part_in_group};
+ghost use Rattle.str0m_sdp.specs.session.SessionFault.{TellsSessionContradiction, first_mid_again, first_group_difference, first_session_fault, listing_fault, sections_message, session_message};
 
 use crate::attribute::SessionAttribute;
 use crate::section::consistency::first_mid;
@@ -12,14 +12,14 @@ use crate::section::media_line::MediaLine;
 use crate::session::Sdp;
 use crate::session::error::SdpError;
 use crate::session::fault::SessionFault;
-use crate::session::ordered_mids::{find_again, is_held, names_of};
+use crate::session::ordered_mids::{find_mid_again, is_mid_held, mid_names_of};
 use std::alloc::{AllocError, Global};
 use std::collections::BTreeSet;
 use str0m_values::{Items, Mid};
 
 /// Mids of up to so many sections, and of so long a group, are compared each with each, which takes no
 /// memory: as many as are few for contracts.
-const FEW: usize = 16;
+const FEW_SESSION_MIDS: usize = 16;
 
 fn section_mid(m: &MediaLine) -> Option<Mid>
     ensures { result ≡ section_mid m.now }
@@ -28,7 +28,7 @@ fn section_mid(m: &MediaLine) -> Option<Mid>
 }
 
 /// The message of the first section that has a fault.
-#[tactic(auto, using(crate::proofs::session::SessionFaultLaws::first_quiet))]
+#[tactic(auto, using(crate::proofs::session::SessionFaultLaws::session_fault_first_section_quiet))]
 fn section_message(sections: &[MediaLine]) -> Result<Option<String>, AllocError>
     ensures first { IfOk result (λ message. option_map string_bytes message ≡ sections_message sections.now) }
     ensures takes_no_memory { sections_message sections.now ≡ None → result ≡ Ok None }
@@ -51,7 +51,7 @@ fn is_same_mid(a: Mid, b: Mid) -> bool
 
 /// Whether one of the sections has the mid.
 fn has_mid(sections: &[MediaLine], mid: Mid) -> bool
-    ensures { result ≡ is_listed (section_mids sections.now) (Some mid) }
+    ensures { result ≡ is_group_listed (section_mids sections.now) (Some mid) }
 {
     sections
         .iter()
@@ -60,8 +60,8 @@ fn has_mid(sections: &[MediaLine], mid: Mid) -> bool
 }
 
 /// The first mid that stands again in a later section, by a look at each later one.
-fn scan_shared(sections: &[MediaLine]) -> Option<Mid>
-    ensures { result ≡ first_again (section_mids sections.now) }
+fn scan_shared_session_mid(sections: &[MediaLine]) -> Option<Mid>
+    ensures { result ≡ first_mid_again (section_mids sections.now) }
 {
     let mut left = sections;
     while let Some((section, later)) = left.split_first() {
@@ -97,23 +97,23 @@ fn gather_mids(sections: &[MediaLine], alloc: Global) -> Result<Vec<Mid>, AllocE
 }
 
 /// The first mid that stands again in a later section, by an ordered set.
-fn find_shared(sections: &[MediaLine], alloc: Global) -> Result<Option<Mid>, AllocError>
-    ensures { IfOk result (λ found. found ≡ first_again (section_mids sections.now)) }
+fn find_shared_session_mid(sections: &[MediaLine], alloc: Global) -> Result<Option<Mid>, AllocError>
+    ensures { IfOk result (λ found. found ≡ first_mid_again (section_mids sections.now)) }
 {
     let mids = gather_mids(sections, alloc)?;
-    let found = find_again(mids.as_slice(), alloc)?;
+    let found = find_mid_again(mids.as_slice(), alloc)?;
     Ok(found)
 }
 
 /// The first mid that stands again in a later section.
 fn shared_mid(sections: &Items<MediaLine>) -> Result<Option<Mid>, AllocError>
-    ensures found { IfOk result (λ found. found ≡ first_again (section_mids sections.now)) }
-    ensures takes_no_memory { AreFew sections.now → IsOk result }
+    ensures found { IfOk result (λ found. found ≡ first_mid_again (section_mids sections.now)) }
+    ensures takes_no_memory { AreSectionsFew sections.now → IsOk result }
 {
-    if sections.len() > FEW {
-        return find_shared(sections.as_slice(), *sections.allocator());
+    if sections.len() > FEW_SESSION_MIDS {
+        return find_shared_session_mid(sections.as_slice(), *sections.allocator());
     }
-    Ok(scan_shared(sections.as_slice()))
+    Ok(scan_shared_session_mid(sections.as_slice()))
 }
 
 /// The mids of the first group.
@@ -130,8 +130,8 @@ fn first_group(attrs: &[SessionAttribute]) -> Option<&[Mid]>
     None
 }
 
-fn is_listed(group: &[Mid], mid: Option<Mid>) -> bool
-    ensures { result ≡ is_listed group.now mid }
+fn is_group_listed(group: &[Mid], mid: Option<Mid>) -> bool
+    ensures { result ≡ is_group_listed group.now mid }
 {
     match mid {
         Some(mid) => group.contains(&mid),
@@ -139,47 +139,47 @@ fn is_listed(group: &[Mid], mid: Option<Mid>) -> bool
     }
 }
 
-fn takes_part(group: &[Mid], m: &MediaLine) -> bool
-    ensures { result ≡ takes_part group.now m.now }
+fn takes_part_in_group(group: &[Mid], m: &MediaLine) -> bool
+    ensures { result ≡ takes_part_in_group group.now m.now }
 {
-    !m.disabled || is_listed(group, section_mid(m))
+    !m.disabled || is_group_listed(group, section_mid(m))
 }
 
 /// How many sections take part.
-fn count_parts(group: &[Mid], sections: &[MediaLine]) -> usize
+fn count_group_parts(group: &[Mid], sections: &[MediaLine]) -> usize
     ensures { result ≡ length (mids_in_part group.now sections.now) }
 {
     sections
         .iter()
-        .filter(|m| takes_part(group, m))
+        .filter(|m| takes_part_in_group(group, m))
         .filter_map(|m| section_mid(m))
         .count()
 }
 
 /// The first place where the sections that take part and the group differ.
-fn first_difference(group: &[Mid], sections: &[MediaLine]) -> Option<(Mid, Mid)>
-    ensures { result ≡ first_difference (mids_in_part group.now sections.now) group.now }
+fn first_group_difference(group: &[Mid], sections: &[MediaLine]) -> Option<(Mid, Mid)>
+    ensures { result ≡ first_group_difference (mids_in_part group.now sections.now) group.now }
 {
     sections
         .iter()
-        .filter(|m| takes_part(group, m))
+        .filter(|m| takes_part_in_group(group, m))
         .filter_map(|m| section_mid(m))
         .zip(group.iter().copied())
         .find(|pair| !is_same_mid(pair.0, pair.1))
 }
 
 /// Whether a section takes part in the group whose mids the names are.
-fn is_member(names: &BTreeSet<&str>, m: &MediaLine) -> bool
-    ensures { result ≡ is_member names.now m.now }
+fn is_group_member(names: &BTreeSet<&str>, m: &MediaLine) -> bool
+    ensures { result ≡ is_group_member names.now m.now }
 {
-    !m.disabled || is_held(names, section_mid(m))
+    !m.disabled || is_mid_held(names, section_mid(m))
 }
 
 /// The mid of a section that does.
 fn part_mid(names: &BTreeSet<&str>, m: &MediaLine) -> Option<Mid>
     ensures { result ≡ part_mid names.now m.now }
 {
-    if is_member(names, m) {
+    if is_group_member(names, m) {
         section_mid(m)
     } else {
         None
@@ -187,7 +187,7 @@ fn part_mid(names: &BTreeSet<&str>, m: &MediaLine) -> Option<Mid>
 }
 
 /// The mids of the sections that do, in room that is asked for once.
-fn gather_among(
+fn gather_group_among(
     names: &BTreeSet<&str>,
     sections: &[MediaLine],
     alloc: Global,
@@ -202,22 +202,22 @@ fn gather_among(
 }
 
 /// The mids of the sections that take part, by an ordered set of the group's.
-#[tactic(auto, using(crate::proofs::session::OrderedMids::parts_same))]
-fn gather_parts(
+#[tactic(auto, using(crate::proofs::session::OrderedMids::group_parts_same))]
+fn gather_group_parts(
     group: &[Mid],
     sections: &[MediaLine],
     alloc: Global,
 ) -> Result<Vec<Mid>, AllocError>
     ensures { IfOk result (λ mids. mids.items ≡ mids_in_part group.now sections.now) }
 {
-    let names = names_of(group, alloc)?;
-    let mids = gather_among(&names, sections, alloc)?;
+    let names = mid_names_of(group, alloc)?;
+    let mids = gather_group_among(&names, sections, alloc)?;
     Ok(mids)
 }
 
 /// The first place where two lists of mids differ.
-fn first_unlike(mids: &[Mid], group: &[Mid]) -> Option<(Mid, Mid)>
-    ensures { result ≡ first_difference mids.now group.now }
+fn first_unlike_group_mids(mids: &[Mid], group: &[Mid]) -> Option<(Mid, Mid)>
+    ensures { result ≡ first_group_difference mids.now group.now }
 {
     mids.iter()
         .copied()
@@ -253,8 +253,8 @@ fn find_group_fault(
 ) -> Result<Option<SessionFault>, AllocError>
     ensures { IfOk result (λ fault. fault ≡ listing_fault (mids_in_part group.now sections.now) group.now) }
 {
-    let mids = gather_parts(group, sections, alloc)?;
-    let unlike = first_unlike(mids.as_slice(), group);
+    let mids = gather_group_parts(group, sections, alloc)?;
+    let unlike = first_unlike_group_mids(mids.as_slice(), group);
     Ok(listing_fault(mids.len(), unlike, group))
 }
 
@@ -264,21 +264,21 @@ fn group_fault(
     sections: &Items<MediaLine>,
 ) -> Result<Option<SessionFault>, AllocError>
     ensures fault { IfOk result (λ fault. fault ≡ listing_fault (mids_in_part group.now sections.now) group.now) }
-    ensures takes_no_memory { AreFew sections.now → IsOk result }
+    ensures takes_no_memory { AreSectionsFew sections.now → IsOk result }
 {
     let alloc = *sections.allocator();
     let sections = sections.as_slice();
-    if sections.len() > FEW && group.len() > FEW {
+    if sections.len() > FEW_SESSION_MIDS && group.len() > FEW_SESSION_MIDS {
         return find_group_fault(group, sections, alloc);
     }
-    let count = count_parts(group, sections);
-    Ok(listing_fault(count, first_difference(group, sections), group))
+    let count = count_group_parts(group, sections);
+    Ok(listing_fault(count, first_group_difference(group, sections), group))
 }
 
 /// Finds the first fault between the sections, and between them and the group.
 fn session_fault(sdp: &Sdp) -> Result<Option<SessionFault>, AllocError>
     ensures fault { IfOk result (λ fault. fault ≡ first_session_fault sdp.now) }
-    ensures takes_no_memory { AreFew sdp.now.media_lines → IsOk result }
+    ensures takes_no_memory { AreSectionsFew sdp.now.media_lines → IsOk result }
 {
     let sections = &sdp.media_lines;
     if let Some(mid) = shared_mid(sections)? {
@@ -303,12 +303,12 @@ impl Sdp {
     ///
     /// Time grows as that of a sort of the mids, and with the session's length beside: those of more
     /// than sixteen sections, and of a group of more than sixteen mids, are put in an ordered set.
-    #[tactic(auto, using(crate::proofs::session::SessionFaultLaws::contradictions))]
+    #[tactic(auto, using(crate::proofs::session::SessionFaultLaws::session_fault_contradictions))]
     pub fn assert_consistency(&self) -> Result<(), SdpError>
-        ensures exact { SaysWhether (ConsistentSdp self.now) result }
-        ensures takes_no_memory { AreFew self.now.media_lines → ConsistentSdp self.now → result ≡ Ok tt }
-        ensures named { IfErr result IsContradiction }
-        ensures first { IfErr result (Tells (session_message self.now)) }
+        ensures exact { SaysWhetherConsistent (ConsistentSdp self.now) result }
+        ensures takes_no_memory { AreSectionsFew self.now.media_lines → ConsistentSdp self.now → result ≡ Ok tt }
+        ensures named { IfErr result IsSessionContradiction }
+        ensures first { IfErr result (TellsSessionContradiction (session_message self.now)) }
     {
         if let Some(message) = section_message(self.media_lines.as_slice())? {
             return Err(SdpError::Inconsistent(message));

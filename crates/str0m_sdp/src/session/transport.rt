@@ -5,7 +5,7 @@ ghost use Rattle.str0m_sdp.specs.Common.{first};
 ghost use Rattle.str0m_sdp.specs.Prelude.{Fingerprint};
 ghost use Rattle.str0m_sdp.specs.declared.attribute.setup.Setup.{Setup};
 ghost use Rattle.str0m_sdp.specs.session.Candidates.{session_candidate, media_candidate};
-ghost use Rattle.str0m_sdp.specs.session.Transport.{session_setup, session_ufrag, session_pwd, session_fingerprint, session_ends, media_setup, media_ufrag, media_pwd, media_fingerprint, media_ends, creds, lent_creds};
+ghost use Rattle.str0m_sdp.specs.session.Transport.{session_setup, session_ufrag, session_pwd, session_fingerprint, session_ends, media_setup, media_ufrag, media_pwd, media_fingerprint, media_ends, creds, lent_transport_creds};
 ghost use Rattle.str0m_values.specs.declared.candidate.Candidate.{Candidate as CandidateValue};
 
 use crate::attribute::setup::Setup;
@@ -179,15 +179,17 @@ pub(crate) fn ends<A: TransportAttribute>(attrs: &[A]) -> bool
 }
 
 /// The first fragment and the first password, where there are both.
-pub(crate) fn first_creds<A: TransportAttribute>(attrs: &[A]) -> Option<(&Text, &Text)>
-    ensures { option_map lent_creds result ≡ creds (first (filter_map A.ufrag attrs.now)) (first (filter_map A.pwd attrs.now)) }
+pub(crate) fn first_transport_creds<A: TransportAttribute>(attrs: &[A]) -> Option<(&Text, &Text)>
+    ensures { option_map lent_transport_creds result ≡ creds (first (filter_map A.ufrag attrs.now)) (first (filter_map A.pwd attrs.now)) }
 {
     first_ufrag(attrs).zip(first_pwd(attrs))
 }
 
 /// A copy of credentials.
-pub(crate) fn copied_creds(found: Option<(&Text, &Text)>) -> Result<Option<IceCreds>, AllocError>
-    ensures { IfOk result (λ copy. copy ≡ option_map lent_creds found.entry) }
+pub(crate) fn copied_transport_creds(
+    found: Option<(&Text, &Text)>,
+) -> Result<Option<IceCreds>, AllocError>
+    ensures { IfOk result (λ copy. copy ≡ option_map lent_transport_creds found.entry) }
 {
     let Some((ufrag, pass)) = found else {
         return Ok(None);

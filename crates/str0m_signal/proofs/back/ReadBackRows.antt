@@ -1,14 +1,14 @@
 -- The last part of the headline: plain, distinct rows, printed in a writable session, are read back, in order.
 use Rattle.str0m_sdp.proofs.{DescribesRows}
 use Rattle.str0m_signal.proofs.Common.{rules, ◌≡◌, ◌≢◌, ◌<◌, ◌^◌, ℕ, true, List, [], ◌∷◌, length, refl, sym, ◌∙◌, subst, recursion_from_All}
-use Rattle.str0m_signal.proofs.Common.{same_Some, HoldsRowNumbers, types, AllDistinct, PayloadParams, is_media, MediaLine, Sdp}
-use Rattle.str0m_signal.proofs.Common.{values_printed, IsPlain, All, describes_read_back}
+use Rattle.str0m_signal.proofs.Common.{same_Some, HoldsRowNumbers, types, AllTypesDistinct, PayloadParams, is_media, MediaLine, Sdp}
+use Rattle.str0m_signal.proofs.Common.{values_printed, IsPlain, All, section_describes_read_back}
 use Rattle.str0m_signal.proofs.back.ReadBackPlainRows.{types_fit, plain_rows_read}
 use Rattle.str0m_signal.proofs.back.ReadBackWithRows.{section_read, ReadWithRows, with_rows_read}
 use Rattle.str0m_signal.proofs.back.WritableAgainLaws.{read_is_writable}
 use Rattle.str0m_signal.specs.back.ReadBack.{ReadBack, MayBePrinted, ReadsBack}
 use Rattle.str0m_signal.specs.back.Writable.{Writable}
-use Rattle.str0m_signal.specs.back.WritableAgain.{IsOverSrtp, IsRead, MayBeWrittenAgain}
+use Rattle.str0m_signal.specs.back.WritableAgain.{IsWritableOverSrtp, IsRead, MayBeWrittenAgain}
 
 section_reads_back : (sdp : Sdp) (i : ℕ) (w : Writable sdp i) (theirs : List PayloadParams) → sdp.session.id < 2 ^ 64
     → is_media w.section.typ ≡ true → MayBePrinted theirs → All HoldsRowNumbers theirs → ReadBack sdp i w.section theirs
@@ -19,7 +19,7 @@ section_reads_back sdp i w (first ∷ more) small media may holds =
     let frame = w.own.2 in
     let plain = recursion_from_All IsPlain theirs may.plain in
     let d : DescribesRows m theirs =
-    describes_read_back m w.own.0.attrs theirs
+    section_describes_read_back m w.own.0.attrs theirs
     (record { bare = frame.none_of_type; mid = frame.mid; setup = frame.setup; direction = λ srtp. frame.direction })
     refl refl may.plain holds may.distinct may.some in
     let found : ReadWithRows sdp i w.section m theirs =
@@ -43,7 +43,7 @@ reads_back sdp i w theirs may = λ frame at media fit.
 
 -- so are they in each section over Srtp of every session that was read
 pub back_in_readings : (theirs : List PayloadParams) → MayBePrinted theirs → (sdp : Sdp) (i : ℕ) → IsRead sdp → MayBeWrittenAgain sdp
-    → IsOverSrtp sdp i → ReadsBack sdp i theirs
+    → IsWritableOverSrtp sdp i → ReadsBack sdp i theirs
 back_in_readings theirs may sdp i read fits at = reads_back sdp i (read_is_writable sdp i read fits at) theirs may
 
 some_left : (before after : List PayloadParams) → length after ≡ length before → before ≢ [] → after ≢ []
@@ -52,6 +52,6 @@ some_left (row ∷ rows) [] e some = let d = e in absurd cc
 some_left (row ∷ rows) (first ∷ more) e some = λ none. absurd cc
 
 -- rows that stay as many, plain and distinct may be printed still
-pub still_printable : (before after : List PayloadParams) → length after ≡ length before → (All IsPlain before → All IsPlain after)
-    → (AllDistinct (types before) → AllDistinct (types after)) → MayBePrinted before → MayBePrinted after
-still_printable before after e plain distinct may = search (rules, some_left)
+pub rows_still_printable : (before after : List PayloadParams) → length after ≡ length before → (All IsPlain before → All IsPlain after)
+    → (AllTypesDistinct (types before) → AllTypesDistinct (types after)) → MayBePrinted before → MayBePrinted after
+rows_still_printable before after e plain distinct may = search (rules, some_left)

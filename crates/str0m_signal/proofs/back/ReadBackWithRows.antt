@@ -4,27 +4,28 @@ use Rattle.str0m_signal.proofs.Common.{◌≡◌, ◌≢◌, ◌<◌, ◌^◌, i
 use Rattle.str0m_signal.proofs.Common.{AllByRecursion, flat_map, slice_get, types, FormatParam, PayloadParams, session_attribute_text}
 use Rattle.str0m_signal.proofs.Common.{Consistent, is_media, row_attrs, is_of_type, sdp_text, MediaLine, Sdp, reads, slice_set, not, filter}
 use Rattle.str0m_signal.proofs.Common.{made}
-use Rattle.str0m_signal.proofs.back.ReadBackRowLines.{ReadAs, joins, rows_read}
+use Rattle.str0m_signal.proofs.back.ReadBackRowLines.{ReadAs, read_as_joined, rows_read}
 use Rattle.str0m_signal.proofs.session.AttributesPrinted.{LinesReadAs}
 use Rattle.str0m_signal.proofs.session.ReaderPrinted.{read_of, reading_printed}
 use Rattle.str0m_signal.proofs.session.SectionLines.{AreTypes, head_printed}
 use Rattle.str0m_signal.proofs.session.Sections.{SectionReadAs, AreSectionsRead}
 use Rattle.str0m_signal.specs.back.ReadBack.{with_rows}
 use Rattle.str0m_signal.specs.back.Writable as writable
-use Rattle.str0m_signal.specs.back.Writable.{Writable, frame_of}
+use Rattle.str0m_signal.specs.back.Writable.{Writable, writable_frame_of}
 use Rattle.str0m_signal.specs.form.SessionAttribute.{IsSessionLine}
 use Rattle.str0m_signal.specs.session.Reader.{Reading}
 
 -- ---- what is read, without what goes with it
 
-plainly : {X : Type 0} (text : X → List ℕ) (F : List ℕ → X → Type 0) (GoesWith : X → X → Type 0) (xs reads : List X)
+read_back_plainly : {X : Type 0} (text : X → List ℕ) (F : List ℕ → X → Type 0) (GoesWith : X → X → Type 0) (xs reads : List X)
     → writable.AreReadAs text F GoesWith xs reads → LinesReadAs text F xs reads
-plainly text F GoesWith [] reads h = h
-plainly text F GoesWith (x ∷ xs) reads (inl nothing) = inl (nothing.0, plainly text F GoesWith xs reads nothing.1)
-plainly text F GoesWith (x ∷ xs) reads (inr (read, more, e, line, goes, later)) = grind (arith, plainly text F GoesWith xs more later)
+read_back_plainly text F GoesWith [] reads h = h
+read_back_plainly text F GoesWith (x ∷ xs) reads (inl nothing) = inl (nothing.0, read_back_plainly text F GoesWith xs reads nothing.1)
+read_back_plainly text F GoesWith (x ∷ xs) reads (inr (read, more, e, line, goes, later)) = grind
+    (arith, read_back_plainly text F GoesWith xs more later)
 
 section_read_as : (m read : MediaLine) → writable.IsMediaReadAs m read → SectionReadAs m read
-section_read_as m read h = grind (arith, plainly)
+section_read_as m read h = grind (arith, read_back_plainly)
 
 -- ---- all sections, and another in the place of one
 
@@ -41,14 +42,14 @@ sections_all_read (m ∷ ms) each =
     (one.0 ∷ more.0, (section_read_as m one.0 one.1, one.2, more.1))
 
 -- the sections as they are read, where the i-th is another
-record Placed (ms : List MediaLine) (i : ℕ) (x read : MediaLine) : Type 0 where
+record PlacedSections (ms : List MediaLine) (i : ℕ) (x read : MediaLine) : Type 0 where
   sections : List MediaLine
   are : AreSectionsRead (slice_set ms i x) sections
   at : slice_get sections i ≡ Some read
 
 placed_read : (ms : List MediaLine) (i : ℕ) (section x read : MediaLine) → slice_get ms i ≡ Some section → SectionReadAs x read
     → Consistent read
-    → ((j : ℕ) (m : MediaLine) → slice_get ms j ≡ Some m → j ≢ i → IsReadConsistent m) → Placed ms i x read
+    → ((j : ℕ) (m : MediaLine) → slice_get ms j ≡ Some m → j ≢ i → IsReadConsistent m) → PlacedSections ms i x read
 placed_read [] i section x read e h consistent others = absurd cc
 placed_read (m ∷ ms) zero section x read e h consistent others =
     let more = sections_all_read ms (λ j n f. others (suc j) n f (λ same. absurd (omega (arith, same)))) in
@@ -83,13 +84,13 @@ with_rows_read sdp i w row rows values small media fits each consistent =
     let theirs = row ∷ rows in
     let m = made w.section theirs in
     let own = section_read w.section w.own.0 theirs values in
-    let frame = section_read_as (frame_of w.section) w.own.0 w.own.1 in
+    let frame = section_read_as (writable_frame_of w.section) w.own.0 w.own.1 in
     let is : SectionReadAs m own = record {
       same = refl;
       head = head_printed m media row.pt _ refl fits;
       bandwidth = frame.bandwidth;
       attributes =
-          joins (filter (λ attr. not (is_of_type attr)) w.section.attrs) (flat_map row_attrs theirs) w.own.0.attrs
+          read_as_joined (filter (λ attr. not (is_of_type attr)) w.section.attrs) (flat_map row_attrs theirs) w.own.0.attrs
           (flat_map (λ r. reads r (values r)) theirs)
           frame.attributes (rows_read theirs values each);
     } in
@@ -98,6 +99,7 @@ with_rows_read sdp i w row rows values small media fits each consistent =
       read = read_of sdp w.session.0 sections.sections;
       whole =
           reading_printed (with_rows sdp i w.section theirs) w.session.0 sections.sections small w.bandwidth
-          (plainly session_attribute_text IsSessionLine writable.SessionGoesWith sdp.session.attrs w.session.0 w.session.1) sections.are;
+          (read_back_plainly session_attribute_text IsSessionLine writable.SessionGoesWith sdp.session.attrs w.session.0 w.session.1)
+          sections.are;
       at = sections.at;
     }

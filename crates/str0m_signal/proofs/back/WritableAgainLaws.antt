@@ -1,15 +1,16 @@
 -- A session that was read is writable where it may be printed again.
 use Rattle.str0m_signal.proofs.Common.{rules, arith, ◌≡◌, ℕ, zero, suc, not, List, [], ◌∷◌, filter, Some, IfSome, refl, subst, inl, inr}
-use Rattle.str0m_signal.proofs.Common.{codes, AllByRecursion, slice_get, cases_Bool, some_is, session_attribute_text, Consistent}
+use Rattle.str0m_signal.proofs.Common.{codes, AllByRecursion, slice_get, cases_Bool, cuts_some_is, session_attribute_text, Consistent}
 use Rattle.str0m_signal.proofs.Common.{is_of_type, MediaAttribute, SessionAttribute, MediaLine, Srtp, Sdp}
 use Rattle.str0m_signal.proofs.form.MediaAttributeAgain.{ComesBack, media_again}
 use Rattle.str0m_signal.proofs.form.SessionAttributeAgain.{session_again}
-use Rattle.str0m_signal.proofs.line.LinesAgain.{IsFine, IsOnLine, one_line, chain_lines, taken_line, behind_is, bandwidth_again, head_of}
+use Rattle.str0m_signal.proofs.line.LinesAgain.{AreFineLines, IsOnLine, one_line, chain_lines, taken_line, line_behind_is, bandwidth_again}
+use Rattle.str0m_signal.proofs.line.LinesAgain.{head_of}
 use Rattle.str0m_signal.proofs.line.LinesAgain.{head_again}
 use Rattle.str0m_signal.proofs.line.WordsCharacterStarts.{StartsWithin, of_utf8}
 use Rattle.str0m_signal.proofs.session.SectionAgain.{are_again, consistent_again, frame_again}
-use Rattle.str0m_signal.specs.back.Writable.{AreReadAs, SessionGoesWith, IsMediaReadAs, IsFrame, Writable, frame_of}
-use Rattle.str0m_signal.specs.back.WritableAgain.{FitsKind, FitsAgain, SectionFitsAgain, MayBeWrittenAgain, IsOverSrtp, IsRead}
+use Rattle.str0m_signal.specs.back.Writable.{AreReadAs, SessionGoesWith, IsMediaReadAs, IsFrame, Writable, writable_frame_of}
+use Rattle.str0m_signal.specs.back.WritableAgain.{FitsKind, FitsAgain, SectionFitsAgain, MayBeWrittenAgain, IsWritableOverSrtp, IsRead}
 use Rattle.str0m_signal.specs.form.MediaAttribute.{IsMediaLine}
 use Rattle.str0m_signal.specs.form.SessionAttribute.{IsSessionLine}
 use Rattle.str0m_signal.specs.line.Lines.{Chain, Line}
@@ -26,7 +27,8 @@ record WasRead (m : MediaLine) : Type 0 where
   attributes : AllByRecursion (IsOnLine IsMediaLine) m.attrs
   consistent : Consistent m
 
-was_read : (lines : List Line) (m : MediaLine) (rest : List Line) → IsFine lines → ConsistentSection lines m rest → WasRead m × IsFine rest
+was_read : (lines : List Line) (m : MediaLine) (rest : List Line) → AreFineLines lines → ConsistentSection lines m rest
+    → WasRead m × AreFineLines rest
 was_read lines m rest are h =
     let section = h.0 in
     let head = one_line IsHead lines (head_of m) section.after_head are section.head_is in
@@ -36,7 +38,7 @@ was_read lines m rest are h =
     let attributes = chain_lines IsMediaLine section.after_bandwidth m.attrs rest bandwidth.1 section.attributes_are.0 in
     (record { head = head.0; bandwidth = bandwidth.0; attributes = attributes.0; consistent = h.1 }, attributes.1)
 
-were_read : (lines : List Line) (ms : List MediaLine) (rest : List Line) → IsFine lines → Chain ConsistentSection lines ms rest
+were_read : (lines : List Line) (ms : List MediaLine) (rest : List Line) → AreFineLines lines → Chain ConsistentSection lines ms rest
     → AllByRecursion WasRead ms
 were_read lines [] rest are h = tt
 were_read lines (m ∷ ms) rest are h = grind (arith, was_read lines m h.0 are h.1, were_read h.0 ms rest)
@@ -45,7 +47,7 @@ come_back : (attrs : List MediaAttribute) → AllByRecursion (IsOnLine IsMediaLi
     → AllByRecursion ComesBack attrs
 come_back [] lines may = tt
 come_back (x ∷ xs) ((content, quiet, starts, (text, e, form)), lines) may =
-    search (rules, behind_is content text e quiet starts, media_again text x, come_back xs lines may.1)
+    search (rules, line_behind_is content text e quiet starts, media_again text x, come_back xs lines may.1)
 
 -- the section's lines are read as a consistent one
 section_again : (m : MediaLine) → WasRead m → FitsKind m.typ m.proto m.pts → AllByRecursion FitsAgain m.attrs
@@ -65,11 +67,11 @@ frame_comes_back (x ∷ xs) all = grind (arith, cases_Bool, frame_comes_back xs 
 
 -- so is its frame, over Srtp
 own_again : (m : MediaLine) → WasRead m → FitsKind m.typ m.proto m.pts → AllByRecursion FitsAgain m.attrs → m.proto ≡ Srtp
-    → (read : MediaLine) × IsMediaReadAs (frame_of m) read × IsFrame read
+    → (read : MediaLine) × IsMediaReadAs (writable_frame_of m) read × IsFrame read
 own_again m was fits may over =
     let head = head_again m fits was.head in
-    let attrs = are_again (frame_of m).attrs (frame_comes_back m.attrs (come_back m.attrs was.attributes may)) in (
-      record (frame_of m) { pts = head.0; attrs = attrs.0 },
+    let attrs = are_again (writable_frame_of m).attrs (frame_comes_back m.attrs (come_back m.attrs was.attributes may)) in (
+      record (writable_frame_of m) { pts = head.0; attrs = attrs.0 },
       record { same = refl; head = head.1; bandwidth = bandwidth_again m.bw was.bandwidth; attributes = attrs.2 },
       frame_again m head.0 attrs.0 attrs.1 over was.consistent,
     )
@@ -82,7 +84,7 @@ record SessionWasRead (sdp : Sdp) : Type 0 where
   attributes : AllByRecursion (IsOnLine IsSessionLine) sdp.session.attrs
   sections : AllByRecursion WasRead sdp.media_lines
 
-session_was_read : (lines : List Line) (sdp : Sdp) (rest : List Line) → IsFine lines → IsReading lines sdp rest → SessionWasRead sdp
+session_was_read : (lines : List Line) (sdp : Sdp) (rest : List Line) → AreFineLines lines → IsReading lines sdp rest → SessionWasRead sdp
 session_was_read lines sdp rest are reading =
     let session = reading.session_is in
     let header = session.header_is in
@@ -108,22 +110,22 @@ session_attributes : (attrs : List SessionAttribute) → AllByRecursion (IsOnLin
     → AreReadAs session_attribute_text IsSessionLine SessionGoesWith attrs attrs
 session_attributes [] lines = refl
 session_attributes (x ∷ xs) ((content, quiet, starts, (text, e, form)), lines) =
-    let own = behind_is content text e quiet starts in
+    let own = line_behind_is content text e quiet starts in
     inr (x, xs, refl, session_again text x own.quiet own.starts form, inl refl, session_attributes xs lines)
 
-AllByRecursion-at : {A : Type 0} (P : A → Type 0) (xs : List A) → AllByRecursion P xs → (j : ℕ) (x : A) → slice_get xs j ≡ Some x → P x
-AllByRecursion-at P [] all j x e = absurd cc
-AllByRecursion-at P (y ∷ ys) all zero x e = subst P (some_is y x e) all.0
-AllByRecursion-at P (y ∷ ys) all (suc j) x e = AllByRecursion-at P ys all.1 j x e
+writable_all_at : {A : Type 0} (P : A → Type 0) (xs : List A) → AllByRecursion P xs → (j : ℕ) (x : A) → slice_get xs j ≡ Some x → P x
+writable_all_at P [] all j x e = absurd cc
+writable_all_at P (y ∷ ys) all zero x e = subst P (cuts_some_is y x e) all.0
+writable_all_at P (y ∷ ys) all (suc j) x e = writable_all_at P ys all.1 j x e
 
 -- a session that was read is writable at each section over Srtp
-pub read_is_writable : (sdp : Sdp) (i : ℕ) → IsRead sdp → MayBeWrittenAgain sdp → IsOverSrtp sdp i → Writable sdp i
+pub read_is_writable : (sdp : Sdp) (i : ℕ) → IsRead sdp → MayBeWrittenAgain sdp → IsWritableOverSrtp sdp i → Writable sdp i
 read_is_writable sdp i (text, rest, utf8, (lines, behind, (whole, are), reading, left)) may (m, at, over) =
     let was = session_was_read lines sdp behind (are, subst (StartsWithin 3) whole (of_utf8 text utf8)) reading in
     let fits : (j : ℕ) (x : MediaLine) → slice_get sdp.media_lines j ≡ Some x → SectionFitsAgain x
-    = λ j x e. AllByRecursion-at SectionFitsAgain sdp.media_lines may j x e in
+    = λ j x e. writable_all_at SectionFitsAgain sdp.media_lines may j x e in
     let read : (j : ℕ) (x : MediaLine) → slice_get sdp.media_lines j ≡ Some x → WasRead x
-    = λ j x e. AllByRecursion-at WasRead sdp.media_lines was.sections j x e in
+    = λ j x e. writable_all_at WasRead sdp.media_lines was.sections j x e in
     record {
       section = m;
       at = at;

@@ -1,13 +1,13 @@
 -- When a session is writable, by what its parts come back as.
 use Rattle.std.proofs.lemmas.List.Folds.{list_any_at, list_any_none}
-use Rattle.str0m_sdp.proofs.{frame_agrees}
+use Rattle.str0m_sdp.proofs.{section_frame_agrees}
 use Rattle.str0m_signal.proofs.Common.{◌≡◌, ◌≢◌, ◌<◌, ◌≤◌, ◌+◌, ℕ, Bool, true, false, not, List, [], length, get_or, Option, Some, None}
 use Rattle.str0m_signal.proofs.Common.{IfSome, refl, sym, ap, ◌∙◌, true≢false, ◌↔◌, IsTrue, list_any, slice_get, cases_Bool, cases_lt}
 use Rattle.str0m_signal.proofs.Common.{none-some, same_Some, slice_get_read, IsTheOnly, session_attribute_text, bandwidth_text, Consistent}
 use Rattle.str0m_signal.proofs.Common.{is_of_type, MediaAttribute, SessionAttribute, Bandwidth, MediaLine, Sdp, Srtp, arith, is_some, All}
-use Rattle.str0m_signal.proofs.Common.{slice_get_within, NoneIff}
-use Rattle.str0m_signal.specs.back.Writable.{AreReadAs, HasTypes, IsFrame, IsPrintedAs, IsMediaReadAs, MediaAreReadAs, SessionGoesWith}
-use Rattle.str0m_signal.specs.back.Writable.{Writable, frame_of}
+use Rattle.str0m_signal.proofs.Common.{slice_get_within, NoSectionFaultIff}
+use Rattle.str0m_signal.specs.back.Writable.{AreReadAs, HasTypes, IsFrame, IsReadBackLine, IsMediaReadAs, MediaAreReadAs, SessionGoesWith}
+use Rattle.str0m_signal.specs.back.Writable.{Writable, writable_frame_of}
 use Rattle.str0m_signal.specs.form.SessionAttribute.{IsSessionLine}
 use Rattle.str0m_signal.specs.session.Section.{Head, IsBandwidth}
 
@@ -18,15 +18,15 @@ module _ {A : Type 0} {P : A → Type 0} where
   pub back_same : (read asked : A) {T : Type 0} → IsTheOnly P (Some read) → T ↔ (read ≡ asked) → T ↔ P asked
   back_same read asked only is = grind arith
 
-  pub lost_same : (asked : A) → IsTheOnly P None → IsTrue false ↔ P asked
-  lost_same asked none = (λ h. absurd (true≢false (sym h)), λ p. absurd (none-some asked (none.only asked p)))
+  pub writable_lost_same : (asked : A) → IsTheOnly P None → IsTrue false ↔ P asked
+  writable_lost_same asked none = (λ h. absurd (true≢false (sym h)), λ p. absurd (none-some asked (none.only asked p)))
 
   -- stands beside another promise
   pub back_beside : (read : A) {Q T : Type 0} → IsTheOnly P (Some read) → T ↔ Q → T ↔ (((x : A) × P x) × Q)
   back_beside read only is = (λ t. ((read, only.found), is.0 t), λ h. is.1 h.1)
 
-  pub lost_beside : {Q : Type 0} → IsTheOnly P None → IsTrue false ↔ (((x : A) × P x) × Q)
-  lost_beside none = (λ h. absurd (true≢false (sym h)), λ h. absurd (none-some h.0.0 (none.only h.0.0 h.0.1)))
+  pub writable_lost_beside : {Q : Type 0} → IsTheOnly P None → IsTrue false ↔ (((x : A) × P x) × Q)
+  writable_lost_beside none = (λ h. absurd (true≢false (sym h)), λ h. absurd (none-some h.0.0 (none.only h.0.0 h.0.1)))
 
 -- ---- the m-line
 
@@ -49,7 +49,7 @@ module _ (m : MediaLine) (F : Head → Type 0) where
 -- ---- a section
 
 abbrev pub BandwidthComesBack : Option Bandwidth → Type 0
-BandwidthComesBack bw = IfSome bw (λ bw. IsPrintedAs IsBandwidth (bandwidth_text bw) bw)
+BandwidthComesBack bw = IfSome bw (λ bw. IsReadBackLine IsBandwidth (bandwidth_text bw) bw)
 
 module _ (m : MediaLine) where
   pub bandwidth_lost : ¬ BandwidthComesBack m.bw → IsTheOnly (IsMediaReadAs m) None
@@ -70,24 +70,25 @@ module _ (m : MediaLine) where
 
 -- ---- consistency, told by no fault
 
-pub told_by : {A : Type 0} (fault : Option A) (P : Type 0) (answer : Bool) → NoneIff fault P → is_some fault ≡ not answer
+pub writable_told_by : {A : Type 0} (fault : Option A) (P : Type 0) (answer : Bool) → NoSectionFaultIff fault P → is_some fault ≡ not answer
     → IsTrue answer ↔ P
-told_by fault P answer told is = grind arith
+writable_told_by fault P answer told is = grind arith
 
 -- ---- a frame, by the consistency of a section without payload types
 
 -- the section over Srtp that is disabled and has no payload types
-abbrev pub disabled_copy : MediaLine → MediaLine
-disabled_copy m = record m { disabled = true; proto = Srtp; pts = [] }
+abbrev pub disabled_frame_copy : MediaLine → MediaLine
+disabled_frame_copy m = record m { disabled = true; proto = Srtp; pts = [] }
 
-none_of : (attrs : List MediaAttribute) → list_any is_of_type attrs ≡ false → All (λ attr. is_of_type attr ≡ false) attrs
-none_of attrs none = grind (arith, cases_Bool, list_any_at)
+writable_none_of : (attrs : List MediaAttribute) → list_any is_of_type attrs ≡ false → All (λ attr. is_of_type attr ≡ false) attrs
+writable_none_of attrs none = grind (arith, cases_Bool, list_any_at)
 
-pub frame_alone : (m : MediaLine) {T : Type 0} → list_any is_of_type m.attrs ≡ false → T ↔ Consistent (disabled_copy m) → T ↔ IsFrame m
-frame_alone m none is = grind (arith, none_of, frame_agrees)
+pub writable_frame_alone : (m : MediaLine) {T : Type 0} → list_any is_of_type m.attrs ≡ false → T ↔ Consistent (disabled_frame_copy m)
+    → T ↔ IsFrame m
+writable_frame_alone m none is = grind (arith, writable_none_of, section_frame_agrees)
 
-pub no_frame : (m : MediaLine) → list_any is_of_type m.attrs ≡ true → IsTrue false ↔ IsFrame m
-no_frame m some = grind (arith, list_any_none)
+pub no_writable_frame : (m : MediaLine) → list_any is_of_type m.attrs ≡ true → IsTrue false ↔ IsFrame m
+no_writable_frame m some = grind (arith, list_any_none)
 
 -- ---- the other sections
 
@@ -95,25 +96,26 @@ abbrev pub FrameComesBack : MediaLine → Type 0
 FrameComesBack m = (read : MediaLine) × IsMediaReadAs m read × Consistent read
 
 -- those before a place
-abbrev pub OthersBefore : List MediaLine → ℕ → ℕ → Type 0
-OthersBefore sections own i = (j : ℕ) (m : MediaLine) → j < i → slice_get sections j ≡ Some m → j ≢ own → FrameComesBack m
+abbrev pub OtherLinesBefore : List MediaLine → ℕ → ℕ → Type 0
+OtherLinesBefore sections own i = (j : ℕ) (m : MediaLine) → j < i → slice_get sections j ≡ Some m → j ≢ own → FrameComesBack m
 
 -- all
-abbrev pub Others : List MediaLine → ℕ → Type 0
-Others sections own = (j : ℕ) (m : MediaLine) → slice_get sections j ≡ Some m → j ≢ own → FrameComesBack m
+abbrev pub OthersComeBack : List MediaLine → ℕ → Type 0
+OthersComeBack sections own = (j : ℕ) (m : MediaLine) → slice_get sections j ≡ Some m → j ≢ own → FrameComesBack m
 
-pub others_more : (sections : List MediaLine) (own i : ℕ) (m : MediaLine) → i < length sections → m ≡ get_or sections i m
+pub writable_others_more : (sections : List MediaLine) (own i : ℕ) (m : MediaLine) → i < length sections → m ≡ get_or sections i m
     → (i ≢ own → FrameComesBack m)
-    → OthersBefore sections own i → OthersBefore sections own (i + 1)
-others_more sections own i m lt at back before = grind (arith, cases_lt, slice_get_read, same_Some)
+    → OtherLinesBefore sections own i → OtherLinesBefore sections own (i + 1)
+writable_others_more sections own i m lt at back before = grind (arith, cases_lt, slice_get_read, same_Some)
 
-pub one_lost : (sections : List MediaLine) (own i : ℕ) (m : MediaLine) → i < length sections → m ≡ get_or sections i m → i ≢ own
+pub writable_one_section_lost : (sections : List MediaLine) (own i : ℕ) (m : MediaLine) → i < length sections → m ≡ get_or sections i m
+    → i ≢ own
     → ¬ FrameComesBack m
-    → IsTrue false ↔ Others sections own
-one_lost sections own i m lt at other lost = grind (arith, slice_get_read)
+    → IsTrue false ↔ OthersComeBack sections own
+writable_one_section_lost sections own i m lt at other lost = grind (arith, slice_get_read)
 
-pub all_back : (sections : List MediaLine) (own i : ℕ) → length sections ≤ i → OthersBefore sections own i
-    → IsTrue true ↔ Others sections own
+pub all_back : (sections : List MediaLine) (own i : ℕ) → length sections ≤ i → OtherLinesBefore sections own i
+    → IsTrue true ↔ OthersComeBack sections own
 all_back sections own i end before = grind (arith, slice_get_within)
 
 -- ---- all of it
@@ -121,8 +123,8 @@ all_back sections own i end before = grind (arith, slice_get_within)
 pub writable_with : (sdp : Sdp) (i : ℕ) (section : MediaLine) → slice_get sdp.media_lines i ≡ Some section
     → ((reads : List SessionAttribute) × AreReadAs session_attribute_text IsSessionLine SessionGoesWith sdp.session.attrs reads)
     × BandwidthComesBack sdp.session.bw
-    → ((read : MediaLine) × IsMediaReadAs (frame_of section) read × IsFrame read) → {T : Type 0}
-    → T ↔ Others sdp.media_lines i
+    → ((read : MediaLine) × IsMediaReadAs (writable_frame_of section) read × IsFrame read) → {T : Type 0}
+    → T ↔ OthersComeBack sdp.media_lines i
     → T ↔ Writable sdp i
 writable_with sdp i section at session own is = (
   (λ t. record { section = section; at = at; session = session.0; bandwidth = session.1; others = is.0 t; own = own }),

@@ -3,17 +3,22 @@ use Rattle.std.proofs.Math.Nat.{pow-le-pow_right}
 use Rattle.std.proofs.lemmas.Int.Digits.{digits_value-lt}
 use Rattle.str0m_signal.proofs.Common.{rules, ◌≡◌, ◌≢◌, ◌≤◌, ◌<◌, ◌^◌, ℕ, zero, suc, List, [], ◌∷◌, ◌++◌, Option, Some, None, IfSome, refl}
 use Rattle.str0m_signal.proofs.Common.{sym, subst, arith, lit<, lit≤, inl, inr, codes, digit_value, decimal, AllByRecursion}
-use Rattle.str0m_signal.proofs.Common.{IsCandidateText, candidate_text, Parted, Lacks, IsWord, some_is, Lacks-append, lacks_both, replicate}
-use Rattle.str0m_signal.proofs.Common.{AllDigits, IsOctet, IsHexGroup, IsOneGroup, IsEnd, AreGroups, AreAnyGroups, IsIpText, IsSocket}
-use Rattle.str0m_signal.proofs.Common.{IsRelated, AreIceNames, IsSocketInRange, IsPrintable, socket_text, related_text, extras_text}
+use Rattle.str0m_signal.proofs.Common.{IsCandidateText, candidate_text, PartedAddress, Lacks, IsWord, cuts_some_is, LacksCut-append}
+use Rattle.str0m_signal.proofs.Common.{address_lacks_both}
+use Rattle.str0m_signal.proofs.Common.{replicate}
+use Rattle.str0m_signal.proofs.Common.{AllDigits, IsOctet, IsHexGroup, IsOneAddressGroup, IsAddressEnd, AreAddressGroups}
+use Rattle.str0m_signal.proofs.Common.{AreAnyAddressGroups, IsIpText}
+use Rattle.str0m_signal.proofs.Common.{IsCandidateSocket}
+use Rattle.str0m_signal.proofs.Common.{IsRelatedAddress, AreIceNames, IsCandidateSocketInRange, IsPrintable, socket_text, related_text}
+use Rattle.str0m_signal.proofs.Common.{extras_text}
 use Rattle.str0m_signal.proofs.Common.{octet_pairs, ip_text}
-use Rattle.str0m_signal.proofs.form.FmtpPrinted.{behind_lacks}
-use Rattle.str0m_signal.proofs.session.AttributesPrinted.{HoldsNoEnd, no_end, no_ends, decimal_lacks, decimal_no_end}
+use Rattle.str0m_signal.proofs.form.FmtpPrinted.{fmtp_behind_lacks}
+use Rattle.str0m_signal.proofs.session.AttributesPrinted.{HoldsNoEnd, no_end, no_ends, attribute_decimal_lacks, decimal_no_end}
 use Rattle.str0m_values.proofs.AddressText.{ip_printed}
 use Rattle.str0m_values.proofs.CandidateText.{printed_candidate}
-use Rattle.str0m_values.specs.Address.{IsInRange}
+use Rattle.str0m_values.specs.Address.{IsAddressInRange}
 use Rattle.str0m_values.specs.CandidateKind.{kind_text}
-use Rattle.str0m_values.specs.Labels.{IsSame, IsLabelled, optional_text}
+use Rattle.str0m_values.specs.Labels.{IsSameLabel, IsLabelled, optional_text}
 use Rattle.str0m_values.specs.Protocol.{protocol_text, tcp_type_text}
 use Rattle.str0m_values.specs.declared.address.IpAddr.{IpAddr}
 use Rattle.str0m_values.specs.declared.address.IpAddr.TheVariants.{V4, V6}
@@ -29,119 +34,133 @@ use Rattle.str0m_values.specs.declared.protocol.TcpType.{TcpType}
 small_group : (text : List ℕ) (n : ℕ) → IsHexGroup text n → n < 2 ^ 16
 small_group text n h = grind (arith, digits_value-lt, pow-le-pow_right)
 
-abbrev AreSmall : ℕ → List ℕ → Type 0
-AreSmall limit ns = AllByRecursion (λ n. n < limit) ns
+abbrev AreCandidateNumbersSmall : ℕ → List ℕ → Type 0
+AreCandidateNumbersSmall limit ns = AllByRecursion (λ n. n < limit) ns
 
-all_small : (limit : ℕ) (xs ys : List ℕ) → AreSmall limit xs → AreSmall limit ys → AreSmall limit (xs ++ ys)
-all_small limit [] ys h k = k
-all_small limit (x ∷ xs) ys h k = (h.0, all_small limit xs ys h.1 k)
+candidate_all_small : (limit : ℕ) (xs ys : List ℕ) → AreCandidateNumbersSmall limit xs → AreCandidateNumbersSmall limit ys
+    → AreCandidateNumbersSmall limit (xs ++ ys)
+candidate_all_small limit [] ys h k = k
+candidate_all_small limit (x ∷ xs) ys h k = (h.0, candidate_all_small limit xs ys h.1 k)
 
-octets_small : (text octets : List ℕ) → Parted 46 IsOctet text octets → AreSmall (2 ^ 8) octets
-octets_small text [] h = absurd h
-octets_small text (n ∷ []) h = (h.1, tt)
-octets_small text (n ∷ (m ∷ ms)) h = (h.3.1, octets_small h.1 (m ∷ ms) h.4)
+candidate_octets_small : (text octets : List ℕ) → PartedAddress 46 IsOctet text octets → AreCandidateNumbersSmall (2 ^ 8) octets
+candidate_octets_small text [] h = absurd h
+candidate_octets_small text (n ∷ []) h = (h.1, tt)
+candidate_octets_small text (n ∷ (m ∷ ms)) h = (h.3.1, candidate_octets_small h.1 (m ∷ ms) h.4)
 
-pairs_small : (octets : List ℕ) → AreSmall (2 ^ 8) octets → AreSmall (2 ^ 16) (octet_pairs octets)
-pairs_small [] h = tt
-pairs_small (a ∷ []) h = tt
-pairs_small (a ∷ (b ∷ octets)) h = (omega (arith, h.0, h.1.0), pairs_small octets h.1.1)
+candidate_pairs_small : (octets : List ℕ) → AreCandidateNumbersSmall (2 ^ 8) octets → AreCandidateNumbersSmall (2 ^ 16) (octet_pairs octets)
+candidate_pairs_small [] h = tt
+candidate_pairs_small (a ∷ []) h = tt
+candidate_pairs_small (a ∷ (b ∷ octets)) h = (omega (arith, h.0, h.1.0), candidate_pairs_small octets h.1.1)
 
-zeros_small : (n : ℕ) → AreSmall (2 ^ 16) (replicate n 0)
-zeros_small zero = tt
-zeros_small (suc n) = (lit< tt, zeros_small n)
+candidate_zeros_small : (n : ℕ) → AreCandidateNumbersSmall (2 ^ 16) (replicate n 0)
+candidate_zeros_small zero = tt
+candidate_zeros_small (suc n) = (lit< tt, candidate_zeros_small n)
 
-one_small : (text groups : List ℕ) → IsOneGroup text groups → AreSmall (2 ^ 16) groups
-one_small text groups (n, group, e) = subst (AreSmall (2 ^ 16)) (sym e) (small_group text n group, tt)
+candidate_one_group_small : (text groups : List ℕ) → IsOneAddressGroup text groups → AreCandidateNumbersSmall (2 ^ 16) groups
+candidate_one_group_small text groups (n, group, e) = subst (AreCandidateNumbersSmall (2 ^ 16)) (sym e) (small_group text n group, tt)
 
-end_small : (text groups : List ℕ) → IsEnd text groups → AreSmall (2 ^ 16) groups
-end_small text groups (inl one) = one_small text groups one
-end_small text groups (inr (octets, is, e)) = subst (AreSmall (2 ^ 16)) (sym e) (pairs_small octets (octets_small text octets is.0))
+end_small : (text groups : List ℕ) → IsAddressEnd text groups → AreCandidateNumbersSmall (2 ^ 16) groups
+end_small text groups (inl one) = candidate_one_group_small text groups one
+end_small text groups (inr (octets, is, e)) = subst (AreCandidateNumbersSmall (2 ^ 16)) (sym e)
+    (candidate_pairs_small octets (candidate_octets_small text octets is.0))
 
-module _ (Last : List ℕ → List ℕ → Type 0) (last_small : (text groups : List ℕ) → Last text groups → AreSmall (2 ^ 16) groups) where
-  groups_small : (text groups : List ℕ) → AreGroups Last text groups → AreSmall (2 ^ 16) groups
+module _ (Last : List ℕ → List ℕ → Type 0) (last_small : (text groups : List ℕ) → Last text groups
+    → AreCandidateNumbersSmall (2 ^ 16) groups) where
+  groups_small : (text groups : List ℕ) → AreAddressGroups Last text groups → AreCandidateNumbersSmall (2 ^ 16) groups
   groups_small text [] h = absurd h
   groups_small text (n ∷ groups) (inl h) = last_small text (n ∷ groups) h
   groups_small text (n ∷ groups) (inr h) = (small_group h.0 n h.3, groups_small h.1 groups h.4)
 
-  any_small : (text groups : List ℕ) → AreAnyGroups Last text groups → AreSmall (2 ^ 16) groups
-  any_small text groups o = grind (arith, groups_small)
+  candidate_any_groups_small : (text groups : List ℕ) → AreAnyAddressGroups Last text groups → AreCandidateNumbersSmall (2 ^ 16) groups
+  candidate_any_groups_small text groups o = grind (arith, groups_small)
 
-ip_in_range : (text : List ℕ) (a : IpAddr) → IsIpText text a → IsInRange a
-ip_in_range text (V4 octets) h = (h.1, octets_small text octets h.0)
-ip_in_range text (V6 groups) (inl all, eight) = (eight, groups_small IsEnd end_small text groups all)
-ip_in_range text (V6 groups) (inr short, eight) = (
+candidate_ip_in_range : (text : List ℕ) (a : IpAddr) → IsIpText text a → IsAddressInRange a
+candidate_ip_in_range text (V4 octets) h = (h.1, candidate_octets_small text octets h.0)
+candidate_ip_in_range text (V6 groups) (inl all, eight) = (eight, groups_small IsAddressEnd end_small text groups all)
+candidate_ip_in_range text (V6 groups) (inr short, eight) = (
   eight,
-  subst (AreSmall (2 ^ 16)) (sym short.groups_are)
-      (all_small (2 ^ 16) short.front _ (any_small IsOneGroup one_small short.front_text short.front short.front_is)
-      (all_small (2 ^ 16) (replicate short.zeros 0) short.back (zeros_small short.zeros)
-      (any_small IsEnd end_small short.back_text short.back short.back_is))),
+  subst (AreCandidateNumbersSmall (2 ^ 16)) (sym short.groups_are)
+      (candidate_all_small (2 ^ 16) short.front _
+      (candidate_any_groups_small IsOneAddressGroup candidate_one_group_small short.front_text short.front short.front_is)
+      (candidate_all_small (2 ^ 16) (replicate short.zeros 0) short.back (candidate_zeros_small short.zeros)
+      (candidate_any_groups_small IsAddressEnd end_small short.back_text short.back short.back_is))),
 )
 
 -- ---- addresses hold digits, dots and colons
 
 module _ (c : ℕ) (far : 16 ≤ digit_value c) (no_dot : 46 ≢ c) (no_colon : 58 ≢ c) where
-  hex_lack : (digits : List ℕ) → AllDigits 16 digits → Lacks c digits
-  hex_lack [] h = tt
-  hex_lack (x ∷ xs) h = grind (arith, hex_lack xs h.1)
+  candidate_hex_lacks : (digits : List ℕ) → AllDigits 16 digits → Lacks c digits
+  candidate_hex_lacks [] h = tt
+  candidate_hex_lacks (x ∷ xs) h = grind (arith, candidate_hex_lacks xs h.1)
 
-  octets_lack : (text octets : List ℕ) → Parted 46 IsOctet text octets → Lacks c text
-  octets_lack text [] h = absurd h
-  octets_lack text (n ∷ []) h = subst (Lacks c) (sym h.0) (decimal_lacks c n (omega arith) (omega (arith, h.1)))
-  octets_lack text (n ∷ (m ∷ ms)) h =
+  candidate_octets_lack : (text octets : List ℕ) → PartedAddress 46 IsOctet text octets → Lacks c text
+  candidate_octets_lack text [] h = absurd h
+  candidate_octets_lack text (n ∷ []) h = subst (Lacks c) (sym h.0) (attribute_decimal_lacks c n (omega arith) (omega (arith, h.1)))
+  candidate_octets_lack text (n ∷ (m ∷ ms)) h =
       subst (Lacks c) (sym h.2)
-      (lacks_both c h.0 (46 ∷ h.1) (subst (Lacks c) (sym h.3.0) (decimal_lacks c n (omega arith) (omega (arith, h.3.1))))
-      (no_dot, octets_lack h.1 (m ∷ ms) h.4))
+      (address_lacks_both c h.0 (46 ∷ h.1) (subst (Lacks c) (sym h.3.0) (attribute_decimal_lacks c n (omega arith) (omega (arith, h.3.1))))
+      (no_dot, candidate_octets_lack h.1 (m ∷ ms) h.4))
 
-  one_lacks : (text groups : List ℕ) → IsOneGroup text groups → Lacks c text
-  one_lacks text groups (n, group, e) = hex_lack text group.numeral.1
+  candidate_one_group_lacks : (text groups : List ℕ) → IsOneAddressGroup text groups → Lacks c text
+  candidate_one_group_lacks text groups (n, group, e) = candidate_hex_lacks text group.numeral.1
 
-  end_lacks : (text groups : List ℕ) → IsEnd text groups → Lacks c text
-  end_lacks text groups (inl one) = one_lacks text groups one
-  end_lacks text groups (inr (octets, is, e)) = octets_lack text octets is.0
+  end_lacks : (text groups : List ℕ) → IsAddressEnd text groups → Lacks c text
+  end_lacks text groups (inl one) = candidate_one_group_lacks text groups one
+  end_lacks text groups (inr (octets, is, e)) = candidate_octets_lack text octets is.0
 
   module _ (Last : List ℕ → List ℕ → Type 0) (last_lacks : (text groups : List ℕ) → Last text groups → Lacks c text) where
-    groups_lack : (text groups : List ℕ) → AreGroups Last text groups → Lacks c text
+    groups_lack : (text groups : List ℕ) → AreAddressGroups Last text groups → Lacks c text
     groups_lack text [] h = absurd h
     groups_lack text (n ∷ groups) (inl h) = last_lacks text (n ∷ groups) h
     groups_lack text (n ∷ groups) (inr h) =
-        subst (Lacks c) (sym h.2) (lacks_both c h.0 (58 ∷ h.1) (hex_lack h.0 h.3.numeral.1) (no_colon, groups_lack h.1 groups h.4))
+        subst (Lacks c) (sym h.2) (address_lacks_both c h.0 (58 ∷ h.1) (candidate_hex_lacks h.0 h.3.numeral.1)
+        (no_colon, groups_lack h.1 groups h.4))
 
-    any_lack : (text groups : List ℕ) → AreAnyGroups Last text groups → Lacks c text
-    any_lack text groups (inl none) = subst (Lacks c) (sym none.0) tt
-    any_lack text groups (inr some) = groups_lack text groups some
+    candidate_any_address_groups_lack : (text groups : List ℕ) → AreAnyAddressGroups Last text groups → Lacks c text
+    candidate_any_address_groups_lack text groups (inl none) = subst (Lacks c) (sym none.0) tt
+    candidate_any_address_groups_lack text groups (inr some) = groups_lack text groups some
 
-  ip_lacks : (text : List ℕ) (a : IpAddr) → IsIpText text a → Lacks c text
-  ip_lacks text (V4 octets) h = octets_lack text octets h.0
-  ip_lacks text (V6 groups) (inl all, eight) = groups_lack IsEnd end_lacks text groups all
-  ip_lacks text (V6 groups) (inr short, eight) =
+  candidate_ip_lacks : (text : List ℕ) (a : IpAddr) → IsIpText text a → Lacks c text
+  candidate_ip_lacks text (V4 octets) h = candidate_octets_lack text octets h.0
+  candidate_ip_lacks text (V6 groups) (inl all, eight) = groups_lack IsAddressEnd end_lacks text groups all
+  candidate_ip_lacks text (V6 groups) (inr short, eight) =
       subst (Lacks c) (sym short.joined)
-      (lacks_both c short.front_text _ (any_lack IsOneGroup one_lacks short.front_text short.front short.front_is)
-      (no_colon, (no_colon, any_lack IsEnd end_lacks short.back_text short.back short.back_is)))
+      (address_lacks_both c short.front_text _
+      (candidate_any_address_groups_lack IsOneAddressGroup candidate_one_group_lacks short.front_text short.front short.front_is)
+      (no_colon, (no_colon, candidate_any_address_groups_lack IsAddressEnd end_lacks short.back_text short.back short.back_is)))
 
-ip_no_end : (a : IpAddr) → IsInRange a → HoldsNoEnd (ip_text a)
+ip_no_end : (a : IpAddr) → IsAddressInRange a → HoldsNoEnd (ip_text a)
 ip_no_end a h =
     let is = ip_printed a h in (
-      ip_lacks 10 (lit≤ tt) (λ e. absurd (omega (arith, e))) (λ e. absurd (omega (arith, e))) (ip_text a) a is,
-      ip_lacks 13 (lit≤ tt) (λ e. absurd (omega (arith, e))) (λ e. absurd (omega (arith, e))) (ip_text a) a is,
+      candidate_ip_lacks 10 (lit≤ tt) (λ e. absurd (omega (arith, e))) (λ e. absurd (omega (arith, e))) (ip_text a) a is,
+      candidate_ip_lacks 13 (lit≤ tt) (λ e. absurd (omega (arith, e))) (λ e. absurd (omega (arith, e))) (ip_text a) a is,
     )
 
 -- ---- candidates
 
-socket_in_range : (ip_label port_label text : List ℕ) (a : SocketAddr) → IsSocket ip_label port_label text a → IsSocketInRange a
-socket_in_range ip_label port_label text a (ip, port, e, ip_is, port_is) = grind (arith, ip_in_range)
+candidate_socket_in_range : (ip_label port_label text : List ℕ) (a : SocketAddr) → IsCandidateSocket ip_label port_label text a
+    → IsCandidateSocketInRange a
+candidate_socket_in_range ip_label port_label text a (ip, port, e, ip_is, port_is) = grind (arith, candidate_ip_in_range)
 
-related_in_range : (o : Option SocketAddr) (text : List ℕ) → IsRelated text o → IfSome o IsSocketInRange
-related_in_range None text h = tt
-related_in_range (Some a) text h = socket_in_range candidate_label.RELATED_ADDRESS.now candidate_label.RELATED_PORT.now text a h
+candidate_related_in_range : (o : Option SocketAddr) (text : List ℕ) → IsRelatedAddress text o → IfSome o IsCandidateSocketInRange
+candidate_related_in_range None text h = tt
+candidate_related_in_range (Some a) text h = candidate_socket_in_range candidate_label.RELATED_ADDRESS.now candidate_label.RELATED_PORT.now
+    text a h
 
-same_word : (label part x : List ℕ) → IsLabelled label IsSame part x → IsWord x
-same_word label part x (word, e, is, same) = subst IsWord (sym same) is
+candidate_labelled_same_word : (label part x : List ℕ) → IsLabelled label IsSameLabel part x → IsWord x
+candidate_labelled_same_word label part x (word, e, is, same) = subst IsWord (sym same) is
 
-name_word : (o : Option (List ℕ)) (text : List ℕ) → AreIceNames text o → IfSome o IsWord
-name_word o text h = grind arith
+candidate_ice_name_word : (o : Option (List ℕ)) (text : List ℕ) → AreIceNames text o → IfSome o IsWord
+candidate_ice_name_word o text h = grind arith
 
-printable : (text : List ℕ) (c : Candidate) → IsCandidateText text c → IsPrintable c
-printable text c h = search (rules, same_word, socket_in_range, related_in_range, name_word)
+candidate_printable : (text : List ℕ) (c : Candidate) → IsCandidateText text c → IsPrintable c
+candidate_printable text c h = search (
+  rules,
+  candidate_labelled_same_word,
+  candidate_socket_in_range,
+  candidate_related_in_range,
+  candidate_ice_name_word,
+)
 
 -- ---- line ends
 
@@ -154,54 +173,55 @@ kind_no_end k = grind arith
 tcp_type_no_end : (o : Option TcpType) → HoldsNoEnd (optional_text candidate_label.TCP_TYPE.now tcp_type_text o)
 tcp_type_no_end o = grind arith
 
-socket_no_end : (ip_label port_label : List ℕ) (a : SocketAddr) → HoldsNoEnd ip_label → HoldsNoEnd port_label → IsSocketInRange a
+socket_no_end : (ip_label port_label : List ℕ) (a : SocketAddr) → HoldsNoEnd ip_label → HoldsNoEnd port_label → IsCandidateSocketInRange a
     → HoldsNoEnd (socket_text ip_label port_label a)
 socket_no_end ip_label port_label a h k range = grind (arith, no_ends, ip_no_end, decimal_no_end)
 
-related_no_end : (o : Option SocketAddr) → IfSome o IsSocketInRange → HoldsNoEnd (related_text o)
+related_no_end : (o : Option SocketAddr) → IfSome o IsCandidateSocketInRange → HoldsNoEnd (related_text o)
 related_no_end None h = (tt, tt)
 related_no_end (Some a) h = search (rules, socket_no_end, no_end)
 
-word_lacks : (c : ℕ) (label part x : List ℕ) → IsLabelled label IsSame part x → Lacks c part → Lacks c x
-word_lacks c label part x (word, e, is, same) none = grind (arith, behind_lacks)
+candidate_labelled_word_lacks : (c : ℕ) (label part x : List ℕ) → IsLabelled label IsSameLabel part x → Lacks c part → Lacks c x
+candidate_labelled_word_lacks c label part x (word, e, is, same) none = grind (arith, fmtp_behind_lacks)
 
-fragment_lacks : (c : ℕ) (o : Option (List ℕ)) (text : List ℕ) → AreIceNames text o → Lacks c text → Lacks c candidate_label.UFRAG.now
+candidate_fragment_lacks : (c : ℕ) (o : Option (List ℕ)) (text : List ℕ) → AreIceNames text o → Lacks c text
+    → Lacks c candidate_label.UFRAG.now
     → Lacks c (optional_text candidate_label.UFRAG.now (λ t. t) o)
-fragment_lacks c None text h none label = tt
-fragment_lacks c (Some x) text (inl (network, name, e, left_out, is)) none label =
-    lacks_both c candidate_label.UFRAG.now x label
-    (word_lacks c candidate_label.UFRAG.now name x is (behind_lacks c network name (subst (Lacks c) e none)))
-fragment_lacks c (Some x) text (inr (name, network, word, fragment, e, is, network_is, same)) none label =
-    let own : x ≡ fragment = some_is x fragment same in
-    lacks_both c candidate_label.UFRAG.now x label
-    (subst (Lacks c) (sym own) (word_lacks c candidate_label.UFRAG.now name fragment is
-    (Lacks-append c name network (subst (Lacks c) e none))))
+candidate_fragment_lacks c None text h none label = tt
+candidate_fragment_lacks c (Some x) text (inl (network, name, e, left_out, is)) none label =
+    address_lacks_both c candidate_label.UFRAG.now x label
+    (candidate_labelled_word_lacks c candidate_label.UFRAG.now name x is (fmtp_behind_lacks c network name (subst (Lacks c) e none)))
+candidate_fragment_lacks c (Some x) text (inr (name, network, word, fragment, e, is, network_is, same)) none label =
+    let own : x ≡ fragment = cuts_some_is x fragment same in
+    address_lacks_both c candidate_label.UFRAG.now x label
+    (subst (Lacks c) (sym own) (candidate_labelled_word_lacks c candidate_label.UFRAG.now name fragment is
+    (LacksCut-append c name network (subst (Lacks c) e none))))
 
 -- the fragment and the foundation hold what the text holds
 module _ (c : ℕ) (text : List ℕ) (candidate : Candidate) (h : IsCandidateText text candidate) (none : Lacks c text) where
   foundation_lacks : Lacks c candidate.foundation
   foundation_lacks =
-      word_lacks c candidate_label.CANDIDATE.now h.foundation candidate.foundation h.foundation_is
-      (Lacks-append c h.foundation _ (subst (Lacks c) h.joined none))
+      candidate_labelled_word_lacks c candidate_label.CANDIDATE.now h.foundation candidate.foundation h.foundation_is
+      (LacksCut-append c h.foundation _ (subst (Lacks c) h.joined none))
 
-  fragments_lack : Lacks c candidate_label.UFRAG.now → Lacks c (optional_text candidate_label.UFRAG.now (λ t. t) candidate.ufrag)
-  fragments_lack label =
-      let component = behind_lacks c h.foundation _ (subst (Lacks c) h.joined none) in
-      let protocol = behind_lacks c h.component _ component in
-      let priority = behind_lacks c h.protocol _ protocol in
-      let address = behind_lacks c h.priority _ priority in
-      let kind = behind_lacks c h.address _ address in
-      let related = behind_lacks c h.kind _ kind in
-      let tcp = behind_lacks c h.related _ related in
-      let generation = behind_lacks c h.tcp_type _ tcp in
-      let names = behind_lacks c h.generation _ generation in
-      fragment_lacks c candidate.ufrag h.names h.names_are (Lacks-append c h.names h.cost names) label
+  candidate_fragments_lack : Lacks c candidate_label.UFRAG.now → Lacks c (optional_text candidate_label.UFRAG.now (λ t. t) candidate.ufrag)
+  candidate_fragments_lack label =
+      let component = fmtp_behind_lacks c h.foundation _ (subst (Lacks c) h.joined none) in
+      let protocol = fmtp_behind_lacks c h.component _ component in
+      let priority = fmtp_behind_lacks c h.protocol _ protocol in
+      let address = fmtp_behind_lacks c h.priority _ priority in
+      let kind = fmtp_behind_lacks c h.address _ address in
+      let related = fmtp_behind_lacks c h.kind _ kind in
+      let tcp = fmtp_behind_lacks c h.related _ related in
+      let generation = fmtp_behind_lacks c h.tcp_type _ tcp in
+      let names = fmtp_behind_lacks c h.generation _ generation in
+      candidate_fragment_lacks c candidate.ufrag h.names h.names_are (LacksCut-append c h.names h.cost names) label
 
 -- a candidate that a text was read as prints a text that stands for it
 pub candidate_again : (text : List ℕ) (c : Candidate) → HoldsNoEnd text → IsCandidateText text c
     → IsCandidateText (candidate_text c) c × HoldsNoEnd (candidate_text c)
 candidate_again text c quiet h =
-    let is = printable text c h in
+    let is = candidate_printable text c h in
     let space = no_end (codes " ") refl refl in
     let label = no_end candidate_label.UFRAG.now refl refl in (
       printed_candidate c is,
@@ -218,5 +238,5 @@ candidate_again text c quiet h =
           (no_ends (kind_text c.kind) (extras_text c) (kind_no_end c.kind)
           (no_ends (related_text c.raddr) _ (related_no_end c.raddr is.raddr)
           (no_ends (optional_text candidate_label.TCP_TYPE.now tcp_type_text c.tcptype) _ (tcp_type_no_end c.tcptype)
-          (fragments_lack 10 text c h quiet.0 label.0, fragments_lack 13 text c h quiet.1 label.1))))))))))))),
+          (candidate_fragments_lack 10 text c h quiet.0 label.0, candidate_fragments_lack 13 text c h quiet.1 label.1))))))))))))),
     )

@@ -4,17 +4,18 @@ use Rattle.str0m_signal.proofs.Common.{◌≡◌, ℕ, List, ◌+◌, length, No
 use Rattle.str0m_values.proofs.CutsNearLaws.{cut_first, cut_nowhere}
 use Rattle.str0m_values.specs.Cuts.{IsFirstAt, LacksAt}
 
-lacks_before : (c : ℕ) (text : List ℕ) (n : ℕ) → Nowhere (Passes (is_byte c) text) 0 n → LacksAt c text n
-lacks_before c text n h = λ k lt e. h k (omega arith) lt (eq-eqb _ c e)
+ext_map_lacks_before : (c : ℕ) (text : List ℕ) (n : ℕ) → Nowhere (Passes (is_byte c) text) 0 n → LacksAt c text n
+ext_map_lacks_before c text n h = λ k lt e. h k (omega arith) lt (eq-eqb _ c e)
 
-pub first_place : (c : ℕ) (text : List ℕ) (i : ℕ) → NoneBefore (Passes (is_byte c) text) 0 (length text) i × Passes (is_byte c) text i
+pub extension_first_place : (c : ℕ) (text : List ℕ) (i : ℕ)
+    → NoneBefore (Passes (is_byte c) text) 0 (length text) i × Passes (is_byte c) text i
     → IsFirstAt c text i
-first_place c text i h = (h.0.high, eqb-true _ c h.1, lacks_before c text i h.0.before)
+extension_first_place c text i h = (h.0.high, eqb-true _ c h.1, ext_map_lacks_before c text i h.0.before)
 
 -- the search cuts the text where the byte first stands
 pub search_cut : (c : ℕ) (text : List ℕ) (i : ℕ) → NoneBefore (Passes (is_byte c) text) 0 (length text) i × Passes (is_byte c) text i
     → Some (slice_range text 0 i, drop (i + 1) text) ≡ cut c text
-search_cut c text i h = cut_first c text i (first_place c text i h)
+search_cut c text i h = cut_first c text i (extension_first_place c text i h)
 
 pub search_fails : (c : ℕ) (text : List ℕ) → Nowhere (Passes (is_byte c) text) 0 (length text) → None ≡ cut c text
-search_fails c text h = cut_nowhere c text (lacks_before c text (length text) h)
+search_fails c text h = cut_nowhere c text (ext_map_lacks_before c text (length text) h)

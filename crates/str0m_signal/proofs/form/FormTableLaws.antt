@@ -1,19 +1,25 @@
 -- A table of forms is read exactly where one of its forms holds: from a law of each form, and from its labels.
 use Rattle.str0m_signal.proofs.Common.{arith, ◌≡◌, ◌⊎◌, ℕ, Bool, true, false, ◌&&◌, ◌||◌, ◌==◌, List, [], ◌∷◌, ◌++◌, Option, Some, None}
 use Rattle.str0m_signal.proofs.Common.{refl, sym, ap, ◌∙◌, inl, inr, list_all, list_any, cases_eq, cases_Bool, eq-eqb, ne_eqb, and_parts}
-use Rattle.str0m_signal.proofs.Common.{false≢true, bytes_eq-Decides, ◌<|>◌, or_some, when_some, when_true, append_assoc, append-nil}
-use Rattle.str0m_signal.proofs.Common.{if◌then◌else◌, reads_none, Reads}
-use Rattle.str0m_signal.proofs.form.FormLaws.{behind_both}
-use Rattle.str0m_signal.specs.form.FormTable.{Piece, Form, own, made_as, labelled, word, AnyOf, labels_of, first_read, any, words_of}
-use Rattle.str0m_signal.specs.form.FormTable.{any_word, labelled_by, IsUnused, unused_read, first_byte, begins_with, beginning, letter_read}
-use Rattle.str0m_signal.specs.form.FormTable.{by_letter}
+use Rattle.str0m_signal.proofs.Common.{false≢true, bytes_eq-Decides, ◌<|>◌, cuts_or_some, cuts_when_some, num_when_true, append_assoc}
+use Rattle.str0m_signal.proofs.Common.{append-nil}
+use Rattle.str0m_signal.proofs.Common.{if◌then◌else◌, cuts_reads_none, Reads}
+use Rattle.str0m_signal.proofs.form.FormLaws.{form_behind_both}
+use Rattle.str0m_signal.specs.form.FormTable.{FormPiece, Form, own, form_made_as, labelled_form, word, AnyOfForms, labels_of, first_read}
+use Rattle.str0m_signal.specs.form.FormTable.{any_form}
+use Rattle.str0m_signal.specs.form.FormTable.{word_forms_of}
+use Rattle.str0m_signal.specs.form.FormTable.{any_word_form, forms_labelled_by, IsUnusedForm, unused_read, form_first_byte}
+use Rattle.str0m_signal.specs.form.FormTable.{form_begins_with}
+use Rattle.str0m_signal.specs.form.FormTable.{forms_beginning}
+use Rattle.str0m_signal.specs.form.FormTable.{letter_read}
+use Rattle.str0m_signal.specs.form.FormTable.{form_by_letter}
 
-abbrev pub Readable : {A : Type 0} → Piece A → Type 0
-Readable piece = Reads piece.Is piece.read
+abbrev pub ReadableFormPiece : {A : Type 0} → FormPiece A → Type 0
+ReadableFormPiece piece = Reads piece.Is piece.read
 
-abbrev pub AllOf {ℓ} : {X : Type ℓ} → (X → Type 0) → List X → Type 0
-AllOf P [] = Unit {0}
-AllOf P (x ∷ xs) = P x × AllOf P xs
+abbrev pub AllOfForms {ℓ} : {X : Type ℓ} → (X → Type 0) → List X → Type 0
+AllOfForms P [] = Unit {0}
+AllOfForms P (x ∷ xs) = P x × AllOfForms P xs
 
 -- a law, and those of the others
 infixr 5 ◌also◌
@@ -22,69 +28,74 @@ a also b = (a, b)
 
 -- the line of the text begins with one of the labels
 abbrev pub HasLabel : List ℕ → List (List ℕ) → Type 0
-HasLabel text labels = AnyOf (λ label. (rest : List ℕ) × (text ++ (10 ∷ []) ≡ label ++ rest)) labels
+HasLabel text labels = AnyOfForms (λ label. (rest : List ℕ) × (text ++ (10 ∷ []) ≡ label ++ rest)) labels
 
 -- a form reads exactly what it is, and its texts begin with its labels
-pub record Lawful {A : Type 0} (form : Form A) : Type 0 where
+pub record LawfulForm {A : Type 0} (form : Form A) : Type 0 where
   pub reads : Reads form.Is form.read
   pub begins : (text : List ℕ) (x : A) → form.Is text x → HasLabel text form.labels
 
 -- ---- single forms
 
-pub own_lawful : {A : Type 0} (label : List ℕ) {Is : List ℕ → A → Type 0} {read : List ℕ → Option A} → Reads Is read
-    → ((text : List ℕ) (x : A) → Is text x → (body : List ℕ) × (text ≡ label ++ body)) → Lawful (own label Is read)
-own_lawful label reads begins = record {
+pub own_form_lawful : {A : Type 0} (label : List ℕ) {Is : List ℕ → A → Type 0} {read : List ℕ → Option A} → Reads Is read
+    → ((text : List ℕ) (x : A) → Is text x → (body : List ℕ) × (text ≡ label ++ body)) → LawfulForm (own label Is read)
+own_form_lawful label reads begins = record {
   reads = reads;
   begins = λ text x h.
       let b = begins text x h in
       inl (b.0 ++ (10 ∷ []), ap (λ (t : List ℕ). t ++ (10 ∷ [])) b.1 ∙ append_assoc label b.0 (10 ∷ []));
 }
 
-pub made_lawful : {A B : Type 0} {form : Form A} (make : A → B) → Lawful form → Lawful (made_as form make)
-made_lawful {A} {B} {form} make law = grind arith
+pub made_form_lawful : {A B : Type 0} {form : Form A} (make : A → B) → LawfulForm form → LawfulForm (form_made_as form make)
+made_form_lawful {A} {B} {form} make law = grind arith
 
-pub labelled_lawful : {A B : Type 0} {piece : Piece A} (label : List ℕ) (make : A → B) → Readable piece → Lawful (labelled label piece make)
-labelled_lawful label make reads = made_lawful make (own_lawful label (behind_both label reads) (λ text x h. (h.0, h.1)))
+pub labelled_form_lawful : {A B : Type 0} {piece : FormPiece A} (label : List ℕ) (make : A → B) → ReadableFormPiece piece
+    → LawfulForm (labelled_form label piece make)
+labelled_form_lawful label make reads = made_form_lawful make
+    (own_form_lawful label (form_behind_both label reads) (λ text x h. (h.0, h.1)))
 
-word_lawful : {A : Type 0} (name : List ℕ) (x : A) → Lawful (word name x)
-word_lawful name x = grind (arith, when_some, bytes_eq-Decides, when_true, append-nil)
+word_form_lawful : {A : Type 0} (name : List ℕ) (x : A) → LawfulForm (word name x)
+word_form_lawful name x = grind (arith, cuts_when_some, bytes_eq-Decides, num_when_true, append-nil)
 
-pub unused_reads : {A : Type 0} (make : List ℕ → A) → Reads (IsUnused make) (unused_read make)
+pub unused_reads : {A : Type 0} (make : List ℕ → A) → Reads (IsUnusedForm make) (unused_read make)
 unused_reads {A} make = grind arith
 
 -- ---- several forms
 
 -- neither of two labels is the beginning of the other
-abbrev begin_apart : List ℕ → List ℕ → Bool
-begin_apart [] b = false
-begin_apart (x ∷ a) [] = false
-begin_apart (x ∷ a) (y ∷ b) = if x == y then begin_apart a b else true
+abbrev form_begin_apart : List ℕ → List ℕ → Bool
+form_begin_apart [] b = false
+form_begin_apart (x ∷ a) [] = false
+form_begin_apart (x ∷ a) (y ∷ b) = if x == y then form_begin_apart a b else true
 
-pub tail_is : {B : Type 0} (x y : B) (xs ys : List B) → x ∷ xs ≡ y ∷ ys → xs ≡ ys
-tail_is x y xs ys e = cc
+pub form_tail_is : {B : Type 0} (x y : B) (xs ys : List B) → x ∷ xs ≡ y ∷ ys → xs ≡ ys
+form_tail_is x y xs ys e = cc
 
 pub heads_same : {B : Type 0} (x y : B) (xs ys : List B) → x ∷ xs ≡ y ∷ ys → x ≡ y
 heads_same x y xs ys e = cc
 
-apart_texts : (a b r s : List ℕ) → begin_apart a b ≡ true → a ++ r ≡ b ++ s → ⊥
+apart_texts : (a b r s : List ℕ) → form_begin_apart a b ≡ true → a ++ r ≡ b ++ s → ⊥
 apart_texts [] b r s far e = false≢true far
 apart_texts (x ∷ a) [] r s far e = false≢true far
-apart_texts (x ∷ a) (y ∷ b) r s far e = grind (arith, cases_eq, apart_texts a b r s, eq-eqb, tail_is)
+apart_texts (x ∷ a) (y ∷ b) r s far e = grind (arith, cases_eq, apart_texts a b r s, eq-eqb, form_tail_is)
 
 -- no label of the one form is the beginning of one of the other
 abbrev labels_apart : List (List ℕ) → List (List ℕ) → Bool
-labels_apart ls ms = list_all (λ a. list_all (begin_apart a) ms) ls
+labels_apart ls ms = list_all (λ a. list_all (form_begin_apart a) ms) ls
 
-apart_from : (a : List ℕ) (ms : List (List ℕ)) (text r : List ℕ) → list_all (begin_apart a) ms ≡ true → text ++ (10 ∷ []) ≡ a ++ r
+form_apart_from : (a : List ℕ) (ms : List (List ℕ)) (text r : List ℕ) → list_all (form_begin_apart a) ms ≡ true → text ++ (10 ∷ []) ≡ a ++ r
     → HasLabel text ms → ⊥
-apart_from a [] text r far e h = absurd h
-apart_from a (b ∷ ms) text r far e (inl h) = grind (arith, apart_texts, and_parts)
-apart_from a (b ∷ ms) text r far e (inr h) = apart_from a ms text r (and_parts (begin_apart a b) (list_all (begin_apart a) ms) far).1 e h
+form_apart_from a [] text r far e h = absurd h
+form_apart_from a (b ∷ ms) text r far e (inl h) = grind (arith, apart_texts, and_parts)
+form_apart_from a (b ∷ ms) text r far e (inr h) = form_apart_from a ms text r
+    (and_parts (form_begin_apart a b) (list_all (form_begin_apart a) ms) far).1 e h
 
-no_both : (ls ms : List (List ℕ)) (text : List ℕ) → labels_apart ls ms ≡ true → HasLabel text ls → HasLabel text ms → ⊥
-no_both [] ms text far h k = absurd h
-no_both (a ∷ ls) ms text far (inl h) k = apart_from a ms text h.0 (and_parts (list_all (begin_apart a) ms) (labels_apart ls ms) far).0 h.1 k
-no_both (a ∷ ls) ms text far (inr h) k = no_both ls ms text (and_parts (list_all (begin_apart a) ms) (labels_apart ls ms) far).1 h k
+form_no_text_in_both : (ls ms : List (List ℕ)) (text : List ℕ) → labels_apart ls ms ≡ true → HasLabel text ls → HasLabel text ms → ⊥
+form_no_text_in_both [] ms text far h k = absurd h
+form_no_text_in_both (a ∷ ls) ms text far (inl h) k = form_apart_from a ms text h.0
+    (and_parts (list_all (form_begin_apart a) ms) (labels_apart ls ms) far).0 h.1 k
+form_no_text_in_both (a ∷ ls) ms text far (inr h) k = form_no_text_in_both ls ms text
+    (and_parts (list_all (form_begin_apart a) ms) (labels_apart ls ms) far).1 h k
 
 -- no two forms have labels that a text could begin with at once
 abbrev pub forms_apart : {A : Type 0} → List (Form A) → Bool
@@ -96,131 +107,142 @@ next_form : {A : Type 0} (form : Form A) (forms : List (Form A)) (text : List �
     → first_read (form ∷ forms) text ≡ (form.read text <|> first_read forms text)
 next_form form forms text = grind arith
 
-begins_either : (ls ms : List (List ℕ)) (text : List ℕ) → HasLabel text ls ⊎ HasLabel text ms → HasLabel text (ls ++ ms)
-begins_either [] ms text (inl h) = absurd h
-begins_either [] ms text (inr h) = h
-begins_either (a ∷ ls) ms text (inl (inl h)) = inl h
-begins_either (a ∷ ls) ms text (inl (inr h)) = inr (begins_either ls ms text (inl h))
-begins_either (a ∷ ls) ms text (inr h) = inr (begins_either ls ms text (inr h))
+form_begins_either : (ls ms : List (List ℕ)) (text : List ℕ) → HasLabel text ls ⊎ HasLabel text ms → HasLabel text (ls ++ ms)
+form_begins_either [] ms text (inl h) = absurd h
+form_begins_either [] ms text (inr h) = h
+form_begins_either (a ∷ ls) ms text (inl (inl h)) = inl h
+form_begins_either (a ∷ ls) ms text (inl (inr h)) = inr (form_begins_either ls ms text (inl h))
+form_begins_either (a ∷ ls) ms text (inr h) = inr (form_begins_either ls ms text (inr h))
 
 module _ {A : Type 0} where
-  any_sound : (forms : List (Form A)) → AllOf Lawful forms → (text : List ℕ) (x : A) → first_read forms text ≡ Some x
-      → (any forms).Is text x
-  any_sound [] laws text x e = absurd cc
-  any_sound (form ∷ forms) laws text x e = elim (or_some (form.read text) (first_read forms text) x (sym (next_form form forms text) ∙ e)) [
-    | inl h ↦ inl (laws.0.reads.sound text x h)
-    | inr h ↦ inr (any_sound forms laws.1 text x h.1)
-  ]
+  any_form_sound : (forms : List (Form A)) → AllOfForms LawfulForm forms → (text : List ℕ) (x : A) → first_read forms text ≡ Some x
+      → (any_form forms).Is text x
+  any_form_sound [] laws text x e = absurd cc
+  any_form_sound (form ∷ forms) laws text x e = elim
+      (cuts_or_some (form.read text) (first_read forms text) x (sym (next_form form forms text) ∙ e)) [
+        | inl h ↦ inl (laws.0.reads.sound text x h)
+        | inr h ↦ inr (any_form_sound forms laws.1 text x h.1)
+      ]
 
-  any_begins : (forms : List (Form A)) → AllOf Lawful forms → (text : List ℕ) (x : A) → (any forms).Is text x
+  form_any_begins : (forms : List (Form A)) → AllOfForms LawfulForm forms → (text : List ℕ) (x : A) → (any_form forms).Is text x
       → HasLabel text (labels_of forms)
-  any_begins [] laws text x h = absurd h
-  any_begins (form ∷ forms) laws text x (inl h) = begins_either form.labels (labels_of forms) text (inl (laws.0.begins text x h))
-  any_begins (form ∷ forms) laws text x (inr h) = begins_either form.labels (labels_of forms) text (inr (any_begins forms laws.1 text x h))
+  form_any_begins [] laws text x h = absurd h
+  form_any_begins (form ∷ forms) laws text x (inl h) = form_begins_either form.labels (labels_of forms) text (inl (laws.0.begins text x h))
+  form_any_begins (form ∷ forms) laws text x (inr h) = form_begins_either form.labels (labels_of forms) text
+      (inr (form_any_begins forms laws.1 text x h))
 
-  any_complete : (forms : List (Form A)) → AllOf Lawful forms → forms_apart forms ≡ true → (text : List ℕ) (x : A) → (any forms).Is text x
+  form_any_complete : (forms : List (Form A)) → AllOfForms LawfulForm forms → forms_apart forms ≡ true → (text : List ℕ) (x : A)
+      → (any_form forms).Is text x
       → first_read forms text ≡ Some x
-  any_complete [] laws far text x h = absurd h
-  any_complete (form ∷ forms) laws far text x (inl h) = next_form form forms text ∙ rw (laws.0.reads.complete text x h) refl
-  any_complete (form ∷ forms) laws far text x (inr h) =
+  form_any_complete [] laws far text x h = absurd h
+  form_any_complete (form ∷ forms) laws far text x (inl h) = next_form form forms text ∙ rw (laws.0.reads.complete text x h) refl
+  form_any_complete (form ∷ forms) laws far text x (inr h) =
       let parts = and_parts (labels_apart form.labels (labels_of forms)) (forms_apart forms) far in
-      let none = reads_none laws.0.reads text
-      (λ y k. no_both form.labels (labels_of forms) text parts.0 (laws.0.begins text y k) (any_begins forms laws.1 text x h)) in
-      next_form form forms text ∙ rw none (any_complete forms laws.1 parts.1 text x h)
+      let none = cuts_reads_none laws.0.reads text
+      (λ y k. form_no_text_in_both form.labels (labels_of forms) text parts.0 (laws.0.begins text y k)
+      (form_any_begins forms laws.1 text x h)) in
+      next_form form forms text ∙ rw none (form_any_complete forms laws.1 parts.1 text x h)
 
-  pub any_lawful : (forms : List (Form A)) → AllOf Lawful forms → forms_apart forms ≡ true → Lawful (any forms)
-  any_lawful forms laws far = grind (arith, any_sound, any_complete, any_begins)
+  pub any_form_lawful : (forms : List (Form A)) → AllOfForms LawfulForm forms → forms_apart forms ≡ true → LawfulForm (any_form forms)
+  any_form_lawful forms laws far = grind (arith, any_form_sound, form_any_complete, form_any_begins)
 
-  words_lawful_each : (rows : List (List ℕ × A)) → AllOf Lawful (words_of rows)
-  words_lawful_each [] = tt
-  words_lawful_each (row ∷ rows) = (word_lawful row.0 row.1, words_lawful_each rows)
+  word_forms_lawful_each : (rows : List (List ℕ × A)) → AllOfForms LawfulForm (word_forms_of rows)
+  word_forms_lawful_each [] = tt
+  word_forms_lawful_each (row ∷ rows) = (word_form_lawful row.0 row.1, word_forms_lawful_each rows)
 
-  pub words_lawful : (rows : List (List ℕ × A)) → forms_apart (words_of rows) ≡ true → Lawful (any_word rows)
-  words_lawful rows far = any_lawful (words_of rows) (words_lawful_each rows) far
+  pub word_forms_lawful : (rows : List (List ℕ × A)) → forms_apart (word_forms_of rows) ≡ true → LawfulForm (any_word_form rows)
+  word_forms_lawful rows far = any_form_lawful (word_forms_of rows) (word_forms_lawful_each rows) far
 
-  labelled_each : {B : Type 0} (piece : Piece B) → Readable piece → (rows : List (List ℕ × (B → A))) → AllOf Lawful (labelled_by piece rows)
-  labelled_each piece reads [] = tt
-  labelled_each piece reads (row ∷ rows) = (labelled_lawful row.0 row.1 reads, labelled_each piece reads rows)
+  labelled_forms_each : {B : Type 0} (piece : FormPiece B) → ReadableFormPiece piece → (rows : List (List ℕ × (B → A)))
+      → AllOfForms LawfulForm (forms_labelled_by piece rows)
+  labelled_forms_each piece reads [] = tt
+  labelled_forms_each piece reads (row ∷ rows) = (labelled_form_lawful row.0 row.1 reads, labelled_forms_each piece reads rows)
 
-  pub all_labelled_lawful : {B : Type 0} (piece : Piece B) → Readable piece → (rows : List (List ℕ × (B → A)))
-      → forms_apart (labelled_by piece rows) ≡ true
-      → Lawful (any (labelled_by piece rows))
-  all_labelled_lawful piece reads rows far = any_lawful (labelled_by piece rows) (labelled_each piece reads rows) far
+  pub all_labelled_forms_lawful : {B : Type 0} (piece : FormPiece B) → ReadableFormPiece piece → (rows : List (List ℕ × (B → A)))
+      → forms_apart (forms_labelled_by piece rows) ≡ true
+      → LawfulForm (any_form (forms_labelled_by piece rows))
+  all_labelled_forms_lawful piece reads rows far = any_form_lawful (forms_labelled_by piece rows) (labelled_forms_each piece reads rows) far
 
 -- ---- the look at the first letter
 
-abbrev is_in : ℕ → List ℕ → Bool
-is_in c letters = list_any (λ l. c == l) letters
+abbrev form_letter_is_in : ℕ → List ℕ → Bool
+form_letter_is_in c letters = list_any (λ l. c == l) letters
 
 -- the label begins with one of the letters
-abbrev starts_in : List ℕ → List ℕ → Bool
-starts_in letters [] = false
-starts_in letters (x ∷ label) = is_in x letters
+abbrev form_starts_in : List ℕ → List ℕ → Bool
+form_starts_in letters [] = false
+form_starts_in letters (x ∷ label) = form_letter_is_in x letters
 
 -- a text that begins with one of the labels begins with a letter of both
-letter_in : (letters : List ℕ) (labels : List (List ℕ)) (text : List ℕ) → list_all (starts_in letters) labels ≡ true → HasLabel text labels
-    → (is_in (first_byte text) letters ≡ true) × (begins_with (first_byte text) labels ≡ true)
-letter_in letters [] text within h = absurd h
-letter_in letters (label ∷ labels) text within (inl h) = grind arith
-letter_in letters (label ∷ labels) text within (inr h) =
-    let more = letter_in letters labels text (and_parts (starts_in letters label) (list_all (starts_in letters) labels) within).1 h in
-    (more.0, either (first_byte label == first_byte text) (begins_with (first_byte text) labels) more.1)
+form_letter_in : (letters : List ℕ) (labels : List (List ℕ)) (text : List ℕ) → list_all (form_starts_in letters) labels ≡ true
+    → HasLabel text labels
+    → (form_letter_is_in (form_first_byte text) letters ≡ true) × (form_begins_with (form_first_byte text) labels ≡ true)
+form_letter_in letters [] text within h = absurd h
+form_letter_in letters (label ∷ labels) text within (inl h) = grind arith
+form_letter_in letters (label ∷ labels) text within (inr h) =
+    let more = form_letter_in letters labels text
+    (and_parts (form_starts_in letters label) (list_all (form_starts_in letters) labels) within).1 h in
+    (more.0, either (form_first_byte label == form_first_byte text) (form_begins_with (form_first_byte text) labels) more.1)
   where
     either : (a b : Bool) → b ≡ true → (a || b) ≡ true
     either true b e = refl
     either false b e = e
 
 -- the labels of each form begin with one of the letters
-abbrev pub start_in : {A : Type 0} → List ℕ → List (Form A) → Bool
-start_in letters [] = true
-start_in letters (form ∷ forms) = list_all (starts_in letters) form.labels && start_in letters forms
+abbrev pub forms_start_in : {A : Type 0} → List ℕ → List (Form A) → Bool
+forms_start_in letters [] = true
+forms_start_in letters (form ∷ forms) = list_all (form_starts_in letters) form.labels && forms_start_in letters forms
 
 module _ {A : Type 0} (letters text : List ℕ) where
-  not_asked : (form : Form A) → Lawful form → list_all (starts_in letters) form.labels ≡ true
-      → (is_in (first_byte text) letters ≡ false) ⊎ (begins_with (first_byte text) form.labels ≡ false) → form.read text ≡ None
-  not_asked form law within other = reads_none law.reads text (λ x h.
-      let both = letter_in letters form.labels text within (law.begins text x h) in
+  form_not_asked : (form : Form A) → LawfulForm form → list_all (form_starts_in letters) form.labels ≡ true
+      → (form_letter_is_in (form_first_byte text) letters ≡ false) ⊎ (form_begins_with (form_first_byte text) form.labels ≡ false)
+      → form.read text ≡ None
+  form_not_asked form law within other = cuts_reads_none law.reads text (λ x h.
+      let both = form_letter_in letters form.labels text within (law.begins text x h) in
       elim other [ inl e ↦ false≢true (sym e ∙ both.0) | inr e ↦ false≢true (sym e ∙ both.1) ])
 
-  letter_asked : (forms : List (Form A)) → AllOf Lawful forms → start_in letters forms ≡ true
-      → letter_read forms (first_byte text) text ≡ first_read forms text
-  letter_asked [] laws within = refl
-  letter_asked (form ∷ forms) laws within =
-      let parts = and_parts (list_all (starts_in letters) form.labels) (start_in letters forms) within in
-      let more = letter_asked forms laws.1 parts.1 in
-      elim (cases_Bool (begins_with (first_byte text) form.labels)) [
-        | inl is ↦ rw is (next_form form (beginning (first_byte text) forms) text ∙ rw more (sym (next_form form forms text)))
-        | inr not ↦ rw not (more ∙ sym (next_form form forms text ∙ rw (not_asked form laws.0 parts.0 (inr not)) refl))
+  form_letter_asked : (forms : List (Form A)) → AllOfForms LawfulForm forms → forms_start_in letters forms ≡ true
+      → letter_read forms (form_first_byte text) text ≡ first_read forms text
+  form_letter_asked [] laws within = refl
+  form_letter_asked (form ∷ forms) laws within =
+      let parts = and_parts (list_all (form_starts_in letters) form.labels) (forms_start_in letters forms) within in
+      let more = form_letter_asked forms laws.1 parts.1 in
+      elim (cases_Bool (form_begins_with (form_first_byte text) form.labels)) [
+        | inl is ↦ rw is (next_form form (forms_beginning (form_first_byte text) forms) text ∙ rw more (sym (next_form form forms text)))
+        | inr not ↦ rw not (more ∙ sym (next_form form forms text ∙ rw (form_not_asked form laws.0 parts.0 (inr not)) refl))
       ]
 
-  none_asked : (forms : List (Form A)) → AllOf Lawful forms → start_in letters forms ≡ true → is_in (first_byte text) letters ≡ false
+  form_none_asked : (forms : List (Form A)) → AllOfForms LawfulForm forms → forms_start_in letters forms ≡ true
+      → form_letter_is_in (form_first_byte text) letters ≡ false
       → first_read forms text ≡ None
-  none_asked [] laws within e = refl
-  none_asked (form ∷ forms) laws within e = grind (arith, and_parts, not_asked, none_asked forms laws.1)
+  form_none_asked [] laws within e = refl
+  form_none_asked (form ∷ forms) laws within e = grind (arith, and_parts, form_not_asked, form_none_asked forms laws.1)
 
-  letter_chosen : (ls : List ℕ) (forms : List (Form A)) (c : ℕ) → is_in c ls ≡ true → by_letter ls forms c text ≡ letter_read forms c text
-  letter_chosen [] forms c e = absurd (false≢true e)
-  letter_chosen (l ∷ ls) forms c e = elim (cases_eq c l) [
+  form_letter_chosen : (ls : List ℕ) (forms : List (Form A)) (c : ℕ) → form_letter_is_in c ls ≡ true
+      → form_by_letter ls forms c text ≡ letter_read forms c text
+  form_letter_chosen [] forms c e = absurd (false≢true e)
+  form_letter_chosen (l ∷ ls) forms c e = elim (cases_eq c l) [
     | inl same ↦ rw (eq-eqb c l same) (ap (λ (x : ℕ). letter_read forms x text) (sym same))
-    | inr other ↦ rw (ne_eqb c l other) (letter_chosen ls forms c (rw (ne_eqb c l other) at e))
+    | inr other ↦ rw (ne_eqb c l other) (form_letter_chosen ls forms c (rw (ne_eqb c l other) at e))
   ]
 
-  unknown : (ls : List ℕ) (forms : List (Form A)) (c : ℕ) → is_in c ls ≡ false → by_letter ls forms c text ≡ None
-  unknown [] forms c e = refl
-  unknown (l ∷ ls) forms c e = grind (arith, cases_eq, eq-eqb, ne_eqb, unknown ls forms c)
+  form_letter_unknown : (ls : List ℕ) (forms : List (Form A)) (c : ℕ) → form_letter_is_in c ls ≡ false
+      → form_by_letter ls forms c text ≡ None
+  form_letter_unknown [] forms c e = refl
+  form_letter_unknown (l ∷ ls) forms c e = grind (arith, cases_eq, eq-eqb, ne_eqb, form_letter_unknown ls forms c)
 
   -- the look at the first letter changes nothing
-  by_letter_is : (forms : List (Form A)) → AllOf Lawful forms → start_in letters forms ≡ true
-      → by_letter letters forms (first_byte text) text ≡ first_read forms text
-  by_letter_is forms laws within = elim (cases_Bool (is_in (first_byte text) letters)) [
-    | inl is ↦ letter_chosen letters forms (first_byte text) is ∙ letter_asked forms laws within
-    | inr not ↦ unknown letters forms (first_byte text) not ∙ sym (none_asked forms laws within not)
+  form_by_letter_is : (forms : List (Form A)) → AllOfForms LawfulForm forms → forms_start_in letters forms ≡ true
+      → form_by_letter letters forms (form_first_byte text) text ≡ first_read forms text
+  form_by_letter_is forms laws within = elim (cases_Bool (form_letter_is_in (form_first_byte text) letters)) [
+    | inl is ↦ form_letter_chosen letters forms (form_first_byte text) is ∙ form_letter_asked forms laws within
+    | inr not ↦ form_letter_unknown letters forms (form_first_byte text) not ∙ sym (form_none_asked forms laws within not)
   ]
 
 -- so the table is read, whichever letter is asked
-pub lettered : {A : Type 0} (letters : List ℕ) (forms : List (Form A)) → AllOf Lawful forms → forms_apart forms ≡ true
-    → start_in letters forms ≡ true → Reads (any forms).Is (λ text. by_letter letters forms (first_byte text) text)
-lettered letters forms laws far within = record {
-  sound = λ text x e. any_sound forms laws text x (sym (by_letter_is letters text forms laws within) ∙ e);
-  complete = λ text x h. by_letter_is letters text forms laws within ∙ any_complete forms laws far text x h;
+pub table_lettered : {A : Type 0} (letters : List ℕ) (forms : List (Form A)) → AllOfForms LawfulForm forms → forms_apart forms ≡ true
+    → forms_start_in letters forms ≡ true → Reads (any_form forms).Is (λ text. form_by_letter letters forms (form_first_byte text) text)
+table_lettered letters forms laws far within = record {
+  sound = λ text x e. any_form_sound forms laws text x (sym (form_by_letter_is letters text forms laws within) ∙ e);
+  complete = λ text x h. form_by_letter_is letters text forms laws within ∙ form_any_complete forms laws far text x h;
 }

@@ -2,7 +2,7 @@
 use Rattle.str0m_signal.proofs.Common.{◌≡◌, ℕ, ◌<◌, ◌≤◌, List, [], ◌∷◌, ◌++◌, length, Option, None, refl, sym, ap, subst, ◌∙◌, arith}
 use Rattle.str0m_signal.proofs.Common.{none-some, Reads}
 use Rattle.str0m_signal.proofs.line.LinesLaws.{line_found, line_given}
-use Rattle.str0m_signal.specs.line.Lines.{Line, OneLine, Chain, Run, Taken}
+use Rattle.str0m_signal.specs.line.Lines.{Line, OneLine, Chain, Run, TakenLine}
 use Rattle.str0m_signal.specs.line.LinesReading.{lines_of, line_read, ReadsTo}
 
 -- one more part at the end
@@ -12,28 +12,28 @@ chain_more S start [] now a next h s = (next, subst (λ (ls : List Line). S ls a
 chain_more S start (d ∷ ds) now a next h s = (h.0, h.1, chain_more S h.0 ds now a next h.2 s)
 
 -- fewer lines follow
-pub one_fewer : {A : Type 0} (F : List ℕ → A → Type 0) (lines : List Line) (a : A) (after : List Line) → OneLine F lines a after
+pub chain_one_fewer : {A : Type 0} (F : List ℕ → A → Type 0) (lines : List Line) (a : A) (after : List Line) → OneLine F lines a after
     → length after < length lines
-one_fewer F lines a after h = omega (arith, ap length h.1)
+chain_one_fewer F lines a after h = omega (arith, ap length h.1)
 
 pub chain_fewer : {A : Type 0} (F : List ℕ → A → Type 0) (lines : List Line) (as' : List A) (rest : List Line)
     → Chain (OneLine F) lines as' rest → length rest ≤ length lines
 chain_fewer F lines [] rest h = omega (arith, ap length h)
-chain_fewer F lines (a ∷ as') rest h = omega (arith, one_fewer F lines a h.0 h.1, chain_fewer F h.0 as' rest h.2)
+chain_fewer F lines (a ∷ as') rest h = omega (arith, chain_one_fewer F lines a h.0 h.1, chain_fewer F h.0 as' rest h.2)
 
-pub taken_fewer : {A : Type 0} (F : List ℕ → A → Type 0) (lines : List Line) (o : Option A) (rest : List Line)
-    → Taken (OneLine F) lines o rest → length rest ≤ length lines
-taken_fewer F lines o rest h = grind arith
+pub chain_taken_fewer : {A : Type 0} (F : List ℕ → A → Type 0) (lines : List Line) (o : Option A) (rest : List Line)
+    → TakenLine (OneLine F) lines o rest → length rest ≤ length lines
+chain_taken_fewer F lines o rest h = grind arith
 
 -- ---- at most one
 
-abbrev pub OnlyOne : {A : Type 0} → (List Line → A → List Line → Type 0) → Type 0
-OnlyOne S = (lines : List Line) (a b : _) (after after' : List Line) → S lines a after → S lines b after' → (a ≡ b) × (after ≡ after')
+abbrev pub OnlyOneLine : {A : Type 0} → (List Line → A → List Line → Type 0) → Type 0
+OnlyOneLine S = (lines : List Line) (a b : _) (after after' : List Line) → S lines a after → S lines b after' → (a ≡ b) × (after ≡ after')
 
-pub one_line_only : {A : Type 0} {F : List ℕ → A → Type 0} {f : List ℕ → Option A} → Reads F f → OnlyOne (OneLine F)
+pub one_line_only : {A : Type 0} {F : List ℕ → A → Type 0} {f : List ℕ → Option A} → Reads F f → OnlyOneLine (OneLine F)
 one_line_only {F} reads lines a b after after' h k = grind arith
 
-pub chain_ends : {A : Type 0} (S : List Line → A → List Line → Type 0) → OnlyOne S
+pub chain_ends : {A : Type 0} (S : List Line → A → List Line → Type 0) → OnlyOneLine S
     → (lines : List Line) (as' bs : List A) (rest rest' : List Line) → Run S lines as' rest → Run S lines bs rest'
     → (as' ≡ bs) × (rest ≡ rest')
 chain_ends S one lines [] [] rest rest' h k = (refl, sym h.0 ∙ k.0)
@@ -41,14 +41,14 @@ chain_ends S one lines [] (b ∷ bs) rest rest' h k = absurd (h.1 b k.0.0 (subst
 chain_ends S one lines (a ∷ as') [] rest rest' h k = absurd (k.1 a h.0.0 (subst (λ (ls : List Line). S ls a h.0.0) k.0 h.0.1))
 chain_ends {A} S one lines (a ∷ as') (b ∷ bs) rest rest' h k = grind (arith, chain_ends S one h.0.0 as' bs rest rest' (h.0.2, h.1))
 
-pub taken_only : {A : Type 0} (S : List Line → A → List Line → Type 0) → OnlyOne S
-    → (lines : List Line) (o p : Option A) (rest rest' : List Line) → Taken S lines o rest → Taken S lines p rest'
+pub chain_taken_only : {A : Type 0} (S : List Line → A → List Line → Type 0) → OnlyOneLine S
+    → (lines : List Line) (o p : Option A) (rest rest' : List Line) → TakenLine S lines o rest → TakenLine S lines p rest'
     → (o ≡ p) × (rest ≡ rest')
-taken_only S one lines o p rest rest' h k = grind arith
+chain_taken_only S one lines o p rest rest' h k = grind arith
 
-pub taken_none : {A : Type 0} {F : List ℕ → A → Type 0} {f : List ℕ → Option A} → Reads F f → (text : List ℕ)
-    → None ≡ line_read f (lines_of text) → Taken (OneLine F) (lines_of text) None (lines_of text)
-taken_none reads text e = (refl, λ a after h. none-some (a, after) (e ∙ line_given reads (lines_of text) a after h))
+pub chain_taken_none : {A : Type 0} {F : List ℕ → A → Type 0} {f : List ℕ → Option A} → Reads F f → (text : List ℕ)
+    → None ≡ line_read f (lines_of text) → TakenLine (OneLine F) (lines_of text) None (lines_of text)
+chain_taken_none reads text e = (refl, λ a after h. none-some (a, after) (e ∙ line_given reads (lines_of text) a after h))
 
 -- ---- runs of what a function reads
 

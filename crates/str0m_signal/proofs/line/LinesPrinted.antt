@@ -2,7 +2,7 @@
 use Rattle.str0m_signal.proofs.Common.{arith, ◌≡◌, ◌≢◌, inl, inr, get_or, ℕ, List, [], ◌∷◌, ◌++◌, refl, sym, ap, ◌∙◌, subst, codes}
 use Rattle.str0m_signal.proofs.Common.{flat_map, append_assoc, Lacks, line_end}
 use Rattle.str0m_signal.proofs.session.AttributesPrinted.{LinesReadAs}
-use Rattle.str0m_signal.specs.line.Lines.{Line, joined, AreLines, Lines, OneLine, IsAttributeLine, Chain, Stops}
+use Rattle.str0m_signal.specs.line.Lines.{Line, lines_joined, AreLines, Lines, OneLine, IsAttributeLine, Chain, StopsLines}
 use Rattle.str0m_signal.specs.session.Section.{IsField, IsBandwidth}
 
 -- a line of this content that ends as printed lines do
@@ -14,9 +14,9 @@ abbrev pub ArePrinted : List Line → Type 0
 ArePrinted [] = Unit {0}
 ArePrinted (line ∷ lines) = (line.ending ≡ line_end) × Lacks 10 line.content × Lacks 13 line.content × ArePrinted lines
 
-pub joined-append : (xs ys : List Line) → joined (xs ++ ys) ≡ joined xs ++ joined ys
-joined-append [] ys = refl
-joined-append (x ∷ xs) ys = grind (arith, joined-append xs ys, append_assoc)
+pub lines_joined-append : (xs ys : List Line) → lines_joined (xs ++ ys) ≡ lines_joined xs ++ lines_joined ys
+lines_joined-append [] ys = refl
+lines_joined-append (x ∷ xs) ys = grind (arith, lines_joined-append xs ys, append_assoc)
 
 pub printed-append : (xs ys : List Line) → ArePrinted xs → ArePrinted ys → ArePrinted (xs ++ ys)
 printed-append [] ys h k = k
@@ -27,36 +27,37 @@ printed_lines [] h = tt
 printed_lines (line ∷ lines) h = (record { inside = h.1; ends = inr (inl h.0) }, printed_lines lines h.3)
 
 -- a text that is joined of such lines has these lines
-pub lines_printed : (text : List ℕ) (lines : List Line) → text ≡ joined lines → ArePrinted lines → Lines text lines
+pub lines_printed : (text : List ℕ) (lines : List Line) → text ≡ lines_joined lines → ArePrinted lines → Lines text lines
 lines_printed text lines e h = (e, printed_lines lines h)
 
 -- ---- what stands next
 
 -- the first line is none, or begins with another character
-abbrev pub Apart : ℕ → List Line → Type 0
-Apart c [] = Unit {0}
-Apart c (line ∷ lines) = (text : List ℕ) → line.content ≢ c ∷ text
+abbrev pub LinesApart : ℕ → List Line → Type 0
+LinesApart c [] = Unit {0}
+LinesApart c (line ∷ lines) = (text : List ℕ) → line.content ≢ c ∷ text
 
-pub apart-append : (c : ℕ) (xs ys : List Line) → Apart c xs → Apart c ys → Apart c (xs ++ ys)
-apart-append c xs ys h k = grind arith
+pub printed_lines_apart-append : (c : ℕ) (xs ys : List Line) → LinesApart c xs → LinesApart c ys → LinesApart c (xs ++ ys)
+printed_lines_apart-append c xs ys h k = grind arith
 
-pub apart : (c d : ℕ) (text : List ℕ) (line : Line) (lines : List Line) → line.content ≡ d ∷ text → c ≢ d → Apart c (line ∷ lines)
+pub apart : (c d : ℕ) (text : List ℕ) (line : Line) (lines : List Line) → line.content ≡ d ∷ text → c ≢ d → LinesApart c (line ∷ lines)
 apart c d text line lines e other = λ more f. other (ap (λ (l : List ℕ). get_or l 0 0) (sym f ∙ e))
 
 -- nothing that begins with the character stands there
-pub stops : {A : Type 0} (F : List ℕ → A → Type 0) (c : ℕ)
-    → ((content : List ℕ) (a : A) → F content a → (text : List ℕ) × (content ≡ c ∷ text)) → (lines : List Line) → Apart c lines
-    → Stops (OneLine F) lines
-stops F c begins o h a after one = grind arith
+pub lines_stop : {A : Type 0} (F : List ℕ → A → Type 0) (c : ℕ)
+    → ((content : List ℕ) (a : A) → F content a → (text : List ℕ) × (content ≡ c ∷ text)) → (lines : List Line) → LinesApart c lines
+    → StopsLines (OneLine F) lines
+lines_stop F c begins o h a after one = grind arith
 
-pub no_field : (c : ℕ) (lines : List Line) → Apart c lines → Stops (OneLine (IsField (c ∷ 61 ∷ []))) lines
-no_field c = stops (IsField (c ∷ 61 ∷ [])) c (λ content a h. (61 ∷ a, h.0))
+pub no_field_line : (c : ℕ) (lines : List Line) → LinesApart c lines → StopsLines (OneLine (IsField (c ∷ 61 ∷ []))) lines
+no_field_line c = lines_stop (IsField (c ∷ 61 ∷ [])) c (λ content a h. (61 ∷ a, h.0))
 
-pub no_bandwidth : (lines : List Line) → Apart 98 lines → Stops (OneLine IsBandwidth) lines
-no_bandwidth = stops IsBandwidth 98 (λ content a h. (61 ∷ (a.typ ++ (codes ":" ++ a.val)), h.0))
+pub no_bandwidth : (lines : List Line) → LinesApart 98 lines → StopsLines (OneLine IsBandwidth) lines
+no_bandwidth = lines_stop IsBandwidth 98 (λ content a h. (61 ∷ (a.typ ++ (codes ":" ++ a.val)), h.0))
 
-pub no_attribute : {A : Type 0} (F : List ℕ → A → Type 0) (lines : List Line) → Apart 97 lines → Stops (OneLine (IsAttributeLine F)) lines
-no_attribute F = stops (IsAttributeLine F) 97 (λ content a h. (61 ∷ h.0, h.1))
+pub no_attribute : {A : Type 0} (F : List ℕ → A → Type 0) (lines : List Line) → LinesApart 97 lines
+    → StopsLines (OneLine (IsAttributeLine F)) lines
+no_attribute F = lines_stop (IsAttributeLine F) 97 (λ content a h. (61 ∷ h.0, h.1))
 
 -- ---- attributes
 
@@ -64,22 +65,22 @@ no_attribute F = stops (IsAttributeLine F) 97 (λ content a h. (61 ∷ h.0, h.1)
 pub record SaidLines {X A : Type 0} (text : X → List ℕ) (F : List ℕ → A → Type 0) (xs : List X) (reads : List A) : Type 0 where
   pub lines : List Line
   pub printed : ArePrinted lines
-  pub are : flat_map text xs ≡ joined lines
+  pub are : flat_map text xs ≡ lines_joined lines
   pub chain : (rest : List Line) → Chain (OneLine (IsAttributeLine F)) (lines ++ rest) reads rest
-  pub letter : (c : ℕ) → c ≢ 97 → Apart c lines
+  pub letter : (c : ℕ) → c ≢ 97 → LinesApart c lines
 
-pub said : {X A : Type 0} (text : X → List ℕ) (F : List ℕ → A → Type 0) (xs : List X) (reads : List A)
+pub lines_said : {X A : Type 0} (text : X → List ℕ) (F : List ℕ → A → Type 0) (xs : List X) (reads : List A)
     → LinesReadAs text (IsAttributeLine F) xs reads → SaidLines text F xs reads
-said text F [] reads h = record {
+lines_said text F [] reads h = record {
   lines = [];
   printed = tt;
   are = refl;
   chain = λ rest. subst (λ rs. Chain (OneLine (IsAttributeLine F)) rest rs rest) (sym h) refl;
   letter = λ c other. tt;
 }
-said text F (x ∷ xs) reads (inl nothing) = grind (arith, said text F xs reads nothing.1)
-said text F (x ∷ xs) reads (inr (a, reads', e, (content, whole, no_lf, no_cr, form), later)) =
-    let more = said text F xs reads' later in
+lines_said text F (x ∷ xs) reads (inl nothing) = grind (arith, lines_said text F xs reads nothing.1)
+lines_said text F (x ∷ xs) reads (inr (a, reads', e, (content, whole, no_lf, no_cr, form), later)) =
+    let more = lines_said text F xs reads' later in
     record {
       lines = printed_line content ∷ more.lines;
       printed = (refl, no_lf, no_cr, more.printed);

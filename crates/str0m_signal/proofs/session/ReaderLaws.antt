@@ -4,12 +4,13 @@ use Rattle.str0m_signal.proofs.Common.{Bandwidth, MediaLine, MediaAttribute, Con
 use Rattle.str0m_signal.proofs.form.MediaAttributeLaws.{media_line_both}
 use Rattle.str0m_signal.proofs.form.SessionAttributeAgain.{session_line_both}
 use Rattle.str0m_signal.proofs.line.LinesAgain.{head_of}
-use Rattle.str0m_signal.proofs.line.LinesChainLaws.{OnlyOne, one_line_only, chain_ends, taken_only, one_fewer, chain_fewer, taken_fewer}
-use Rattle.str0m_signal.proofs.session.HeaderLaws.{exact_both, info_both, opening_given}
-use Rattle.str0m_signal.proofs.session.SectionLaws.{field_both, bandwidth_both, head_both}
+use Rattle.str0m_signal.proofs.line.LinesChainLaws.{OnlyOneLine, one_line_only, chain_ends, chain_taken_only, chain_one_fewer, chain_fewer}
+use Rattle.str0m_signal.proofs.line.LinesChainLaws.{chain_taken_fewer}
+use Rattle.str0m_signal.proofs.session.HeaderLaws.{header_exact_line_both, header_info_both, header_opening_given}
+use Rattle.str0m_signal.proofs.session.SectionLaws.{section_field_both, bandwidth_both, head_both}
 use Rattle.str0m_signal.specs.form.MediaAttribute.{IsMediaLine}
 use Rattle.str0m_signal.specs.form.SessionAttribute.{IsSessionLine}
-use Rattle.str0m_signal.specs.line.Lines.{Line, OneLine, Chain, Stops, Run, Taken}
+use Rattle.str0m_signal.specs.line.Lines.{Line, OneLine, Chain, StopsLines, Run, TakenLine}
 use Rattle.str0m_signal.specs.session.Header.{Header, IsExactly, IsInfo, IsHeader}
 use Rattle.str0m_signal.specs.session.HeaderReading.{opening_read}
 use Rattle.str0m_signal.specs.session.Reader.{ConsistentSection, Sections, IsSession, IsReading}
@@ -18,35 +19,39 @@ use Rattle.str0m_signal.specs.session.Section.{IsField, IsBandwidth, Head, IsHea
 -- where two headers of the same lines have their timing
 module _ (lines : List Line) (id : ℕ) (l1 l2 l3 : List Line) (infos : List (List ℕ)) (bw : Option Bandwidth)
     (open_is : opening_read lines ≡ Some (id, l1)) (infos_are : Run (OneLine IsInfo) l1 infos l2)
-    (bw_is : Taken (OneLine IsBandwidth) l2 bw l3) where
-  before_timing : (header : Header) (rest : List Line) (h : IsHeader lines header rest)
+    (bw_is : TakenLine (OneLine IsBandwidth) l2 bw l3) where
+  reader_before_timing : (header : Header) (rest : List Line) (h : IsHeader lines header rest)
       → (id ≡ header.id) × (bw ≡ header.bw) × (l3 ≡ h.after_bandwidth)
-  before_timing header rest h =
-      let pair = some_pair_parts id header.id l1 h.after_opening (sym open_is ∙ opening_given lines header.id h.after_opening h.opening_is)
+  reader_before_timing header rest h =
+      let pair = some_pair_parts id header.id l1 h.after_opening (sym open_is
+      ∙ header_opening_given lines header.id h.after_opening h.opening_is)
       in
-      let run = chain_ends (OneLine IsInfo) (one_line_only info_both) l1 infos h.infos l2 h.after_infos infos_are
+      let run = chain_ends (OneLine IsInfo) (one_line_only header_info_both) l1 infos h.infos l2 h.after_infos infos_are
       (subst (λ (ls : List Line). Run (OneLine IsInfo) ls h.infos h.after_infos) (sym pair.1) h.infos_are) in
-      let taken = taken_only (OneLine IsBandwidth) (one_line_only bandwidth_both) l2 bw header.bw l3 h.after_bandwidth bw_is
-      (subst (λ (ls : List Line). Taken (OneLine IsBandwidth) ls header.bw h.after_bandwidth) (sym run.1) h.bandwidth_is) in
+      let taken = chain_taken_only (OneLine IsBandwidth) (one_line_only bandwidth_both) l2 bw header.bw l3 h.after_bandwidth bw_is
+      (subst (λ (ls : List Line). TakenLine (OneLine IsBandwidth) ls header.bw h.after_bandwidth) (sym run.1) h.bandwidth_is) in
       (pair.0, taken.0, taken.1)
 
-  pub no_timing : Stops (OneLine (IsExactly (codes "t=0 0"))) l3 → (header : Header) (rest : List Line) → IsHeader lines header rest → ⊥
-  no_timing stops header rest h =
-      let same = before_timing header rest h in
+  pub reader_no_timing : StopsLines (OneLine (IsExactly (codes "t=0 0"))) l3 → (header : Header) (rest : List Line)
+      → IsHeader lines header rest → ⊥
+  reader_no_timing stops header rest h =
+      let same = reader_before_timing header rest h in
       stops (codes "t=0 0") h.after_timing
       (subst (λ (ls : List Line). OneLine (IsExactly (codes "t=0 0")) ls (codes "t=0 0") h.after_timing) (sym same.2) h.timing_is)
 
 abbrev header_of : ℕ → Option Bandwidth → Header
 header_of id bw = record { id = id; bw = bw }
 
-pub header_only : OnlyOne IsHeader
+pub header_only : OnlyOneLine IsHeader
 header_only lines a b after after' h k =
-    let same = before_timing lines a.id h.after_opening h.after_infos h.after_bandwidth h.infos a.bw
-    (opening_given lines a.id h.after_opening h.opening_is) h.infos_are h.bandwidth_is b after' k in
-    let timing = one_line_only (exact_both (codes "t=0 0")) h.after_bandwidth (codes "t=0 0") (codes "t=0 0") h.after_timing k.after_timing
+    let same = reader_before_timing lines a.id h.after_opening h.after_infos h.after_bandwidth h.infos a.bw
+    (header_opening_given lines a.id h.after_opening h.opening_is) h.infos_are h.bandwidth_is b after' k in
+    let timing = one_line_only (header_exact_line_both (codes "t=0 0")) h.after_bandwidth (codes "t=0 0") (codes "t=0 0") h.after_timing
+    k.after_timing
     h.timing_is (subst (λ (ls : List Line). OneLine (IsExactly (codes "t=0 0")) ls (codes "t=0 0") k.after_timing) (sym same.2)
     k.timing_is) in
-    let repeats = chain_ends (OneLine (IsField (codes "r="))) (one_line_only (field_both (codes "r="))) h.after_timing h.repeats k.repeats
+    let repeats = chain_ends (OneLine (IsField (codes "r="))) (one_line_only (section_field_both (codes "r="))) h.after_timing h.repeats
+    k.repeats
     after after' h.repeats_are (subst (λ (ls : List Line). Run (OneLine (IsField (codes "r="))) ls k.repeats after') (sym timing.1)
     k.repeats_are) in
     (ap (λ (i : ℕ). header_of i a.bw) same.0 ∙ ap (λ (w : Option Bandwidth). header_of b.id w) same.1, repeats.1)
@@ -54,16 +59,17 @@ header_only lines a b after after' h k =
 abbrev section_from : Head → Option Bandwidth → List MediaAttribute → MediaLine
 section_from head bw attrs = record { typ = head.typ; disabled = head.disabled; proto = head.proto; pts = head.pts; bw = bw; attrs = attrs }
 
-pub section_only : OnlyOne IsSection
+pub section_only : OnlyOneLine IsSection
 section_only lines a b after after' h k =
     let head = one_line_only head_both lines (head_of a) (head_of b) h.after_head k.after_head h.head_is k.head_is in
-    let connection = taken_only (OneLine (IsField (codes "c="))) (one_line_only (field_both (codes "c="))) h.after_head h.connection
+    let connection = chain_taken_only (OneLine (IsField (codes "c="))) (one_line_only (section_field_both (codes "c="))) h.after_head
+    h.connection
     k.connection h.after_connection k.after_connection h.connection_is
-    (subst (λ (ls : List Line). Taken (OneLine (IsField (codes "c="))) ls k.connection k.after_connection) (sym head.1) k.connection_is)
+    (subst (λ (ls : List Line). TakenLine (OneLine (IsField (codes "c="))) ls k.connection k.after_connection) (sym head.1) k.connection_is)
     in
-    let bandwidth = taken_only (OneLine IsBandwidth) (one_line_only bandwidth_both) h.after_connection a.bw b.bw h.after_bandwidth
+    let bandwidth = chain_taken_only (OneLine IsBandwidth) (one_line_only bandwidth_both) h.after_connection a.bw b.bw h.after_bandwidth
     k.after_bandwidth h.bandwidth_is
-    (subst (λ (ls : List Line). Taken (OneLine IsBandwidth) ls b.bw k.after_bandwidth) (sym connection.1) k.bandwidth_is) in
+    (subst (λ (ls : List Line). TakenLine (OneLine IsBandwidth) ls b.bw k.after_bandwidth) (sym connection.1) k.bandwidth_is) in
     let attributes = chain_ends (OneLine IsMediaLine) (one_line_only media_line_both) h.after_bandwidth a.attrs b.attrs after after'
     h.attributes_are (subst (λ (ls : List Line). Run (OneLine IsMediaLine) ls b.attrs after') (sym bandwidth.1) k.attributes_are) in (
       ap (λ (m : Head). section_from m a.bw a.attrs) head.0 ∙ ap (λ (w : Option Bandwidth). section_from (head_of b) w a.attrs) bandwidth.0
@@ -71,8 +77,8 @@ section_only lines a b after after' h k =
       attributes.1,
     )
 
-consistent_only : OnlyOne ConsistentSection
-consistent_only lines a b after after' h k = section_only lines a b after after' h.0 k.0
+consistent_section_only : OnlyOneLine ConsistentSection
+consistent_section_only lines a b after after' h k = section_only lines a b after after' h.0 k.0
 
 -- a section is reached that isn't consistent, so there is no list of consistent ones
 pub sections_blocked : (start : List Line) (done : List MediaLine) (now : List Line) (m : MediaLine) (after : List Line)
@@ -93,10 +99,11 @@ sections_run lines sections rest h = (h.0, λ m after is. h.1 (head_of m) is.0.a
 
 pub sections_only : (lines : List Line) (a b : List MediaLine) (rest rest' : List Line) → Sections lines a rest → Sections lines b rest'
     → (a ≡ b) × (rest ≡ rest')
-sections_only lines a b rest rest' h k = chain_ends ConsistentSection consistent_only lines a b rest rest' (sections_run lines a rest h)
+sections_only lines a b rest rest' h k = chain_ends ConsistentSection consistent_section_only lines a b rest rest'
+    (sections_run lines a rest h)
     (sections_run lines b rest' k)
 
-pub session_only : OnlyOne IsSession
+pub session_only : OnlyOneLine IsSession
 session_only lines a b rest rest' h k =
     let header = header_only lines (header_of a.id a.bw) (header_of b.id b.bw) h.after_header k.after_header h.header_is k.header_is in
     let attrs = chain_ends (OneLine IsSessionLine) (one_line_only session_line_both) h.after_header a.attrs b.attrs rest rest'
@@ -109,7 +116,7 @@ session_only lines a b rest rest' h k =
     made_session : Header → List SessionAttribute → Session
     made_session header attrs = record { id = header.id; bw = header.bw; attrs = attrs }
 
-pub reading_only : OnlyOne IsReading
+pub reading_only : OnlyOneLine IsReading
 reading_only lines a b rest rest' h k =
     let session = session_only lines a.session b.session h.after_session k.after_session h.session_is k.session_is in
     let sections = sections_only h.after_session a.media_lines b.media_lines rest rest' h.sections_are
@@ -122,7 +129,7 @@ reading_only lines a b rest rest' h k =
 -- ---- measures
 
 pub section_fewer : (lines : List Line) (m : MediaLine) (rest : List Line) → IsSection lines m rest → length rest < length lines
-section_fewer lines m rest h = grind (arith, one_fewer, taken_fewer, chain_fewer)
+section_fewer lines m rest h = grind (arith, chain_one_fewer, chain_taken_fewer, chain_fewer)
 
 -- ---- what refuses the session or the sections refuses the whole
 

@@ -1,13 +1,14 @@
 -- A printed session with its sections has a reading with nothing left.
 use Rattle.str0m_signal.proofs.Common.{◌≡◌, ◌≢◌, ◌<◌, ◌^◌, ℕ, List, [], ◌++◌, IfSome, refl, sym, ap, ◌∙◌, arith, flat_map, append-nil}
 use Rattle.str0m_signal.proofs.Common.{session_attribute_text, bandwidth_text, media_line_text, sdp_text, SessionAttribute, MediaLine, Sdp}
-use Rattle.str0m_signal.proofs.line.LinesPrinted.{joined-append, printed-append, lines_printed, Apart, apart-append}
+use Rattle.str0m_signal.proofs.line.LinesPrinted.{lines_joined-append, printed-append, lines_printed, LinesApart}
+use Rattle.str0m_signal.proofs.line.LinesPrinted.{printed_lines_apart-append}
 use Rattle.str0m_signal.proofs.session.AttributesPrinted.{LinesReadAs}
 use Rattle.str0m_signal.proofs.session.Sections.{AreSectionsRead, SaidSections, said_sections, sections_are}
 use Rattle.str0m_signal.proofs.session.SessionLines.{SaidSession, said_session}
-use Rattle.str0m_signal.specs.back.Writable.{IsPrintedAs}
+use Rattle.str0m_signal.specs.back.Writable.{IsReadBackLine}
 use Rattle.str0m_signal.specs.form.SessionAttribute.{IsSessionLine}
-use Rattle.str0m_signal.specs.line.Lines.{joined}
+use Rattle.str0m_signal.specs.line.Lines.{lines_joined}
 use Rattle.str0m_signal.specs.session.Reader.{Reading}
 use Rattle.str0m_signal.specs.session.Section.{IsBandwidth}
 
@@ -16,7 +17,7 @@ abbrev pub read_of : Sdp → List SessionAttribute → List MediaLine → Sdp
 read_of sdp attrs sections = record { session = record sdp.session { attrs = attrs }; media_lines = sections }
 
 pub reading_printed : (sdp : Sdp) (attrs : List SessionAttribute) (sections : List MediaLine) → sdp.session.id < 2 ^ 64
-    → IfSome sdp.session.bw (λ bw. IsPrintedAs IsBandwidth (bandwidth_text bw) bw)
+    → IfSome sdp.session.bw (λ bw. IsReadBackLine IsBandwidth (bandwidth_text bw) bw)
     → LinesReadAs session_attribute_text IsSessionLine sdp.session.attrs attrs → AreSectionsRead sdp.media_lines sections
     → Reading (sdp_text sdp) (read_of sdp attrs sections, [])
 reading_printed sdp attrs sections small bandwidth own others = (
@@ -39,11 +40,11 @@ reading_printed sdp attrs sections small bandwidth own others = (
     behind : SaidSections sdp.media_lines sections
     behind = said_sections sdp.media_lines sections others
 
-    starts : (c : ℕ) → c ≢ 109 → Apart c (behind.lines ++ [])
-    starts c other = apart-append c behind.lines [] (behind.letter c other) tt
+    starts : (c : ℕ) → c ≢ 109 → LinesApart c (behind.lines ++ [])
+    starts c other = printed_lines_apart-append c behind.lines [] (behind.letter c other) tt
 
-    whole : sdp_text sdp ≡ joined (first.lines ++ (behind.lines ++ []))
+    whole : sdp_text sdp ≡ lines_joined (first.lines ++ (behind.lines ++ []))
     whole =
         ap (λ (t : List ℕ). t ++ flat_map media_line_text sdp.media_lines) first.are
-        ∙ ap (λ (t : List ℕ). joined first.lines ++ t) (behind.are ∙ ap joined (sym (append-nil behind.lines)))
-        ∙ sym (joined-append first.lines (behind.lines ++ []))
+        ∙ ap (λ (t : List ℕ). lines_joined first.lines ++ t) (behind.are ∙ ap lines_joined (sym (append-nil behind.lines)))
+        ∙ sym (lines_joined-append first.lines (behind.lines ++ []))

@@ -4,115 +4,124 @@ use Rattle.str0m_sdp.specs.section.Alike.{Alike}
 use Rattle.str0m_signal.proofs.Common.{◌≡◌, ◌⊎◌, ◌+◌, ℕ, Bool, true, false, not, cond, List, [], ◌∷◌, filter, zero-add, Option, Some, None}
 use Rattle.str0m_signal.proofs.Common.{IfSome, All, refl, sym, subst, ap, ◌∙◌, arith, inl, inr, AllByRecursion, cases_Bool, All-nil}
 use Rattle.str0m_signal.proofs.Common.{All-cons, All-head, All-tail, All-weaker, ◌<|>◌, FormatParam, media_attribute_text, Consistent}
-use Rattle.str0m_signal.proofs.Common.{AgreesOnApt, is_shown, is_of_type, MediaAttribute, Fmtp, RtcpFb, MediaLine, Srtp, Sctp, count_by}
-use Rattle.str0m_signal.proofs.Common.{All-filter, filter_passes, IsMapped, NamesNoOther, apt_of, apt_among, apt_in, first_apt, maps}
+use Rattle.str0m_signal.proofs.Common.{AgreesOnApt, is_fmtp_shown, is_of_type, MediaAttribute, Fmtp, RtcpFb, MediaLine, Srtp, Sctp}
+use Rattle.str0m_signal.proofs.Common.{count_by}
+use Rattle.str0m_signal.proofs.Common.{All-filter, filter_passes, IsMapped, NamesNoOtherApt, section_apt_of, section_apt_among}
+use Rattle.str0m_signal.proofs.Common.{section_apt_in, first_section_apt, maps}
 use Rattle.str0m_signal.proofs.Common.{is_mid, is_setup, is_direction, RtpMap, sum_by-cons}
-use Rattle.str0m_signal.proofs.form.MediaAttributeAgain.{ComesBack, IsHidden, shown_only}
-use Rattle.str0m_signal.specs.back.Writable.{MediaAreReadAs, IsFrame, frame_of}
+use Rattle.str0m_signal.proofs.form.MediaAttributeAgain.{ComesBack, IsHiddenMedia, media_shown_only}
+use Rattle.str0m_signal.specs.back.Writable.{MediaAreReadAs, IsFrame, writable_frame_of}
 
 -- ---- attributes
 
 -- the attributes with the values that they show, without those that print nothing
-abbrev pub AreShownAs : List MediaAttribute → List MediaAttribute → Type 0
-AreShownAs [] reads = reads ≡ []
-AreShownAs (x ∷ xs) reads =
-    (IsHidden x × AreShownAs xs reads) ⊎ ((more : List MediaAttribute) × (reads ≡ shown_only x ∷ more) × AreShownAs xs more)
+abbrev pub AreSectionLinesShownAs : List MediaAttribute → List MediaAttribute → Type 0
+AreSectionLinesShownAs [] reads = reads ≡ []
+AreSectionLinesShownAs (x ∷ xs) reads =
+    (IsHiddenMedia x × AreSectionLinesShownAs xs reads) ⊎ ((more : List MediaAttribute) × (reads ≡ media_shown_only x ∷ more)
+    × AreSectionLinesShownAs xs more)
 
-shown_twice : (values : List FormatParam) → filter is_shown (filter is_shown values) ≡ filter is_shown values
-shown_twice [] = refl
-shown_twice (v ∷ vs) = grind (arith, cases_Bool, shown_twice vs)
+section_shown_twice : (values : List FormatParam) → filter is_fmtp_shown (filter is_fmtp_shown values) ≡ filter is_fmtp_shown values
+section_shown_twice [] = refl
+section_shown_twice (v ∷ vs) = grind (arith, cases_Bool, section_shown_twice vs)
 
-goes_with : (x : MediaAttribute) → Alike x (shown_only x)
-goes_with x = grind (arith, shown_twice)
+section_goes_with : (x : MediaAttribute) → Alike x (media_shown_only x)
+section_goes_with x = grind (arith, section_shown_twice)
 
-prints_nothing : (x : MediaAttribute) → IsHidden x → media_attribute_text x ≡ []
-prints_nothing x hidden = grind arith
+section_prints_nothing : (x : MediaAttribute) → IsHiddenMedia x → media_attribute_text x ≡ []
+section_prints_nothing x hidden = grind arith
 
 -- attributes each of which comes back are read as what they show
 pub are_again : (attrs : List MediaAttribute) → AllByRecursion ComesBack attrs
-    → (reads : List MediaAttribute) × AreShownAs attrs reads × MediaAreReadAs attrs reads
+    → (reads : List MediaAttribute) × AreSectionLinesShownAs attrs reads × MediaAreReadAs attrs reads
 are_again [] all = ([], refl, refl)
 are_again (x ∷ xs) all =
     let more = are_again xs all.1 in
     elim all.0 [
-      | inl printed ↦
-          (shown_only x ∷ more.0, inr (more.0, refl, more.1), inr (shown_only x, more.0, refl, printed, inl (goes_with x), more.2))
-      | inr hidden ↦ (more.0, inl (hidden, more.1), inl (prints_nothing x hidden, more.2))
+      | inl printed ↦ (
+        media_shown_only x ∷ more.0,
+        inr (more.0, refl, more.1),
+        inr
+            (media_shown_only x, more.0, refl, printed, inl (section_goes_with x), more.2),
+      )
+      | inr hidden ↦ (more.0, inl (hidden, more.1), inl (section_prints_nothing x hidden, more.2))
     ]
 
 -- what all have, all that is read has
-all_again : (P Q : MediaAttribute → Type 0) → ((x : MediaAttribute) → P x → Q (shown_only x)) → (attrs reads : List MediaAttribute)
+all_again : (P Q : MediaAttribute → Type 0) → ((x : MediaAttribute) → P x → Q (media_shown_only x)) → (attrs reads : List MediaAttribute)
     → All P attrs
-    → AreShownAs attrs reads → All Q reads
+    → AreSectionLinesShownAs attrs reads → All Q reads
 all_again P Q each [] reads all are = subst (All Q) (sym are) (All-nil Q)
 all_again P Q each (x ∷ xs) reads all (inl are) = all_again P Q each xs reads (All-tail P x xs all) are.1
 all_again P Q each (x ∷ xs) reads all (inr are) =
     subst (All Q) (sym are.1)
-    (All-cons Q (shown_only x) are.0 (each x (All-head P x xs all)) (all_again P Q each xs are.0 (All-tail P x xs all) are.2))
+    (All-cons Q (media_shown_only x) are.0 (each x (All-head P x xs all)) (all_again P Q each xs are.0 (All-tail P x xs all) are.2))
 
 -- ---- counting
 
-count-cons : (p : MediaAttribute → Bool) (x : MediaAttribute) (xs : List MediaAttribute)
+section_count-cons : (p : MediaAttribute → Bool) (x : MediaAttribute) (xs : List MediaAttribute)
     → count_by p (x ∷ xs) ≡ cond (p x) 1 0 + count_by p xs
-count-cons p x xs = sum_by-cons (λ x. cond (p x) 1 0) x xs
+section_count-cons p x xs = sum_by-cons (λ x. cond (p x) 1 0) x xs
 
 module _ (p : MediaAttribute → Bool) (no_fmtp : (pt : ℕ) (values : List FormatParam) → p (Fmtp pt values) ≡ false) where
-  same_test : (x : MediaAttribute) → p (shown_only x) ≡ p x
-  same_test x = grind arith
+  section_same_test : (x : MediaAttribute) → p (media_shown_only x) ≡ p x
+  section_same_test x = grind arith
 
-  hidden_test : (x : MediaAttribute) → IsHidden x → p x ≡ false
-  hidden_test x hidden = grind arith
+  section_hidden_test : (x : MediaAttribute) → IsHiddenMedia x → p x ≡ false
+  section_hidden_test x hidden = grind arith
 
   -- an attribute that isn't an fmtp line is counted alike
-  pub count_again : (attrs reads : List MediaAttribute) → AreShownAs attrs reads → count_by p reads ≡ count_by p attrs
+  pub count_again : (attrs reads : List MediaAttribute) → AreSectionLinesShownAs attrs reads → count_by p reads ≡ count_by p attrs
   count_again [] reads are = ap (count_by p) are
-  count_again (x ∷ xs) reads (inl are) = grind (arith, count_again xs reads are.1, zero-add, count-cons, hidden_test)
-  count_again (x ∷ xs) reads (inr are) = grind (arith, count-cons, same_test, count_again xs are.0 are.2)
+  count_again (x ∷ xs) reads (inl are) = grind (arith, count_again xs reads are.1, zero-add, section_count-cons, section_hidden_test)
+  count_again (x ∷ xs) reads (inr are) = grind (arith, section_count-cons, section_same_test, count_again xs are.0 are.2)
 
 -- ---- the types that fmtp lines name
 
-hidden_names_none : (v : FormatParam) → is_shown v ≡ false → apt_of v ≡ None
-hidden_names_none v hidden = grind arith
+section_hidden_names_none : (v : FormatParam) → is_fmtp_shown v ≡ false → section_apt_of v ≡ None
+section_hidden_names_none v hidden = grind arith
 
-shown_apt : (values : List FormatParam) → apt_among (filter is_shown values) ≡ apt_among values
-shown_apt [] = refl
-shown_apt (v ∷ vs) = grind (arith, cases_Bool, shown_apt vs, hidden_names_none)
+section_shown_apt : (values : List FormatParam) → section_apt_among (filter is_fmtp_shown values) ≡ section_apt_among values
+section_shown_apt [] = refl
+section_shown_apt (v ∷ vs) = grind (arith, cases_Bool, section_shown_apt vs, section_hidden_names_none)
 
-apt_again : (n : ℕ) (x : MediaAttribute) → apt_in n (shown_only x) ≡ apt_in n x
-apt_again n x = grind (arith, shown_apt)
+apt_again : (n : ℕ) (x : MediaAttribute) → section_apt_in n (media_shown_only x) ≡ section_apt_in n x
+apt_again n x = grind (arith, section_shown_apt)
 
-either_none : (b : Bool) (o : Option ℕ) → o ≡ None → cond b o None ≡ None
-either_none b o e = grind arith
+section_either_none : (b : Bool) (o : Option ℕ) → o ≡ None → cond b o None ≡ None
+section_either_none b o e = grind arith
 
-hidden_apt : (n : ℕ) (x : MediaAttribute) → IsHidden x → apt_in n x ≡ None
-hidden_apt n x hidden = grind (arith, either_none, shown_apt)
+section_hidden_apt : (n : ℕ) (x : MediaAttribute) → IsHiddenMedia x → section_apt_in n x ≡ None
+section_hidden_apt n x hidden = grind (arith, section_either_none, section_shown_apt)
 
-apt_stays : (n : ℕ) (attrs reads : List MediaAttribute) → AreShownAs attrs reads → first_apt n reads ≡ first_apt n attrs
-apt_stays n [] reads are = ap (first_apt n) are
-apt_stays n (x ∷ xs) reads (inl are) = rw (hidden_apt n x are.0) (apt_stays n xs reads are.1)
-apt_stays n (x ∷ xs) reads (inr are) =
-    ap (first_apt n) are.1 ∙ (λ i. apt_again n x i <|> apt_stays n xs are.0 are.2 i)
+section_apt_stays : (n : ℕ) (attrs reads : List MediaAttribute) → AreSectionLinesShownAs attrs reads
+    → first_section_apt n reads ≡ first_section_apt n attrs
+section_apt_stays n [] reads are = ap (first_section_apt n) are
+section_apt_stays n (x ∷ xs) reads (inl are) = rw (section_hidden_apt n x are.0) (section_apt_stays n xs reads are.1)
+section_apt_stays n (x ∷ xs) reads (inr are) =
+    ap (first_section_apt n) are.1 ∙ (λ i. apt_again n x i <|> section_apt_stays n xs are.0 are.2 i)
 
-fewer_values : (o : Option ℕ) (values : List FormatParam) → IfSome o (λ first. All (NamesNoOther first) values)
-    → IfSome o (λ first. All (NamesNoOther first) (filter is_shown values))
-fewer_values None values h = tt
-fewer_values (Some first) values h = All-filter is_shown (NamesNoOther first) values h
+section_fewer_values : (o : Option ℕ) (values : List FormatParam) → IfSome o (λ first. All (NamesNoOtherApt first) values)
+    → IfSome o (λ first. All (NamesNoOtherApt first) (filter is_fmtp_shown values))
+section_fewer_values None values h = tt
+section_fewer_values (Some first) values h = All-filter is_fmtp_shown (NamesNoOtherApt first) values h
 
-agrees_again : (attrs reads : List MediaAttribute) → AreShownAs attrs reads → (x : MediaAttribute) → AgreesOnApt attrs x
-    → AgreesOnApt reads (shown_only x)
+agrees_again : (attrs reads : List MediaAttribute) → AreSectionLinesShownAs attrs reads → (x : MediaAttribute) → AgreesOnApt attrs x
+    → AgreesOnApt reads (media_shown_only x)
 agrees_again attrs reads are (Fmtp pt values) h =
-    subst (λ (o : Option ℕ). IfSome o (λ first. All (NamesNoOther first) (filter is_shown values))) (sym (apt_stays pt attrs reads are))
-    (fewer_values (first_apt pt attrs) values h)
+    subst (λ (o : Option ℕ). IfSome o (λ first. All (NamesNoOtherApt first) (filter is_fmtp_shown values)))
+    (sym (section_apt_stays pt attrs reads are))
+    (section_fewer_values (first_section_apt pt attrs) values h)
 agrees_again attrs reads are x h = tt
 
 -- ---- consistency
 
-mapped_again : (attrs reads : List MediaAttribute) → AreShownAs attrs reads → (pt : ℕ) → IsMapped attrs pt → IsMapped reads pt
+mapped_again : (attrs reads : List MediaAttribute) → AreSectionLinesShownAs attrs reads → (pt : ℕ) → IsMapped attrs pt → IsMapped reads pt
 mapped_again attrs reads are pt (inl one) = inl (count_again (maps pt) (λ n values. refl) attrs reads are ∙ one)
 mapped_again attrs reads are pt (inr none) = inr (count_again (maps pt) (λ n values. refl) attrs reads are ∙ none.0, none.1)
 
 -- the section with what its attributes show, and the same types, or none where it is on Sctp
-pub consistent_again : (m : MediaLine) (pts : List ℕ) (reads : List MediaAttribute) → AreShownAs m.attrs reads
+pub consistent_again : (m : MediaLine) (pts : List ℕ) (reads : List MediaAttribute) → AreSectionLinesShownAs m.attrs reads
     → (pts ≡ m.pts) ⊎ ((pts ≡ []) × (m.proto ≡ Sctp)) → Consistent m → Consistent (record m { pts = pts; attrs = reads })
 consistent_again m pts reads are types h = record {
   mid = count_again is_mid (λ n values. refl) m.attrs reads are ∙ h.mid;
@@ -134,23 +143,25 @@ consistent_again m pts reads are types h = record {
 -- ---- the frame
 
 -- what isn't of a payload type is counted alike in the frame
-count_frame : (p : MediaAttribute → Bool) → ((x : MediaAttribute) → is_of_type x ≡ true → p x ≡ false) → (attrs : List MediaAttribute)
+section_count_frame : (p : MediaAttribute → Bool) → ((x : MediaAttribute) → is_of_type x ≡ true → p x ≡ false)
+    → (attrs : List MediaAttribute)
     → count_by p (filter (λ attr. not (is_of_type attr)) attrs) ≡ count_by p attrs
-count_frame p none [] = refl
-count_frame p none (x ∷ xs) = grind (arith, cases_Bool, count_frame p none xs, zero-add, count-cons)
+section_count_frame p none [] = refl
+section_count_frame p none (x ∷ xs) = grind (arith, cases_Bool, section_count_frame p none xs, zero-add, section_count-cons)
 
 not_of_type : (p : MediaAttribute → Bool) → ((pt : ℕ) → (value : Mapping) → p (RtpMap pt value) ≡ false)
     → ((pt : ℕ) (value : List ℕ) → p (RtcpFb pt value) ≡ false)
     → ((pt : ℕ) (values : List FormatParam) → p (Fmtp pt values) ≡ false) → (x : MediaAttribute) → is_of_type x ≡ true → p x ≡ false
 not_of_type p maps feedback fmtp x h = grind arith
 
-type_again : (x : MediaAttribute) → not (is_of_type x) ≡ true → is_of_type (shown_only x) ≡ false
+type_again : (x : MediaAttribute) → not (is_of_type x) ≡ true → is_of_type (media_shown_only x) ≡ false
 type_again x h = grind arith
 
 -- the frame of a consistent section over Srtp, as it is read
-pub frame_again : (m : MediaLine) (pts : List ℕ) (reads : List MediaAttribute) → AreShownAs (frame_of m).attrs reads → m.proto ≡ Srtp
+pub frame_again : (m : MediaLine) (pts : List ℕ) (reads : List MediaAttribute) → AreSectionLinesShownAs (writable_frame_of m).attrs reads
+    → m.proto ≡ Srtp
     → Consistent m
-    → IsFrame (record (frame_of m) { pts = pts; attrs = reads })
+    → IsFrame (record (writable_frame_of m) { pts = pts; attrs = reads })
 frame_again m pts reads are over h = record {
   mid = same is_mid (λ n values. refl) (not_of_type is_mid (λ n v. refl) (λ n v. refl) (λ n v. refl)) ∙ h.mid;
   setup =
@@ -159,10 +170,10 @@ frame_again m pts reads are over h = record {
       omega arith;
   direction = same is_direction (λ n values. refl) (not_of_type is_direction (λ n v. refl) (λ n v. refl) (λ n v. refl)) ∙ (h.proto over).0;
   none_of_type =
-      all_again (λ attr. not (is_of_type attr) ≡ true) (λ attr. is_of_type attr ≡ false) type_again (frame_of m).attrs reads
+      all_again (λ attr. not (is_of_type attr) ≡ true) (λ attr. is_of_type attr ≡ false) type_again (writable_frame_of m).attrs reads
       (filter_passes (λ attr. not (is_of_type attr)) m.attrs) are;
 }
   where
     same : (p : MediaAttribute → Bool) → ((pt : ℕ) (values : List FormatParam) → p (Fmtp pt values) ≡ false)
         → ((x : MediaAttribute) → is_of_type x ≡ true → p x ≡ false) → count_by p reads ≡ count_by p m.attrs
-    same p no_fmtp none = count_again p no_fmtp (frame_of m).attrs reads are ∙ count_frame p none m.attrs
+    same p no_fmtp none = count_again p no_fmtp (writable_frame_of m).attrs reads are ∙ section_count_frame p none m.attrs

@@ -1,13 +1,14 @@
 -- Printed sections are read as sections, one after another.
 use Rattle.str0m_signal.proofs.Common.{◌≡◌, ◌≢◌, ℕ, List, [], ◌∷◌, ◌++◌, Option, Some, None, IfSome, refl, sym, ap, ◌∙◌, subst, arith, lit<}
-use Rattle.str0m_signal.proofs.Common.{codes, flat_map, append_assoc, lacks_from, media_attribute_text, bandwidth_text, Consistent}
+use Rattle.str0m_signal.proofs.Common.{codes, flat_map, append_assoc, lacks_cut_from, media_attribute_text, bandwidth_text, Consistent}
 use Rattle.str0m_signal.proofs.Common.{line_end, m_line, media_line_text, Bandwidth, MediaLine, bandwidth_line}
-use Rattle.str0m_signal.proofs.line.LinesPrinted.{printed_line, ArePrinted, joined-append, printed-append, Apart, apart-append, apart}
-use Rattle.str0m_signal.proofs.line.LinesPrinted.{no_bandwidth, no_attribute, SaidLines, said}
+use Rattle.str0m_signal.proofs.line.LinesPrinted.{printed_line, ArePrinted, lines_joined-append, printed-append, LinesApart}
+use Rattle.str0m_signal.proofs.line.LinesPrinted.{printed_lines_apart-append, apart}
+use Rattle.str0m_signal.proofs.line.LinesPrinted.{no_bandwidth, no_attribute, SaidLines, lines_said}
 use Rattle.str0m_signal.proofs.session.AttributesPrinted.{LinesReadAs}
-use Rattle.str0m_signal.specs.back.Writable.{IsPrintedAs}
+use Rattle.str0m_signal.specs.back.Writable.{IsReadBackLine}
 use Rattle.str0m_signal.specs.form.MediaAttribute.{MediaForm, IsMediaLine}
-use Rattle.str0m_signal.specs.line.Lines.{Chain, Stops, Taken, Line, joined, OneLine}
+use Rattle.str0m_signal.specs.line.Lines.{Chain, StopsLines, TakenLine, Line, lines_joined, OneLine}
 use Rattle.str0m_signal.specs.session.Reader.{ConsistentSection, Sections}
 use Rattle.str0m_signal.specs.session.Section.{IsBandwidth, IsHead, IsSection}
 
@@ -16,11 +17,11 @@ use Rattle.str0m_signal.specs.session.Section.{IsBandwidth, IsHead, IsSection}
 pub record SaidBandwidth (bw : Option Bandwidth) : Type 0 where
   pub lines : List Line
   pub printed : ArePrinted lines
-  pub are : bandwidth_line bw ≡ joined lines
-  pub taken : (rest : List Line) → Apart 98 rest → Taken (OneLine IsBandwidth) (lines ++ rest) bw rest
-  pub letter : (c : ℕ) → c ≢ 98 → Apart c lines
+  pub are : bandwidth_line bw ≡ lines_joined lines
+  pub taken : (rest : List Line) → LinesApart 98 rest → TakenLine (OneLine IsBandwidth) (lines ++ rest) bw rest
+  pub letter : (c : ℕ) → c ≢ 98 → LinesApart c lines
 
-pub said_bandwidth : (bw : Option Bandwidth) → IfSome bw (λ b. IsPrintedAs IsBandwidth (bandwidth_text b) b) → SaidBandwidth bw
+pub said_bandwidth : (bw : Option Bandwidth) → IfSome bw (λ b. IsReadBackLine IsBandwidth (bandwidth_text b) b) → SaidBandwidth bw
 said_bandwidth None h =
     record { lines = []; printed = tt; are = refl; taken = λ rest apart. (refl, no_bandwidth rest apart); letter = λ c other. tt }
 said_bandwidth (Some b) (content, whole, no_lf, no_cr, form) = record {
@@ -36,8 +37,8 @@ said_bandwidth (Some b) (content, whole, no_lf, no_cr, form) = record {
 -- a section as its lines are read: its types and attributes may be others
 pub record SectionReadAs (m read : MediaLine) : Type 0 where
   pub same : read ≡ record m { pts = read.pts; attrs = read.attrs }
-  pub head : IsPrintedAs IsHead (m_line m) (record { typ = m.typ; disabled = m.disabled; proto = m.proto; pts = read.pts })
-  pub bandwidth : IfSome m.bw (λ bw. IsPrintedAs IsBandwidth (bandwidth_text bw) bw)
+  pub head : IsReadBackLine IsHead (m_line m) (record { typ = m.typ; disabled = m.disabled; proto = m.proto; pts = read.pts })
+  pub bandwidth : IfSome m.bw (λ bw. IsReadBackLine IsBandwidth (bandwidth_text bw) bw)
   pub attributes : LinesReadAs media_attribute_text IsMediaLine m.attrs read.attrs
 
 abbrev pub connection : Line
@@ -47,9 +48,9 @@ connection = printed_line (codes "c=IN IP4 0.0.0.0")
 pub record SaidSection (m read : MediaLine) : Type 0 where
   pub lines : List Line
   pub printed : ArePrinted lines
-  pub are : media_line_text m ≡ joined lines
-  pub section : (rest : List Line) → Apart 97 rest → Apart 98 rest → IsSection (lines ++ rest) read rest
-  pub letter : (c : ℕ) → c ≢ 109 → Apart c lines
+  pub are : media_line_text m ≡ lines_joined lines
+  pub section : (rest : List Line) → LinesApart 97 rest → LinesApart 98 rest → IsSection (lines ++ rest) read rest
+  pub letter : (c : ℕ) → c ≢ 109 → LinesApart c lines
 
 pub said_section : (m read : MediaLine) → SectionReadAs m read → SaidSection m read
 said_section m read h = go h.head where
@@ -57,14 +58,15 @@ said_section m read h = go h.head where
   bw = said_bandwidth m.bw h.bandwidth
 
   attrs : SaidLines media_attribute_text MediaForm m.attrs read.attrs
-  attrs = said media_attribute_text MediaForm m.attrs read.attrs h.attributes
+  attrs = lines_said media_attribute_text MediaForm m.attrs read.attrs h.attributes
 
-  behind : bandwidth_line m.bw ++ flat_map media_attribute_text m.attrs ≡ joined (bw.lines ++ attrs.lines)
+  behind : bandwidth_line m.bw ++ flat_map media_attribute_text m.attrs ≡ lines_joined (bw.lines ++ attrs.lines)
   behind =
-      ap (λ (t : List ℕ). t ++ flat_map media_attribute_text m.attrs) bw.are ∙ ap (λ (t : List ℕ). joined bw.lines ++ t) attrs.are
-      ∙ sym (joined-append bw.lines attrs.lines)
+      ap (λ (t : List ℕ). t ++ flat_map media_attribute_text m.attrs) bw.are ∙ ap (λ (t : List ℕ). lines_joined bw.lines ++ t) attrs.are
+      ∙ sym (lines_joined-append bw.lines attrs.lines)
 
-  go : IsPrintedAs IsHead (m_line m) (record { typ = m.typ; disabled = m.disabled; proto = m.proto; pts = read.pts }) → SaidSection m read
+  go : IsReadBackLine IsHead (m_line m) (record { typ = m.typ; disabled = m.disabled; proto = m.proto; pts = read.pts })
+      → SaidSection m read
   go (content, whole, no_lf, no_cr, form) =
       let head = printed_line content in
       let made : MediaLine = record m { pts = read.pts; attrs = read.attrs } in
@@ -76,8 +78,8 @@ said_section m read h = go h.head where
           no_cr,
           (
             refl,
-            lacks_from 10 (codes "c=IN IP4 0.0.0.0") refl,
-            lacks_from 13 (codes "c=IN IP4 0.0.0.0") refl,
+            lacks_cut_from 10 (codes "c=IN IP4 0.0.0.0") refl,
+            lacks_cut_from 13 (codes "c=IN IP4 0.0.0.0") refl,
             printed-append bw.lines attrs.lines bw.printed attrs.printed,
           ),
         );
@@ -94,10 +96,10 @@ said_section m read h = go h.head where
               after_bandwidth = attrs.lines ++ rest;
               connection = Some (codes "IN IP4 0.0.0.0");
               head_is = (head, refl, no_cr, form);
-              connection_is = (connection, refl, lacks_from 13 (codes "c=IN IP4 0.0.0.0") refl, (refl, lit< tt));
+              connection_is = (connection, refl, lacks_cut_from 13 (codes "c=IN IP4 0.0.0.0") refl, (refl, lit< tt));
               bandwidth_is =
                   bw.taken (attrs.lines ++ rest)
-                  (apart-append 98 attrs.lines rest (attrs.letter 98 (λ e. absurd (omega (arith, e)))) no_b);
+                  (printed_lines_apart-append 98 attrs.lines rest (attrs.letter 98 (λ e. absurd (omega (arith, e)))) no_b);
               attributes_are = (attrs.chain rest, no_attribute MediaForm rest no_a);
             } in
             subst (λ (ls : List Line). IsSection (head ∷ (connection ∷ ls)) read rest) (sym (append_assoc bw.lines attrs.lines rest))
@@ -116,9 +118,9 @@ AreSectionsRead _ _ = ⊥
 pub record SaidSections (ms reads : List MediaLine) : Type 0 where
   pub lines : List Line
   pub printed : ArePrinted lines
-  pub are : flat_map media_line_text ms ≡ joined lines
-  pub chain : (rest : List Line) → Apart 97 rest → Apart 98 rest → Chain ConsistentSection (lines ++ rest) reads rest
-  pub letter : (c : ℕ) → c ≢ 109 → Apart c lines
+  pub are : flat_map media_line_text ms ≡ lines_joined lines
+  pub chain : (rest : List Line) → LinesApart 97 rest → LinesApart 98 rest → Chain ConsistentSection (lines ++ rest) reads rest
+  pub letter : (c : ℕ) → c ≢ 109 → LinesApart c lines
 
 pub said_sections : (ms reads : List MediaLine) → AreSectionsRead ms reads → SaidSections ms reads
 said_sections [] [] h = record { lines = []; printed = tt; are = refl; chain = λ rest no_a no_b. refl; letter = λ c other. tt }
@@ -131,18 +133,20 @@ said_sections (m ∷ ms) (read ∷ reads) h =
       lines = one.lines ++ more.lines;
       printed = printed-append one.lines more.lines one.printed more.printed;
       are =
-          ap (λ (t : List ℕ). t ++ flat_map media_line_text ms) one.are ∙ ap (λ (t : List ℕ). joined one.lines ++ t) more.are
-          ∙ sym (joined-append one.lines more.lines);
+          ap (λ (t : List ℕ). t ++ flat_map media_line_text ms) one.are ∙ ap (λ (t : List ℕ). lines_joined one.lines ++ t) more.are
+          ∙ sym (lines_joined-append one.lines more.lines);
       chain = λ rest no_a no_b.
           let behind = more.lines ++ rest in
-          let a : Apart 97 behind = apart-append 97 more.lines rest (more.letter 97 (λ e. absurd (omega (arith, e)))) no_a in
-          let b : Apart 98 behind = apart-append 98 more.lines rest (more.letter 98 (λ e. absurd (omega (arith, e)))) no_b in
+          let a : LinesApart 97 behind =
+          printed_lines_apart-append 97 more.lines rest (more.letter 97 (λ e. absurd (omega (arith, e)))) no_a in
+          let b : LinesApart 98 behind =
+          printed_lines_apart-append 98 more.lines rest (more.letter 98 (λ e. absurd (omega (arith, e)))) no_b in
           subst (λ (ls : List Line). Chain ConsistentSection ls (read ∷ reads) rest) (sym (append_assoc one.lines more.lines rest))
           (behind, (one.section behind a b, h.1), more.chain rest no_a no_b);
-      letter = λ c other. apart-append c one.lines more.lines (one.letter c other) (more.letter c other);
+      letter = λ c other. printed_lines_apart-append c one.lines more.lines (one.letter c other) (more.letter c other);
     }
 
-no_head : Stops (OneLine IsHead) []
+no_head : StopsLines (OneLine IsHead) []
 no_head a after one = let e = one.1 in absurd cc
 
 -- with nothing after them they are the sections of their lines

@@ -2,7 +2,7 @@
 use Rattle.std.specs.List.{AllZip}
 use Rattle.std.specs.Prelude.{◌≡◌, ◌≢◌, ℕ, true, List, [], Some, slice_set, All, slice_get}
 use Rattle.str0m_formats.specs.row.PlainRowBounds.{HoldsRowNumbers}
-use Rattle.str0m_signal.specs.Prelude.{AllDistinct, Consistent, IsPlain, IsSessionNumber, MediaLine, NamesOne, PayloadParams, SameRow, Sdp, is_media, made, rows, sdp_text, types}
+use Rattle.str0m_signal.specs.Prelude.{AllTypesDistinct, Consistent, IsPlain, IsSessionNumber, MediaLine, NamesOnePrimaryRow, PayloadParams, SameRow, Sdp, is_media, made, rows, sdp_text, types}
 use Rattle.str0m_signal.specs.session.Reader.{Reading}
 
 -- the session with a section made of rows in the place of one
@@ -16,14 +16,14 @@ pub record ReadBack (sdp : Sdp) (i : ℕ) (frame : MediaLine) (theirs : List Pay
   pub section : MediaLine
   pub at : slice_get read.media_lines i ≡ Some section
   pub consistent : Consistent section
-  pub names_one : All (NamesOne section) section.attrs
+  pub names_one : All (NamesOnePrimaryRow section) section.attrs
   pub same : AllZip SameRow (rows section) theirs
 
 -- there is a row, each is plain, and no payload type stands twice
 pub record MayBePrinted (theirs : List PayloadParams) : Type 0 where
   pub some : theirs ≢ []
   pub plain : All IsPlain theirs
-  pub distinct : AllDistinct (types theirs)
+  pub distinct : AllTypesDistinct (types theirs)
 
 -- the numbers are those that their types can hold: of each value that a program has, they are
 abbrev pub FitTheirTypes : Sdp → List PayloadParams → Type 0

@@ -11,15 +11,15 @@ use Rattle.str0m_signal.specs.line.LinesReading.{read_attribute}
 use Rattle.str0m_signal.specs.session.Section.{IsBandwidth, IsHead}
 
 -- the text is one printed line, which has the form F of the value
-abbrev pub IsPrintedAs : {A : Type 0} → (List ℕ → A → Type 0) → List ℕ → A → Type 0
-IsPrintedAs F text value = (content : List ℕ) × (text ≡ content ++ line_end) × Lacks 10 content × Lacks 13 content × F content value
+abbrev pub IsReadBackLine : {A : Type 0} → (List ℕ → A → Type 0) → List ℕ → A → Type 0
+IsReadBackLine F text value = (content : List ℕ) × (text ≡ content ++ line_end) × Lacks 10 content × Lacks 13 content × F content value
 
 -- each item prints nothing, or one line that is read as the value in its place, which goes with the item
 abbrev pub AreReadAs : {X : Type 0} → (X → List ℕ) → (List ℕ → X → Type 0) → (X → X → Type 0) → List X → List X → Type 0
 AreReadAs text F GoesWith [] reads = reads ≡ []
 AreReadAs {X} text F GoesWith (x ∷ xs) reads =
     ((text x ≡ []) × AreReadAs text F GoesWith xs reads)
-    ⊎ ((read : X) × (more : List X) × (reads ≡ read ∷ more) × IsPrintedAs F (text x) read × GoesWith x read
+    ⊎ ((read : X) × (more : List X) × (reads ≡ read ∷ more) × IsReadBackLine F (text x) read × GoesWith x read
     × AreReadAs text F GoesWith xs more)
 
 -- an attribute is read as one alike, or is kept unread
@@ -34,18 +34,18 @@ MediaAreReadAs = AreReadAs media_attribute_text IsMediaLine MediaGoesWith
 
 -- the section's m-line is read as what it is, with these types
 abbrev pub HasTypes : MediaLine → List ℕ → Type 0
-HasTypes m pts = IsPrintedAs IsHead (m_line m) (record { typ = m.typ; disabled = m.disabled; proto = m.proto; pts = pts })
+HasTypes m pts = IsReadBackLine IsHead (m_line m) (record { typ = m.typ; disabled = m.disabled; proto = m.proto; pts = pts })
 
 -- a section as its lines are read: its types and attributes may be others
 pub record IsMediaReadAs (m read : MediaLine) : Type 0 where
   pub same : read ≡ record m { pts = read.pts; attrs = read.attrs }
   pub head : HasTypes m read.pts
-  pub bandwidth : IfSome m.bw (λ bw. IsPrintedAs IsBandwidth (bandwidth_text bw) bw)
+  pub bandwidth : IfSome m.bw (λ bw. IsReadBackLine IsBandwidth (bandwidth_text bw) bw)
   pub attributes : MediaAreReadAs m.attrs read.attrs
 
 -- the section without the lines of payload types
-abbrev pub frame_of : MediaLine → MediaLine
-frame_of m = record m { attrs = filter (λ attr. not (is_of_type attr)) m.attrs }
+abbrev pub writable_frame_of : MediaLine → MediaLine
+writable_frame_of m = record m { attrs = filter (λ attr. not (is_of_type attr)) m.attrs }
 
 -- a frame as its lines are read: one mid, at most one setup, one direction, and no lines of payload types
 pub record IsFrame (m : MediaLine) : Type 0 where
@@ -64,10 +64,10 @@ pub record Writable (sdp : Sdp) (i : ℕ) : Type 0 where
   pub section : MediaLine
   pub at : slice_get sdp.media_lines i ≡ Some section
   pub session : (reads : List SessionAttribute) × AreReadAs session_attribute_text IsSessionLine SessionGoesWith sdp.session.attrs reads
-  pub bandwidth : IfSome sdp.session.bw (λ bw. IsPrintedAs IsBandwidth (bandwidth_text bw) bw)
+  pub bandwidth : IfSome sdp.session.bw (λ bw. IsReadBackLine IsBandwidth (bandwidth_text bw) bw)
   pub others : (j : ℕ) (m : MediaLine) → slice_get sdp.media_lines j ≡ Some m → j ≢ i
       → (read : MediaLine) × IsMediaReadAs m read × Consistent read
-  pub own : (read : MediaLine) × IsMediaReadAs (frame_of section) read × IsFrame read
+  pub own : (read : MediaLine) × IsMediaReadAs (writable_frame_of section) read × IsFrame read
 
 -- the line is read so by a function
 abbrev pub IsReadBy : {A : Type 0} → (List ℕ → Option A) → List ℕ → A → Type 0

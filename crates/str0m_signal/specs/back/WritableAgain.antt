@@ -32,5 +32,5 @@ abbrev pub IsRead : Sdp → Type 0
 IsRead sdp = (text : List ℕ) × (rest : List ℕ) × IsUtf8 text × Reading text (sdp, rest)
 
 -- there is a section there, over Srtp
-abbrev pub IsOverSrtp : Sdp → ℕ → Type 0
-IsOverSrtp sdp i = (m : MediaLine) × (slice_get sdp.media_lines i ≡ Some m) × (m.proto ≡ Srtp)
+abbrev pub IsWritableOverSrtp : Sdp → ℕ → Type 0
+IsWritableOverSrtp sdp i = (m : MediaLine) × (slice_get sdp.media_lines i ≡ Some m) × (m.proto ≡ Srtp)

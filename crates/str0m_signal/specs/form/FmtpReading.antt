@@ -52,20 +52,20 @@ pair_read text = do
   Some ((key, value.0), next)
 
 -- one pair, and those that are read of what follows
-abbrev pub pairs_after : (List ℕ → Option (List (List ℕ × List ℕ))) → List ℕ × List ℕ → Option (List ℕ) → Option (List (List ℕ × List ℕ))
-pairs_after read pair None = Some (pair ∷ [])
-pairs_after read pair (Some more) = read more >>= λ pairs. Some (pair ∷ pairs)
+abbrev pub fmtp_pairs_after : (List ℕ → Option (List (List ℕ × List ℕ))) → List ℕ × List ℕ → Option (List ℕ) → Option (List (List ℕ × List ℕ))
+fmtp_pairs_after read pair None = Some (pair ∷ [])
+fmtp_pairs_after read pair (Some more) = read more >>= λ pairs. Some (pair ∷ pairs)
 
 -- the pairs of a text of fewer than n characters, where f reads the first and what follows it
-unfoldable pub pairs_at : (List ℕ → Option ((List ℕ × List ℕ) × Option (List ℕ))) → ℕ → List ℕ → Option (List (List ℕ × List ℕ))
-pairs_at f zero text = None
-pairs_at f (suc n) text = f text >>= λ p. pairs_after (pairs_at f n) p.0 p.1
+unfoldable pub fmtp_pairs_at : (List ℕ → Option ((List ℕ × List ℕ) × Option (List ℕ))) → ℕ → List ℕ → Option (List (List ℕ × List ℕ))
+fmtp_pairs_at f zero text = None
+fmtp_pairs_at f (suc n) text = f text >>= λ p. fmtp_pairs_after (fmtp_pairs_at f n) p.0 p.1
 
-abbrev pub one_by_one : (List ℕ → Option ((List ℕ × List ℕ) × Option (List ℕ))) → List ℕ → Option (List (List ℕ × List ℕ))
-one_by_one f text = pairs_at f (suc (length text)) text
+abbrev pub fmtp_one_by_one : (List ℕ → Option ((List ℕ × List ℕ) × Option (List ℕ))) → List ℕ → Option (List (List ℕ × List ℕ))
+fmtp_one_by_one f text = fmtp_pairs_at f (suc (length text)) text
 
 abbrev pub pairs_read : List ℕ → Option (List (List ℕ × List ℕ))
-pairs_read = one_by_one pair_read
+pairs_read = fmtp_one_by_one pair_read
 
 abbrev pub pairs_form_read : List ℕ → Option (List FormatParam)
 pairs_form_read more = do

@@ -4,8 +4,8 @@ use Rattle.std.specs.Prelude.{ℕ, List, [], ◌∷◌, ◌==◌, Option, Some, 
 use Rattle.str0m_signal.specs.Prelude.{cut, is_rest, num, strip, when, ◌>>=◌}
 
 -- a value where the text is this word
-abbrev pub alone : {A : Type 0} → List ℕ → A → List ℕ → Option A
-alone word x text = when (bytes_eq text word) x
+abbrev pub word_alone_read : {A : Type 0} → List ℕ → A → List ℕ → Option A
+word_alone_read word x text = when (bytes_eq text word) x
 
 -- what f reads after a label
 abbrev pub behind : {A : Type 0} → List ℕ → (List ℕ → Option A) → List ℕ → Option A
@@ -27,14 +27,14 @@ two_read c f g text = do
   Some (first, second)
 
 -- what f reads before the first c; what stands after it is dropped
-abbrev pub tail_after : {A : Type 0} → (List ℕ → Option A) → List ℕ → Option (List ℕ × List ℕ) → Option A
-tail_after f text None = f text
-tail_after f text (Some parts) = do
+abbrev pub tailed_form_piece_after : {A : Type 0} → (List ℕ → Option A) → List ℕ → Option (List ℕ × List ℕ) → Option A
+tailed_form_piece_after f text None = f text
+tailed_form_piece_after f text (Some parts) = do
   x ← f parts.0
   when (is_rest parts.1) x
 
 abbrev pub tailed_read : {A : Type 0} → ℕ → (List ℕ → Option A) → List ℕ → Option A
-tailed_read c f text = tail_after f text (cut c text)
+tailed_read c f text = tailed_form_piece_after f text (cut c text)
 
 -- what f reads of each piece
 abbrev pub all_read : {A : Type 0} → (List ℕ → Option A) → List (List ℕ) → Option (List A)

@@ -3,7 +3,7 @@ use Rattle.std.specs.Prelude.{◌≡◌, ℕ, List, [], ◌∷◌}
 use Rattle.str0m_sdp.specs.declared.attribute.setup.Setup.{Setup}
 use Rattle.str0m_sdp.specs.declared.label.TheConstants as label
 use Rattle.str0m_signal.specs.Prelude.{Candidate, Fingerprint, IsCandidateText, candidate_read, setup_text}
-use Rattle.str0m_signal.specs.form.FormTable.{Piece, Form, own, a_text, two, parted, labelled}
+use Rattle.str0m_signal.specs.form.FormTable.{FormPiece, Form, own, a_text, two_form_pieces, parted_form_piece, labelled_form}
 use Rattle.str0m_signal.specs.form.MediaAttributeReading.{role_read}
 use Rattle.str0m_signal.specs.line.Words.{IsHexPair}
 use Rattle.str0m_signal.specs.line.WordsReading.{hex_pair_read}
@@ -21,16 +21,16 @@ ice_texts ufrag pwd options =
 abbrev pub candidate : Form Candidate
 candidate = own candidate_label.CANDIDATE.now IsCandidateText candidate_read
 
-abbrev pub hex_piece : Piece ℕ
-hex_piece = record { Is = IsHexPair; read = hex_pair_read }
+abbrev pub hex_form_piece : FormPiece ℕ
+hex_form_piece = record { Is = IsHexPair; read = hex_pair_read }
 
 -- a word SP bytes, each as two hexadecimal digits, with `:` between each two (RFC 8122, section 5)
 abbrev pub fingerprint : Form Fingerprint
-fingerprint = labelled label.FINGERPRINT.now (two 32 a_text (parted 58 hex_piece)) (λ hash. record { hash_func = hash.0; bytes = hash.1 })
+fingerprint = labelled_form label.FINGERPRINT.now (two_form_pieces 32 a_text (parted_form_piece 58 hex_form_piece)) (λ hash. record { hash_func = hash.0; bytes = hash.1 })
 
-abbrev pub role : Piece Setup
+abbrev pub role : FormPiece Setup
 role = record { Is = λ text setup. text ≡ setup_text setup; read = role_read }
 
 -- (RFC 8842, section 5.2)
 abbrev pub setup : {A : Type 0} → (Setup → A) → Form A
-setup make = labelled label.SETUP.now role make
+setup make = labelled_form label.SETUP.now role make

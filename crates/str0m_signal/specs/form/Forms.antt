@@ -11,13 +11,13 @@ abbrev pub IsText : List ℕ → List ℕ → Type 0
 IsText text x = IsRest text × (x ≡ text)
 
 -- what stands before the first c, and what stands after it, each with its value
-abbrev pub Two : {A B : Type 0} → ℕ → (List ℕ → A → Type 0) → (List ℕ → B → Type 0) → List ℕ → A × B → Type 0
-Two c F G text pair = (front : List ℕ) × (rest : List ℕ) × (text ≡ front ++ (c ∷ rest)) × Lacks c front × F front pair.0 × G rest pair.1
+abbrev pub TwoFormParts : {A B : Type 0} → ℕ → (List ℕ → A → Type 0) → (List ℕ → B → Type 0) → List ℕ → A × B → Type 0
+TwoFormParts c F G text pair = (front : List ℕ) × (rest : List ℕ) × (text ≡ front ++ (c ∷ rest)) × Lacks c front × F front pair.0 × G rest pair.1
 
 -- nothing, or c and one or more characters, which aren't kept
-abbrev pub IsTail : ℕ → List ℕ → Type 0
-IsTail c text = (text ≡ []) ⊎ ((rest : List ℕ) × (text ≡ c ∷ rest) × IsRest rest)
+abbrev pub IsDroppedFormTail : ℕ → List ℕ → Type 0
+IsDroppedFormTail c text = (text ≡ []) ⊎ ((rest : List ℕ) × (text ≡ c ∷ rest) × IsRest rest)
 
 -- what stands before the first c, with its value, and such a tail
-abbrev pub IsBeforeTail : {A : Type 0} → ℕ → (List ℕ → A → Type 0) → List ℕ → A → Type 0
-IsBeforeTail c F text x = (front : List ℕ) × (tail : List ℕ) × (text ≡ front ++ tail) × Lacks c front × F front x × IsTail c tail
+abbrev pub IsBeforeDroppedFormTail : {A : Type 0} → ℕ → (List ℕ → A → Type 0) → List ℕ → A → Type 0
+IsBeforeDroppedFormTail c F text x = (front : List ℕ) × (tail : List ℕ) × (text ≡ front ++ tail) × Lacks c front × F front x × IsDroppedFormTail c tail

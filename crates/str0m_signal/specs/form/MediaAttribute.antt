@@ -2,10 +2,10 @@
 use Rattle.std.specs.Prelude.{ℕ, true, List, [], ◌∷◌, Option, codes}
 use Rattle.str0m_sdp.specs.declared.attribute.MediaAttribute.TheVariants.{Rtcp, IceUfrag, IcePwd, IceOptions, Fingerprint, Setup, Mid, SctpPort, MaxMessageSize, SctpInit, ExtMap, Msid, Candidate, RtpMap, RtcpFb, Fmtp, Rid, Simulcast, SsrcGroup, Ssrc, Unused}
 use Rattle.str0m_sdp.specs.declared.label.TheConstants as label
-use Rattle.str0m_signal.specs.Prelude.{FirstFit, IsLongestBeginning, IsRest, MediaAttribute, beginning_of, is_rest, media_words, when, ◌<|>◌}
+use Rattle.str0m_signal.specs.Prelude.{FirstFit, IsLongestShortText, IsRest, MediaAttribute, text_beginning_of, is_rest, media_words, when, ◌<|>◌}
 use Rattle.str0m_signal.specs.form.Fmtp.{IsFmtp}
 use Rattle.str0m_signal.specs.form.FmtpReading.{fmtp_fields_read}
-use Rattle.str0m_signal.specs.form.FormTable.{Piece, Form, own, a_text, number, two, tailed, parted, labelled, made_as, any, any_word, texts, pairs, IsUnused, unused_read, first_byte, by_letter}
+use Rattle.str0m_signal.specs.form.FormTable.{FormPiece, Form, own, a_text, number, two_form_pieces, tailed_form_piece, parted_form_piece, labelled_form, form_made_as, any_form, any_word_form, texts, pair_forms, IsUnusedForm, unused_read, form_first_byte, form_by_letter}
 use Rattle.str0m_signal.specs.form.FormTransport.{ice_texts, candidate, fingerprint, setup}
 use Rattle.str0m_signal.specs.form.Rid.{IsRid}
 use Rattle.str0m_signal.specs.form.RidReading.{rid_fields_read}
@@ -22,69 +22,69 @@ abbrev pub media_pairs : List (List ℕ × (List ℕ × List ℕ → MediaAttrib
 media_pairs = (label.MSID.now, λ p. Msid (record { stream_id = p.0; track_id = p.1 })) ∷ []
 
 abbrev pub rtcp : Form MediaAttribute
-rtcp = labelled label.RTCP.now a_text Rtcp
+rtcp = labelled_form label.RTCP.now a_text Rtcp
 
 -- a name, as far as it is kept
-abbrev pub name : Piece (List ℕ)
-name = record { Is = λ text mid. IsRest text × IsLongestBeginning 16 text mid; read = λ text. when (is_rest text) (beginning_of 16 text) }
+abbrev pub name : FormPiece (List ℕ)
+name = record { Is = λ text mid. IsRest text × IsLongestShortText 16 text mid; read = λ text. when (is_rest text) (text_beginning_of 16 text) }
 
 abbrev pub mid : Form MediaAttribute
-mid = labelled label.MID.now name Mid
+mid = labelled_form label.MID.now name Mid
 
 abbrev pub sctp_port : Form MediaAttribute
-sctp_port = labelled label.SCTP_PORT.now (number 65535) SctpPort
+sctp_port = labelled_form label.SCTP_PORT.now (number 65535) SctpPort
 
 abbrev pub max_message_size : Form MediaAttribute
-max_message_size = labelled label.MAX_MESSAGE_SIZE.now (number 18446744073709551615) MaxMessageSize
+max_message_size = labelled_form label.MAX_MESSAGE_SIZE.now (number 18446744073709551615) MaxMessageSize
 
 abbrev pub sctp_init : Form MediaAttribute
-sctp_init = labelled label.SCTP_INIT.now a_text SctpInit
+sctp_init = labelled_form label.SCTP_INIT.now a_text SctpInit
 
 abbrev pub ext_map : Form MediaAttribute
 ext_map =
-    labelled label.EXTMAP.now (two 32 (tailed 47 (number 255)) (tailed 32 a_text)) (λ p. ExtMap p.0 (record { uri = p.1; serialized = true }))
+    labelled_form label.EXTMAP.now (two_form_pieces 32 (tailed_form_piece 47 (number 255)) (tailed_form_piece 32 a_text)) (λ p. ExtMap p.0 (record { uri = p.1; serialized = true }))
 
 abbrev pub rtpmap : Form MediaAttribute
-rtpmap = made_as (own label.RTPMAP.now (λ text p. IsRtpMap text p.0 p.1) rtpmap_fields_read) (λ p. RtpMap p.0 p.1)
+rtpmap = form_made_as (own label.RTPMAP.now (λ text p. IsRtpMap text p.0 p.1) rtpmap_fields_read) (λ p. RtpMap p.0 p.1)
 
 abbrev pub rtcp_fb : Form MediaAttribute
-rtcp_fb = labelled label.RTCP_FB.now (two 32 (number 127) a_text) (λ p. RtcpFb p.0 p.1)
+rtcp_fb = labelled_form label.RTCP_FB.now (two_form_pieces 32 (number 127) a_text) (λ p. RtcpFb p.0 p.1)
 
 abbrev pub fmtp : Form MediaAttribute
-fmtp = made_as (own label.FMTP.now (λ text p. IsFmtp text p.0 p.1) fmtp_fields_read) (λ p. Fmtp p.0 p.1)
+fmtp = form_made_as (own label.FMTP.now (λ text p. IsFmtp text p.0 p.1) fmtp_fields_read) (λ p. Fmtp p.0 p.1)
 
 abbrev pub rid : Form MediaAttribute
-rid = labelled label.RID.now (record { Is = IsRid; read = rid_fields_read }) (λ f. Rid f.0 f.1.0 f.1.1.0 f.1.1.1)
+rid = labelled_form label.RID.now (record { Is = IsRid; read = rid_fields_read }) (λ f. Rid f.0 f.1.0 f.1.1.0 f.1.1.1)
 
 abbrev pub simulcast : Form MediaAttribute
-simulcast = labelled label.SIMULCAST.now (record { Is = IsSimulcast; read = simulcast_fields_read }) Simulcast
+simulcast = labelled_form label.SIMULCAST.now (record { Is = IsSimulcast; read = simulcast_fields_read }) Simulcast
 
 abbrev pub ssrc_group : Form MediaAttribute
-ssrc_group = labelled label.SSRC_GROUP.now (two 32 a_text (parted 32 (number 4294967295))) (λ p. SsrcGroup p.0 p.1)
+ssrc_group = labelled_form label.SSRC_GROUP.now (two_form_pieces 32 a_text (parted_form_piece 32 (number 4294967295))) (λ p. SsrcGroup p.0 p.1)
 
 abbrev pub ssrc : Form MediaAttribute
-ssrc = labelled label.SSRC.now (two 32 (number 4294967295) (two 58 a_text a_text)) (λ p. Ssrc p.0 p.1.0 p.1.1)
+ssrc = labelled_form label.SSRC.now (two_form_pieces 32 (number 4294967295) (two_form_pieces 58 a_text a_text)) (λ p. Ssrc p.0 p.1.0 p.1.1)
 
 -- those that are neither a mapping nor a format
 abbrev pub other_forms : List (Form MediaAttribute)
 other_forms =
     rtcp_fb
     ∷ ext_map
-    ∷ made_as candidate Candidate
+    ∷ form_made_as candidate Candidate
     ∷ ssrc
     ∷ setup Setup
     ∷ ssrc_group
     ∷ texts media_texts
-    ∷ made_as fingerprint Fingerprint
+    ∷ form_made_as fingerprint Fingerprint
     ∷ mid
-    ∷ pairs media_pairs
+    ∷ pair_forms media_pairs
     ∷ rid
     ∷ rtcp
     ∷ simulcast
     ∷ sctp_port
     ∷ max_message_size
     ∷ sctp_init
-    ∷ any_word media_words
+    ∷ any_word_form media_words
     ∷ []
 
 -- each attribute but `Unused`
@@ -93,7 +93,7 @@ media_forms = rtpmap ∷ fmtp ∷ other_forms
 
 -- the text stands for the attribute: `Unused` only where no other form holds
 abbrev pub MediaForm : List ℕ → MediaAttribute → Type 0
-MediaForm = FirstFit (any media_forms).Is (IsUnused Unused)
+MediaForm = FirstFit (any_form media_forms).Is (IsUnusedForm Unused)
 
 -- a line of a section is `a=` and the text of an attribute
 abbrev pub IsMediaLine : List ℕ → MediaAttribute → Type 0
@@ -104,7 +104,7 @@ abbrev pub letters : List ℕ
 letters = codes "cefimrs"
 
 abbrev pub named_read : List ℕ → Option MediaAttribute
-named_read text = by_letter letters media_forms (first_byte text) text
+named_read text = form_by_letter letters media_forms (form_first_byte text) text
 
 abbrev pub media_read : List ℕ → Option MediaAttribute
 media_read text = named_read text <|> unused_read Unused text

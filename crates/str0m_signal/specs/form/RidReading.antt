@@ -2,7 +2,7 @@
 use Rattle.std.specs.Prelude.{ℕ, true, List, [], Option, Some, None, codes, if◌then◌else◌}
 use Rattle.str0m_signal.specs.Prelude.{RestrictionId, cut, is_rest, num, strip, when, ◌<|>◌, ◌>>=◌}
 use Rattle.str0m_signal.specs.declared.form.rid.Lists.{Lists as TheLists}
-use Rattle.str0m_signal.specs.form.FmtpReading.{fmtp_value_read, skip_blanks, fmtp_key_read, one_by_one}
+use Rattle.str0m_signal.specs.form.FmtpReading.{fmtp_value_read, skip_blanks, fmtp_key_read, fmtp_one_by_one}
 use Rattle.str0m_signal.specs.form.FormReading.{two_read, parted_read}
 use Rattle.str0m_signal.specs.form.RidStreamName.{is_stream_name}
 
@@ -22,7 +22,7 @@ restriction_read text = do
   Some ((key, value.0), next)
 
 abbrev pub restrictions_read : List ℕ → Option (List (List ℕ × List ℕ))
-restrictions_read = one_by_one restriction_read
+restrictions_read = fmtp_one_by_one restriction_read
 
 abbrev pub restricted_read : List ℕ → Option (List (List ℕ × List ℕ))
 restricted_read text = if is_rest text then restrictions_read text else Some []
@@ -42,22 +42,22 @@ abbrev pub typed_read : List ℕ → Option (List ℕ × List (List ℕ × List 
 typed_read text = typed_after text (cut 59 text)
 
 -- the lists, where the text was cut after `pt=` if it begins so
-abbrev pub lists_after : List ℕ → Option (List ℕ) → Option (List ℕ × List (List ℕ × List ℕ))
-lists_after text None = restricted_read text >>= λ pairs. Some ([], pairs)
-lists_after text (Some typed) = typed_read typed
+abbrev pub rid_lists_after : List ℕ → Option (List ℕ) → Option (List ℕ × List (List ℕ × List ℕ))
+rid_lists_after text None = restricted_read text >>= λ pairs. Some ([], pairs)
+rid_lists_after text (Some typed) = typed_read typed
 
 abbrev pub lists_read : List ℕ → Option (List ℕ × List (List ℕ × List ℕ))
-lists_read text = lists_after text (strip (codes "pt=") text)
+lists_read text = rid_lists_after text (strip (codes "pt=") text)
 
 abbrev pub more_read : List ℕ → Option (List ℕ × List (List ℕ × List ℕ))
 more_read text = if is_rest text then (strip (codes " ") text >>= lists_read) else Some ([], [])
 
 -- a word at the front, and what stands after it
-abbrev pub word_ahead : List ℕ → List ℕ → Option (List ℕ × List ℕ)
-word_ahead word text = strip word text >>= λ behind. Some (word, behind)
+abbrev pub rid_word_ahead : List ℕ → List ℕ → Option (List ℕ × List ℕ)
+rid_word_ahead word text = strip word text >>= λ behind. Some (word, behind)
 
 abbrev pub direction_read : List ℕ → Option (List ℕ × List ℕ)
-direction_read text = word_ahead (codes "send") text <|> word_ahead (codes "recv") text
+direction_read text = rid_word_ahead (codes "send") text <|> rid_word_ahead (codes "recv") text
 
 abbrev pub directed_read : List ℕ → Option (List ℕ × (List ℕ × List (List ℕ × List ℕ)))
 directed_read text = do
@@ -70,5 +70,5 @@ rid_fields_read text = two_read 32 active_read directed_read text
 
 -- ---- the lists of a rid line, as lists
 
-abbrev pub lists_of : TheLists → List ℕ × List (List ℕ × List ℕ)
-lists_of lists = (lists.types, lists.restrictions)
+abbrev pub rid_lists_of : TheLists → List ℕ × List (List ℕ × List ℕ)
+rid_lists_of lists = (lists.types, lists.restrictions)

@@ -12,11 +12,11 @@ use Rattle.str0m_signal.specs.line.LinesReading.{lines_of}
 use Rattle.str0m_signal.specs.session.Header.{Header}
 use Rattle.str0m_signal.specs.session.Section.{Head}
 
-abbrev pub kind_is : Kind → MediaType
-kind_is Audio = typ.Audio
-kind_is Video = typ.Video
-kind_is Application = typ.Application
-kind_is (Unknown text) = typ.Unknown text.now
+abbrev pub head_kind_is : Kind → MediaType
+head_kind_is Audio = typ.Audio
+head_kind_is Video = typ.Video
+head_kind_is Application = typ.Application
+head_kind_is (Unknown text) = typ.Unknown text.now
 
 abbrev pub media_head : MediaHead → Head
 media_head head = record { typ = head.typ; disabled = head.disabled; proto = head.proto; pts = head.pts }

@@ -2,25 +2,25 @@
 use Rattle.std.specs.Borrow.{Bor}
 use Rattle.std.specs.Prelude.{◌≡◌, ◌⊎◌, ℕ, Bool, false, true, codes, List, [], ◌∷◌, ◌++◌, length, Option, Some, None, ◌==◌, ◌&&◌, if◌then◌else◌}
 use Rattle.str0m_signal.specs.Prelude.{lacks, strip, when, ◌<|>◌, ◌>>=◌}
-use Rattle.str0m_signal.specs.line.Lines.{Line, Stops}
+use Rattle.str0m_signal.specs.line.Lines.{Line, StopsLines}
 
 abbrev pub is_crlf : ℕ → List ℕ → Bool
 is_crlf x [] = false
 is_crlf x (y ∷ ys) = (x == 13) && (y == 10)
 
-abbrev pub longer : ℕ → List Line → List Line
-longer x [] = record { content = x ∷ []; ending = [] } ∷ []
-longer x (line ∷ lines) = record { content = x ∷ line.content; ending = line.ending } ∷ lines
+abbrev pub longer_line_first : ℕ → List Line → List Line
+longer_line_first x [] = record { content = x ∷ []; ending = [] } ∷ []
+longer_line_first x (line ∷ lines) = record { content = x ∷ line.content; ending = line.ending } ∷ lines
 
-abbrev pub behind_first : List Line → List Line
-behind_first [] = []
-behind_first (line ∷ lines) = lines
+abbrev pub line_behind_first : List Line → List Line
+line_behind_first [] = []
+line_behind_first (line ∷ lines) = lines
 
 abbrev pub line_from : ℕ → List ℕ → List Line → List Line
 line_from x xs lines =
     if x == 10 then record { content = []; ending = 10 ∷ [] } ∷ lines
-    else if is_crlf x xs then record { content = []; ending = 13 ∷ 10 ∷ [] } ∷ behind_first lines
-    else longer x lines
+    else if is_crlf x xs then record { content = []; ending = 13 ∷ 10 ∷ [] } ∷ line_behind_first lines
+    else longer_line_first x lines
 
 unfoldable pub lines_of : List ℕ → List Line
 lines_of [] = []
@@ -52,9 +52,9 @@ abbrev pub ReadsTo : {A : Type 0} → (List ℕ → Option A) → List Line → 
 ReadsTo f lines value rest = line_read f lines ≡ Some (value, rest)
 
 -- what was found is put in its place; or nothing was found, and the place stays as it is
-abbrev pub Takes : {A P : Type 0} → (P → A → P → Type 0) → Option A → P → P → Bool → Type 0
-Takes {A} Puts found old new true = (value : A) × (found ≡ Some value) × Puts old value new
-Takes Puts found old new false = (found ≡ None) × (new ≡ old)
+abbrev pub TakesPart : {A P : Type 0} → (P → A → P → Type 0) → Option A → P → P → Bool → Type 0
+TakesPart {A} Puts found old new true = (value : A) × (found ≡ Some value) × Puts old value new
+TakesPart Puts found old new false = (found ≡ None) × (new ≡ old)
 
 -- what f reads of the first line stands after the others, and this text is left; or f reads nothing, and nothing is added
 abbrev pub TakesLine : {A : Type 0} → (List ℕ → Option A) → List Line → List A → List A → Option (Bor (List ℕ)) → Type 0
@@ -62,16 +62,16 @@ TakesLine f lines old new None = (None ≡ line_read f lines) × (new ≡ old)
 TakesLine {A} f lines old new (Some rest) = (value : A) × ReadsTo f lines value (lines_of rest.now) × (new ≡ old ++ value ∷ [])
 
 -- a value and what is left of the text, as lines
-abbrev pub left : {A : Type 0} → A × Bor (List ℕ) → A × List Line
-left x = (x.0, lines_of x.1.now)
+abbrev pub lines_left : {A : Type 0} → A × Bor (List ℕ) → A × List Line
+lines_left x = (x.0, lines_of x.1.now)
 
-abbrev pub both_left : Bor (List ℕ) × Bor (List ℕ) → List ℕ × List Line
-both_left x = (x.0.now, lines_of x.1.now)
+abbrev pub both_lines_left : Bor (List ℕ) × Bor (List ℕ) → List ℕ × List Line
+both_lines_left x = (x.0.now, lines_of x.1.now)
 
 -- the part that stands next, or that none does
-abbrev pub Next : {A : Type 0} → (List Line → A → List Line → Type 0) → List ℕ → Option (A × Bor (List ℕ)) → Type 0
-Next S text None = Stops S (lines_of text)
-Next S text (Some x) = S (lines_of text) x.0 (lines_of x.1.now)
+abbrev pub NextPart : {A : Type 0} → (List Line → A → List Line → Type 0) → List ℕ → Option (A × Bor (List ℕ)) → Type 0
+NextPart S text None = StopsLines S (lines_of text)
+NextPart S text (Some x) = S (lines_of text) x.0 (lines_of x.1.now)
 
 -- what f reads of the text that follows `a=`
 abbrev pub read_attribute : {A : Type 0} → (List ℕ → Option A) → List ℕ → Option A

@@ -1,16 +1,16 @@
 -- What one item of a list stands for, and what may stand at the ends of a list.
 use Rattle.std.specs.Char.{digit_value}
 use Rattle.std.specs.Prelude.{◌≡◌, ◌⊎◌, ◌<◌, ◌+◌, ◌*◌, ℕ, List, [], ◌∷◌, ◌++◌, codes}
-use Rattle.str0m_signal.specs.Prelude.{IsLongestBeginning, IsWord, Parted}
-use Rattle.str0m_signal.specs.form.Forms.{IsText, Two}
+use Rattle.str0m_signal.specs.Prelude.{IsLongestShortText, IsWord, PartedAddress}
+use Rattle.str0m_signal.specs.form.Forms.{IsText, TwoFormParts}
 
 -- a word stands for itself
 abbrev pub IsWordText : List ℕ → List ℕ → Type 0
 IsWordText text x = IsWord text × (x ≡ text)
 
 -- a word stands for the name that is kept of it
-abbrev pub IsName : List ℕ → List ℕ → Type 0
-IsName text name = IsWord text × IsLongestBeginning 16 text name
+abbrev pub IsKeptName : List ℕ → List ℕ → Type 0
+IsKeptName text name = IsWord text × IsLongestShortText 16 text name
 
 -- two hexadecimal digits
 abbrev pub IsHexPair : List ℕ → ℕ → Type 0
@@ -21,13 +21,13 @@ abbrev pub IsSpace : List ℕ → Type 0
 IsSpace text = (text ≡ []) ⊎ (text ≡ codes " ")
 
 -- a word, and names after it, each after a space; a space may end them (RFC 5888, section 5)
-abbrev pub AreNames : List ℕ → List ℕ → List (List ℕ) → Type 0
-AreNames text typ [] = IsWordText text typ
-AreNames text typ (name ∷ names) = Two 32 IsText (Parted 32 IsName) text (typ, name ∷ names)
+abbrev pub AreGroupNames : List ℕ → List ℕ → List (List ℕ) → Type 0
+AreGroupNames text typ [] = IsWordText text typ
+AreGroupNames text typ (name ∷ names) = TwoFormParts 32 IsText (PartedAddress 32 IsKeptName) text (typ, name ∷ names)
 
 abbrev pub IsGroup : List ℕ → List ℕ × List (List ℕ) → Type 0
-IsGroup text group = (names : List ℕ) × (end : List ℕ) × (text ≡ names ++ end) × IsSpace end × AreNames names group.0 group.1
+IsGroup text group = (names : List ℕ) × (end : List ℕ) × (text ≡ names ++ end) × IsSpace end × AreGroupNames names group.0 group.1
 
 -- a word and one or more words after it, each after a space; a space may stand before them
 abbrev pub IsMsidSemantic : List ℕ → List ℕ × List (List ℕ) → Type 0
-IsMsidSemantic text meant = (lead : List ℕ) × (words : List ℕ) × (text ≡ lead ++ words) × IsSpace lead × Two 32 IsText (Parted 32 IsWordText) words meant
+IsMsidSemantic text meant = (lead : List ℕ) × (words : List ℕ) × (text ≡ lead ++ words) × IsSpace lead × TwoFormParts 32 IsText (PartedAddress 32 IsWordText) words meant

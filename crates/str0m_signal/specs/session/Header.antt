@@ -2,7 +2,7 @@
 use Rattle.std.specs.Prelude.{◌≡◌, ◌⊎◌, ◌≤◌, ℕ, List, [], ◌∷◌, ◌++◌, Option, codes}
 use Rattle.std.specs.Str.Parse.{IsNumeral, digits_value}
 use Rattle.str0m_signal.specs.Prelude.{Bandwidth, IsRest, IsWord}
-use Rattle.str0m_signal.specs.line.Lines.{Line, OneLine, Taken, Run}
+use Rattle.str0m_signal.specs.line.Lines.{Line, OneLine, TakenLine, Run}
 use Rattle.str0m_signal.specs.session.Section.{IsField, IsBandwidth}
 
 -- the line is this word, which is also what it says
@@ -26,15 +26,15 @@ pub record IsOrigin (content : List ℕ) (id : ℕ) : Type 0 where
   pub more_is : IsRest more
 
 -- a field of one of these letters
-abbrev pub IsOneField : List (List ℕ) → List ℕ → List ℕ → Type 0
-IsOneField [] content text = ⊥
-IsOneField (letter ∷ letters) content text = IsField letter content text ⊎ IsOneField letters content text
+abbrev pub IsHeaderField : List (List ℕ) → List ℕ → List ℕ → Type 0
+IsHeaderField [] content text = ⊥
+IsHeaderField (letter ∷ letters) content text = IsField letter content text ⊎ IsHeaderField letters content text
 
 abbrev pub IsInfo : List ℕ → List ℕ → Type 0
-IsInfo = IsOneField (codes "i=" ∷ codes "u=" ∷ codes "e=" ∷ codes "p=" ∷ codes "c=" ∷ codes "z=" ∷ codes "k=" ∷ [])
+IsInfo = IsHeaderField (codes "i=" ∷ codes "u=" ∷ codes "e=" ∷ codes "p=" ∷ codes "c=" ∷ codes "z=" ∷ codes "k=" ∷ [])
 
 -- `v=0`, the origin and the name
-pub record IsOpening (lines : List Line) (id : ℕ) (rest : List Line) : Type 0 where
+pub record IsHeaderOpening (lines : List Line) (id : ℕ) (rest : List Line) : Type 0 where
   pub after_version : List Line
   pub after_origin : List Line
   pub name : List ℕ
@@ -55,8 +55,8 @@ pub record IsHeader (lines : List Line) (header : Header) (rest : List Line) : T
   pub after_timing : List Line
   pub infos : List (List ℕ)
   pub repeats : List (List ℕ)
-  pub opening_is : IsOpening lines header.id after_opening
+  pub opening_is : IsHeaderOpening lines header.id after_opening
   pub infos_are : Run (OneLine IsInfo) after_opening infos after_infos
-  pub bandwidth_is : Taken (OneLine IsBandwidth) after_infos header.bw after_bandwidth
+  pub bandwidth_is : TakenLine (OneLine IsBandwidth) after_infos header.bw after_bandwidth
   pub timing_is : OneLine (IsExactly (codes "t=0 0")) after_bandwidth (codes "t=0 0") after_timing
   pub repeats_are : Run (OneLine (IsField (codes "r="))) after_timing repeats rest

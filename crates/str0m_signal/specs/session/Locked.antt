@@ -5,10 +5,10 @@ use Rattle.str0m_signal.specs.Prelude.{MediaKind, PayloadParams}
 use Rattle.str0m_values.specs.declared.media_kind.MediaKind.TheVariants.{Audio, Video}
 
 -- whether sections of the kind carry what the row is of
-abbrev pub is_carried : MediaKind → PayloadParams → Bool
-is_carried Video row = is_video row
-is_carried Audio row = is_audio row || is_events row
+abbrev pub is_carried_by_section : MediaKind → PayloadParams → Bool
+is_carried_by_section Video row = is_video row
+is_carried_by_section Audio row = is_audio row || is_events row
 
 -- the locked rows of a kind, in order
 abbrev pub locked_of_kind : MediaKind → List PayloadParams → List PayloadParams
-locked_of_kind kind rows = filter (λ row. row.locked && is_carried kind row) rows
+locked_of_kind kind rows = filter (λ row. row.locked && is_carried_by_section kind row) rows

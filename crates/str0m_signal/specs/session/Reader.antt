@@ -3,7 +3,7 @@ use Rattle.std.specs.Prelude.{ℕ, List, ◌≡◌, ◌++◌}
 use Rattle.str0m_sdp.specs.declared.session.Session.{Session as TheSession}
 use Rattle.str0m_signal.specs.Prelude.{Consistent, MediaLine, Sdp}
 use Rattle.str0m_signal.specs.form.SessionAttribute.{IsSessionLine}
-use Rattle.str0m_signal.specs.line.Lines.{Line, OneLine, OfText, Chain, Stops, Run, joined, Lines}
+use Rattle.str0m_signal.specs.line.Lines.{Line, OneLine, OfText, Chain, StopsLines, Run, lines_joined, Lines}
 use Rattle.str0m_signal.specs.session.Header.{IsHeader}
 use Rattle.str0m_signal.specs.session.Section.{IsHead, IsSection}
 
@@ -18,7 +18,7 @@ ConsistentSection lines m rest = IsSection lines m rest × Consistent m
 
 -- consistent sections, and then no m-line
 abbrev pub Sections : List Line → List MediaLine → List Line → Type 0
-Sections lines sections rest = Chain ConsistentSection lines sections rest × Stops (OneLine IsHead) rest
+Sections lines sections rest = Chain ConsistentSection lines sections rest × StopsLines (OneLine IsHead) rest
 
 -- the lines are a session's, those of consistent sections, and the rest
 pub record IsReading (lines : List Line) (sdp : Sdp) (rest : List Line) : Type 0 where
@@ -44,4 +44,4 @@ pub record IsFromLine (text rest : List ℕ) : Type 0 where
   pub before : List Line
   pub after : List Line
   pub lines_are : Lines text (before ++ after)
-  pub rest_is : rest ≡ joined after
+  pub rest_is : rest ≡ lines_joined after

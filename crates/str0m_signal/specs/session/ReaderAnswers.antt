@@ -30,7 +30,7 @@ GivesRead view (Err (Inconsistent message)) read = ⊥
 GivesRead view (Err Memory) read = Unit {0}
 
 -- a text is refused, or memory ran out
-abbrev pub IsRefusal : SdpError → Type 0
-IsRefusal (ParseError message) = Unit {0}
-IsRefusal (Inconsistent message) = ⊥
-IsRefusal Memory = Unit {0}
+abbrev pub IsReaderRefusal : SdpError → Type 0
+IsReaderRefusal (ParseError message) = Unit {0}
+IsReaderRefusal (Inconsistent message) = ⊥
+IsReaderRefusal Memory = Unit {0}

@@ -6,7 +6,7 @@ use Rattle.str0m_sdp.specs.declared.attribute.proto.Proto.TheVariants.{Srtp, Sct
 use Rattle.str0m_sdp.specs.declared.label.TheConstants.{AUDIO, VIDEO, APPLICATION, SRTP, SCTP, OLD_SCTP}
 use Rattle.str0m_signal.specs.Prelude.{Bandwidth, MediaLine, MediaType, Proto, cut, is_rest, num, strip, when, ◌<|>◌, ◌>>=◌}
 use Rattle.str0m_signal.specs.form.FormReading.{parted_read}
-use Rattle.str0m_signal.specs.line.Lines.{OneLine, Stops}
+use Rattle.str0m_signal.specs.line.Lines.{OneLine, StopsLines}
 use Rattle.str0m_signal.specs.line.LinesReading.{lines_of}
 use Rattle.str0m_signal.specs.session.Section.{Head, IsHead, IsSection}
 
@@ -67,5 +67,5 @@ head_read content = do
 
 -- the section that stands next, or that no m-line does
 abbrev pub NextSection : List ℕ → Option (MediaLine × Bor (List ℕ)) → Type 0
-NextSection text None = Stops (OneLine IsHead) (lines_of text)
+NextSection text None = StopsLines (OneLine IsHead) (lines_of text)
 NextSection text (Some x) = IsSection (lines_of text) x.0 (lines_of x.1.now)

@@ -38,7 +38,7 @@ impl PrintedBack for SessionAttribute {
     ghost prints = { λ _. refl };
 }
 
-fn is_same(attribute: &SessionAttribute, other: &SessionAttribute) -> bool
+fn is_same_session_attribute(attribute: &SessionAttribute, other: &SessionAttribute) -> bool
     ensures { IsTrue result ↔ (attribute.now ≡ other.now) }
 {
     attribute == other
@@ -50,7 +50,7 @@ impl ReadBack for SessionAttribute {
     ghost GoesWith = { SessionGoesWith };
 
     fn goes_with(&self, read: &SessionAttribute) -> bool {
-        is_same(self, read) || matches!(read, SessionAttribute::Unused(_))
+        is_same_session_attribute(self, read) || matches!(read, SessionAttribute::Unused(_))
     }
 }
 

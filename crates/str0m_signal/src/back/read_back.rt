@@ -2,9 +2,9 @@
 
 ghost use Rattle.std.specs.Prelude.{◌≡◌, ◌∷◌, ◌++◌, ◌↔◌, ◌&&◌, [], ℕ, List, Some, IfOk, IsTrue, option_copied};
 ghost use Rattle.str0m_signal.specs.Prelude.{IsTheOnly, Lacks, lacks, line_end};
-ghost use Rattle.str0m_signal.specs.back.Writable.{AreReadAs, IsPrintedAs, IsReadBy, PutsBack};
+ghost use Rattle.str0m_signal.specs.back.Writable.{AreReadAs, IsReadBackLine, IsReadBy, PutsBack};
 
-use crate::session::attributes::{Attribute, line, taken_result};
+use crate::session::attributes::{Attribute, line, taken_attribute_result};
 use std::alloc::{AllocError, Global};
 use std::fmt;
 use str0m_values::cuts::has;
@@ -33,7 +33,7 @@ fn has_no_end(line: &str) -> bool
 }
 
 /// The line without its end, where the text is one whole line.
-pub(crate) fn content(text: &str) -> Option<&str>
+pub(crate) fn line_content(text: &str) -> Option<&str>
     ensures { IsTheOnly (λ line. (text.now ≡ line ++ line_end) × Lacks 10 line × Lacks 13 line) (option_copied result) }
 {
     let line = text.strip_suffix("\r\n")?;
@@ -52,9 +52,9 @@ fn fitting<A: ReadBack>(attr: &A, read: Option<A>) -> Option<A>
 
 /// What the attribute's line is read as, where it goes with the attribute.
 fn line_back<A: ReadBack>(alloc: Global, attr: &A, text: &str) -> Result<Option<A>, AllocError>
-    ensures { IfOk result (IsTheOnly (λ read. IsPrintedAs (IsReadBy A.reading) text.now read × A.GoesWith attr.now read)) }
+    ensures { IfOk result (IsTheOnly (λ read. IsReadBackLine (IsReadBy A.reading) text.now read × A.GoesWith attr.now read)) }
 {
-    match content(text) {
+    match line_content(text) {
         Some(content) => Ok(fitting(attr, line(alloc, content)?)),
         None => Ok(None),
     }
@@ -72,7 +72,7 @@ fn text_back<A: ReadBack>(
     if text.is_empty() {
         return Ok(true);
     }
-    taken_result(line_back(alloc, attr, text), reads)
+    taken_attribute_result(line_back(alloc, attr, text), reads)
 }
 
 /// Puts what the attribute comes back as, once it is printed and read, after the others; whether it comes back.

@@ -3,12 +3,12 @@
 ghost use Rattle.std.specs.List.{list_any};
 ghost use Rattle.std.specs.Prelude.{◌≡◌, ◌↔◌, IfOk, IfSome, IsTrue, option_map};
 ghost use Rattle.str0m_signal.specs.Prelude.{Consistent, IsTheOnly, MediaLine, bandwidth_text, is_of_type};
-ghost use Rattle.str0m_signal.specs.back.Writable.{HasTypes, IsFrame, IsPrintedAs, IsMediaReadAs, frame_of};
+ghost use Rattle.str0m_signal.specs.back.Writable.{HasTypes, IsFrame, IsReadBackLine, IsMediaReadAs, writable_frame_of};
 ghost use Rattle.str0m_signal.specs.line.Heads.{media_head};
 ghost use Rattle.str0m_signal.specs.session.Section.{IsBandwidth, IsHead};
 
 use crate::back::attributes_back::media_back;
-use crate::back::read_back::content;
+use crate::back::read_back::line_content;
 use crate::line::heads::{MediaHead, head};
 use crate::session::bandwidth::bandwidth;
 use std::alloc::{AllocError, Global};
@@ -17,9 +17,9 @@ use str0m_values::{Items, Pt};
 
 /// What the m-line is read as.
 fn head_back(alloc: Global, text: &str) -> Result<Option<MediaHead>, AllocError>
-    ensures { IfOk result (λ found. IsTheOnly (IsPrintedAs IsHead text.now) (option_map media_head found)) }
+    ensures { IfOk result (λ found. IsTheOnly (IsReadBackLine IsHead text.now) (option_map media_head found)) }
 {
-    match content(text) {
+    match line_content(text) {
         Some(line) => head(alloc, line),
         None => Ok(None),
     }
@@ -27,9 +27,9 @@ fn head_back(alloc: Global, text: &str) -> Result<Option<MediaHead>, AllocError>
 
 /// What the line of a bandwidth is read as.
 fn bandwidth_line_back(alloc: Global, text: &str) -> Result<Option<Bandwidth>, AllocError>
-    ensures { IfOk result (IsTheOnly (IsPrintedAs IsBandwidth text.now)) }
+    ensures { IfOk result (IsTheOnly (IsReadBackLine IsBandwidth text.now)) }
 {
-    match content(text) {
+    match line_content(text) {
         Some(line) => bandwidth(alloc, line),
         None => Ok(None),
     }
@@ -46,7 +46,7 @@ pub(crate) fn bandwidth_comes_back(
     alloc: Global,
     bw: &Option<Bandwidth>,
 ) -> Result<bool, AllocError>
-    ensures { IfOk result (λ answer. IsTrue answer ↔ IfSome bw.now (λ bw. IsPrintedAs IsBandwidth (bandwidth_text bw) bw)) }
+    ensures { IfOk result (λ answer. IsTrue answer ↔ IfSome bw.now (λ bw. IsReadBackLine IsBandwidth (bandwidth_text bw) bw)) }
 {
     let Some(bw) = bw else {
         return Ok(true);
@@ -59,7 +59,7 @@ pub(crate) fn bandwidth_comes_back(
 }
 
 /// Whether the m-line says of the section what it is, but for its payload types.
-fn says_same(head: &MediaHead, section: &MediaLine) -> bool
+fn head_says_same(head: &MediaHead, section: &MediaLine) -> bool
     ensures { IsTrue result ↔ (head.now.typ ≡ section.now.typ) × (head.now.disabled ≡ section.now.disabled) × (head.now.proto ≡ section.now.proto) }
 {
     head.typ == section.typ && head.disabled == section.disabled && head.proto == section.proto
@@ -72,7 +72,7 @@ fn pts_back(alloc: Global, section: &MediaLine) -> Result<Option<Items<Pt>>, All
 {
     let text = section.m_line()?;
     match head_back(alloc, text.as_str())? {
-        Some(head) if says_same(&head, section) => Ok(Some(head.pts)),
+        Some(head) if head_says_same(&head, section) => Ok(Some(head.pts)),
         _ => Ok(None),
     }
 }
@@ -135,7 +135,7 @@ fn describe_types(attrs: &[MediaAttribute]) -> bool
 }
 
 /// Whether the section is a frame.
-fn is_frame(alloc: Global, section: MediaLine) -> Result<bool, AllocError>
+fn is_writable_frame(alloc: Global, section: MediaLine) -> Result<bool, AllocError>
     ensures { IfOk result (λ answer. IsTrue answer ↔ IsFrame section) }
 {
     if describe_types(section.attrs.as_slice()) {
@@ -153,14 +153,14 @@ fn is_frame(alloc: Global, section: MediaLine) -> Result<bool, AllocError>
 
 /// Whether the section without its lines of payload types is read of its lines, and a frame then.
 pub(crate) fn frame_comes_back(alloc: Global, section: &MediaLine) -> Result<bool, AllocError>
-    ensures { IfOk result (λ answer. IsTrue answer ↔ ((read : MediaLine) × IsMediaReadAs (frame_of section.now) read × IsFrame read)) }
+    ensures { IfOk result (λ answer. IsTrue answer ↔ ((read : MediaLine) × IsMediaReadAs (writable_frame_of section.now) read × IsFrame read)) }
 {
     let frame = section_of(section, &[])?;
     let read = section_back(alloc, section, frame.attrs.as_slice());
     // Dropped by a call, so that what it may hold is no case of this proof.
     drop(frame);
     match read? {
-        Some(read) => is_frame(alloc, read),
+        Some(read) => is_writable_frame(alloc, read),
         None => Ok(false),
     }
 }

@@ -3,8 +3,8 @@
 ghost use Rattle.std.specs.Prelude.{◌≡◌, ◌≢◌, ◌↔◌, ℕ, List, IfOk, IfSome, IsTrue, Ok, Some, true, slice_get};
 ghost use Rattle.str0m_signal.specs.Prelude.{Consistent, MediaLine, PayloadParams, SessionAttribute, bandwidth_text, session_attribute_text};
 ghost use Rattle.str0m_signal.specs.back.ReadBack.{MayBePrinted, ReadsBack};
-ghost use Rattle.str0m_signal.specs.back.Writable.{AreReadAs, IsPrintedAs, IsMediaReadAs, SessionGoesWith, Writable};
-ghost use Rattle.str0m_signal.specs.back.WritableAgain.{IsOverSrtp, IsRead, MayBeWrittenAgain};
+ghost use Rattle.str0m_signal.specs.back.Writable.{AreReadAs, IsReadBackLine, IsMediaReadAs, SessionGoesWith, Writable};
+ghost use Rattle.str0m_signal.specs.back.WritableAgain.{IsWritableOverSrtp, IsRead, MayBeWrittenAgain};
 ghost use Rattle.str0m_signal.specs.form.SessionAttribute.{IsSessionLine};
 ghost use Rattle.str0m_signal.specs.session.Section.{IsBandwidth};
 
@@ -17,7 +17,7 @@ use str0m_sdp::{MediaLine, Sdp, Session};
 fn session_comes_back(alloc: Global, session: &Session) -> Result<bool, AllocError>
     ensures { IfOk result (λ answer. IsTrue answer ↔
         (((reads : List SessionAttribute) × AreReadAs session_attribute_text IsSessionLine SessionGoesWith session.now.attrs reads)
-        × IfSome session.now.bw (λ bw. IsPrintedAs IsBandwidth (bandwidth_text bw) bw))) }
+        × IfSome session.now.bw (λ bw. IsReadBackLine IsBandwidth (bandwidth_text bw) bw))) }
 {
     match session_back(alloc, session.attrs.as_slice())? {
         Some(_) => bandwidth_comes_back(alloc, &session.bw),
@@ -72,8 +72,8 @@ fn surroundings_come_back(sdp: &Sdp, section: usize) -> Result<bool, AllocError>
 /// The only error is that memory was refused. Nothing is changed.
 pub fn is_writable(sdp: &Sdp, section: usize) -> Result<bool, AllocError>
     ensures exact { IfOk result (λ answer. IsTrue answer ↔ Writable sdp.now section) }
-    ensures read_is_writable { IsRead sdp.now → MayBeWrittenAgain sdp.now → IsOverSrtp sdp.now section → Writable sdp.now section }
-    ensures of_reading { IfOk result (λ answer. IsRead sdp.now → MayBeWrittenAgain sdp.now → IsOverSrtp sdp.now section → IsTrue answer) }
+    ensures read_is_writable { IsRead sdp.now → MayBeWrittenAgain sdp.now → IsWritableOverSrtp sdp.now section → Writable sdp.now section }
+    ensures of_reading { IfOk result (λ answer. IsRead sdp.now → MayBeWrittenAgain sdp.now → IsWritableOverSrtp sdp.now section → IsTrue answer) }
     ensures read_back { result ≡ Ok true → (rows : List PayloadParams) → MayBePrinted rows → ReadsBack sdp.now section rows }
 {
     surroundings_come_back(sdp, section)

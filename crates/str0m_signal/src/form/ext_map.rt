@@ -24,7 +24,7 @@ fn id(text: &str) -> Option<u8>
 }
 
 /// The parts before and after the first space. URIs are long, so a search over many bytes at once finds it sooner.
-fn cut_far(text: &str) -> Option<(&str, &str)>
+fn cut_uri(text: &str) -> Option<(&str, &str)>
     ensures { parts result ≡ cut 32 text.now }
 {
     match memchr(b' ', text.as_bytes()) {
@@ -34,10 +34,11 @@ fn cut_far(text: &str) -> Option<(&str, &str)>
 }
 
 /// The URI; more may stand after it.
+#[inline(always)]
 fn uri(text: &str) -> Option<&str>
     ensures { option_map (λ x. x.now) result ≡ tailed_read 32 text_read text.now }
 {
-    match cut_far(text) {
+    match cut_uri(text) {
         None => { if text.is_empty() { None } else { Some(text) } }
         Some((uri, more)) => {
             if uri.is_empty() {

@@ -10,7 +10,7 @@ use str0m_values::cuts::{cut, strip};
 use str0m_values::{Items, Mid, Separator, Text};
 
 /// The group of a word and of names after it.
-fn names(alloc: Global, text: &str) -> Result<Option<SessionAttribute>, AllocError>
+fn group_names(alloc: Global, text: &str) -> Result<Option<SessionAttribute>, AllocError>
     ensures { IfOk result (λ found. found ≡ names_form_read text.now) }
 {
     let Some((word, list)) = cut(text, Separator::Space) else {
@@ -36,7 +36,7 @@ pub(crate) fn group(alloc: Global, text: &str) -> Result<Option<SessionAttribute
     ensures { IfOk result (λ found. found ≡ group.read text.now) }
 {
     match strip(text, label::GROUP) {
-        Some(body) => names(alloc, without_space(body)),
+        Some(body) => group_names(alloc, without_space(body)),
         None => Ok(None),
     }
 }

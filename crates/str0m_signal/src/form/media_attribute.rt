@@ -2,11 +2,11 @@
 
 ghost use Rattle.std.specs.Prelude.{◌≡◌, IfOk};
 ghost use Rattle.str0m_sdp.specs.declared.attribute.MediaAttribute.TheVariants.{Fingerprint, Setup, Candidate, Unused};
-ghost use Rattle.str0m_signal.specs.form.FormTable.{made_as, pairs, texts, unused_read, first_byte, letter_read};
+ghost use Rattle.str0m_signal.specs.form.FormTable.{form_made_as, pair_forms, texts, unused_read, form_first_byte, letter_read};
 ghost use Rattle.str0m_signal.specs.form.FormTransport.{candidate, fingerprint, setup};
 ghost use Rattle.str0m_signal.specs.form.MediaAttribute.{media_texts, media_pairs, rtcp, mid, sctp_port, sctp_init, max_message_size, media_forms, named_read, media_read, IsMediaLine};
 ghost use Rattle.str0m_signal.specs.line.Lines.{Run, OneLine};
-ghost use Rattle.str0m_signal.specs.line.LinesReading.{lines_of, Takes};
+ghost use Rattle.str0m_signal.specs.line.LinesReading.{lines_of, TakesPart};
 
 use crate::form::ext_map::ext_map;
 use crate::form::fingerprint::fingerprint;
@@ -15,8 +15,10 @@ use crate::form::rid::rid;
 use crate::form::rtp_map::rtp_map;
 use crate::form::simulcast::simulcast_line;
 use crate::form::sources::{rtcp_fb, ssrc, ssrc_group};
-use crate::line::fields::{both_kept, kept, num_u64, role, short};
-use crate::session::attributes::{Attribute, Place, attribute_run, taken, taken_result};
+use crate::line::fields::{both_texts_kept, kept_field, num_u64, role_field, short_field};
+use crate::session::attributes::{
+    Attribute, AttributePlace, attribute_run, taken, taken_attribute_result,
+};
 use std::alloc::{AllocError, Global};
 use str0m_sdp::{MediaAttribute, Msid, label};
 use str0m_values::candidate_text::candidate;
@@ -27,23 +29,23 @@ use str0m_values::{Items, Text};
 fn media_text(alloc: Global, text: &str) -> Result<Option<MediaAttribute>, AllocError>
     ensures { IfOk result (λ found. found ≡ (texts media_texts).read text.now) }
 {
-    if let Some(value) = kept(alloc, text, label::ICE_UFRAG)? {
+    if let Some(value) = kept_field(alloc, text, label::ICE_UFRAG)? {
         return Ok(Some(MediaAttribute::IceUfrag(value)));
     }
-    if let Some(value) = kept(alloc, text, label::ICE_PWD)? {
+    if let Some(value) = kept_field(alloc, text, label::ICE_PWD)? {
         return Ok(Some(MediaAttribute::IcePwd(value)));
     }
-    match kept(alloc, text, label::ICE_OPTIONS)? {
+    match kept_field(alloc, text, label::ICE_OPTIONS)? {
         Some(value) => Ok(Some(MediaAttribute::IceOptions(value))),
         None => Ok(None),
     }
 }
 
 /// The attributes that are a label and two texts.
-fn labelled_pair(alloc: Global, text: &str) -> Result<Option<MediaAttribute>, AllocError>
-    ensures { IfOk result (λ found. found ≡ (pairs media_pairs).read text.now) }
+fn media_pair(alloc: Global, text: &str) -> Result<Option<MediaAttribute>, AllocError>
+    ensures { IfOk result (λ found. found ≡ (pair_forms media_pairs).read text.now) }
 {
-    match both_kept(alloc, text, label::MSID)? {
+    match both_texts_kept(alloc, text, label::MSID)? {
         Some((stream_id, track_id)) => Ok(Some(MediaAttribute::Msid(Msid {
             stream_id,
             track_id,
@@ -55,7 +57,7 @@ fn labelled_pair(alloc: Global, text: &str) -> Result<Option<MediaAttribute>, Al
 fn rtcp(alloc: Global, text: &str) -> Result<Option<MediaAttribute>, AllocError>
     ensures { IfOk result (λ found. found ≡ rtcp.read text.now) }
 {
-    match kept(alloc, text, label::RTCP)? {
+    match kept_field(alloc, text, label::RTCP)? {
         Some(value) => Ok(Some(MediaAttribute::Rtcp(value))),
         None => Ok(None),
     }
@@ -71,7 +73,7 @@ fn sctp_port(text: &str) -> Option<MediaAttribute>
 fn sctp_init(alloc: Global, text: &str) -> Result<Option<MediaAttribute>, AllocError>
     ensures { IfOk result (λ found. found ≡ sctp_init.read text.now) }
 {
-    match kept(alloc, text, label::SCTP_INIT)? {
+    match kept_field(alloc, text, label::SCTP_INIT)? {
         Some(value) => Ok(Some(MediaAttribute::SctpInit(value))),
         None => Ok(None),
     }
@@ -85,7 +87,7 @@ fn max_message_size(text: &str) -> Option<MediaAttribute>
 }
 
 fn media_fingerprint(alloc: Global, text: &str) -> Result<Option<MediaAttribute>, AllocError>
-    ensures { IfOk result (λ found. found ≡ (made_as fingerprint Fingerprint).read text.now) }
+    ensures { IfOk result (λ found. found ≡ (form_made_as fingerprint Fingerprint).read text.now) }
 {
     match fingerprint(alloc, text)? {
         Some(hash) => Ok(Some(MediaAttribute::Fingerprint(hash))),
@@ -94,7 +96,7 @@ fn media_fingerprint(alloc: Global, text: &str) -> Result<Option<MediaAttribute>
 }
 
 fn media_candidate(alloc: Global, text: &str) -> Result<Option<MediaAttribute>, AllocError>
-    ensures { IfOk result (λ found. found ≡ (made_as candidate Candidate).read text.now) }
+    ensures { IfOk result (λ found. found ≡ (form_made_as candidate Candidate).read text.now) }
 {
     match candidate(alloc, text)? {
         Some(candidate) => Ok(Some(MediaAttribute::Candidate(candidate))),
@@ -106,7 +108,7 @@ fn media_setup(text: &str) -> Option<MediaAttribute>
     ensures { result ≡ (setup Setup).read text.now }
 {
     let word = strip(text, label::SETUP)?;
-    Some(MediaAttribute::Setup(role(word)?))
+    Some(MediaAttribute::Setup(role_field(word)?))
 }
 
 fn mid(text: &str) -> Option<MediaAttribute>
@@ -116,122 +118,122 @@ fn mid(text: &str) -> Option<MediaAttribute>
     if name.is_empty() {
         return None;
     }
-    Some(MediaAttribute::Mid(short(name)))
+    Some(MediaAttribute::Mid(short_field(name)))
 }
 
 /// The forms whose names begin with `e`.
-fn with_e<P: Place<MediaAttribute>>(
+fn forms_of_e<P: AttributePlace<MediaAttribute>>(
     alloc: Global,
     text: &str,
     place: &mut P,
 ) -> Result<bool, AllocError>
-    ensures { IfOk result (Takes P.Puts (letter_read media_forms 101 text.now) place.old place.new) }
+    ensures { IfOk result (TakesPart P.Puts (letter_read media_forms 101 text.now) place.old place.new) }
 {
-    if taken_result(ext_map(alloc, text), place)? {
+    if taken_attribute_result(ext_map(alloc, text), place)? {
         return Ok(true);
     }
     taken(MediaAttribute::from_word(text), place)
 }
 
 /// The forms whose names begin with `f`.
-fn with_f<P: Place<MediaAttribute>>(
+fn forms_of_f<P: AttributePlace<MediaAttribute>>(
     alloc: Global,
     text: &str,
     place: &mut P,
 ) -> Result<bool, AllocError>
-    ensures { IfOk result (Takes P.Puts (letter_read media_forms 102 text.now) place.old place.new) }
+    ensures { IfOk result (TakesPart P.Puts (letter_read media_forms 102 text.now) place.old place.new) }
 {
-    if taken_result(fmtp(alloc, text), place)? {
+    if taken_attribute_result(fmtp(alloc, text), place)? {
         return Ok(true);
     }
-    taken_result(media_fingerprint(alloc, text), place)
+    taken_attribute_result(media_fingerprint(alloc, text), place)
 }
 
 /// The forms whose names begin with `i`.
-fn with_i<P: Place<MediaAttribute>>(
+fn forms_of_i<P: AttributePlace<MediaAttribute>>(
     alloc: Global,
     text: &str,
     place: &mut P,
 ) -> Result<bool, AllocError>
-    ensures { IfOk result (Takes P.Puts (letter_read media_forms 105 text.now) place.old place.new) }
+    ensures { IfOk result (TakesPart P.Puts (letter_read media_forms 105 text.now) place.old place.new) }
 {
-    if taken_result(media_text(alloc, text), place)? {
+    if taken_attribute_result(media_text(alloc, text), place)? {
         return Ok(true);
     }
     taken(MediaAttribute::from_word(text), place)
 }
 
 /// The forms whose names begin with `m`.
-fn with_m<P: Place<MediaAttribute>>(
+fn forms_of_m<P: AttributePlace<MediaAttribute>>(
     alloc: Global,
     text: &str,
     place: &mut P,
 ) -> Result<bool, AllocError>
-    ensures { IfOk result (Takes P.Puts (letter_read media_forms 109 text.now) place.old place.new) }
+    ensures { IfOk result (TakesPart P.Puts (letter_read media_forms 109 text.now) place.old place.new) }
 {
     if taken(mid(text), place)? {
         return Ok(true);
     }
-    if taken_result(labelled_pair(alloc, text), place)? {
+    if taken_attribute_result(media_pair(alloc, text), place)? {
         return Ok(true);
     }
     taken(max_message_size(text), place)
 }
 
 /// The forms whose names begin with `r`.
-fn with_r<P: Place<MediaAttribute>>(
+fn forms_of_r<P: AttributePlace<MediaAttribute>>(
     alloc: Global,
     text: &str,
     place: &mut P,
 ) -> Result<bool, AllocError>
-    ensures { IfOk result (Takes P.Puts (letter_read media_forms 114 text.now) place.old place.new) }
+    ensures { IfOk result (TakesPart P.Puts (letter_read media_forms 114 text.now) place.old place.new) }
 {
     if taken(rtp_map(text), place)? {
         return Ok(true);
     }
-    if taken_result(rtcp_fb(alloc, text), place)? {
+    if taken_attribute_result(rtcp_fb(alloc, text), place)? {
         return Ok(true);
     }
-    if taken_result(rid(alloc, text), place)? {
+    if taken_attribute_result(rid(alloc, text), place)? {
         return Ok(true);
     }
-    if taken_result(rtcp(alloc, text), place)? {
+    if taken_attribute_result(rtcp(alloc, text), place)? {
         return Ok(true);
     }
     taken(MediaAttribute::from_word(text), place)
 }
 
 /// The forms whose names begin with `s`.
-fn with_s<P: Place<MediaAttribute>>(
+fn forms_of_s<P: AttributePlace<MediaAttribute>>(
     alloc: Global,
     text: &str,
     place: &mut P,
 ) -> Result<bool, AllocError>
-    ensures { IfOk result (Takes P.Puts (letter_read media_forms 115 text.now) place.old place.new) }
+    ensures { IfOk result (TakesPart P.Puts (letter_read media_forms 115 text.now) place.old place.new) }
 {
-    if taken_result(ssrc(alloc, text), place)? {
+    if taken_attribute_result(ssrc(alloc, text), place)? {
         return Ok(true);
     }
     if taken(media_setup(text), place)? {
         return Ok(true);
     }
-    if taken_result(ssrc_group(alloc, text), place)? {
+    if taken_attribute_result(ssrc_group(alloc, text), place)? {
         return Ok(true);
     }
-    if taken_result(simulcast_line(alloc, text), place)? {
+    if taken_attribute_result(simulcast_line(alloc, text), place)? {
         return Ok(true);
     }
     if taken(sctp_port(text), place)? {
         return Ok(true);
     }
-    if taken_result(sctp_init(alloc, text), place)? {
+    if taken_attribute_result(sctp_init(alloc, text), place)? {
         return Ok(true);
     }
     taken(MediaAttribute::from_word(text), place)
 }
 
-fn first_byte(text: &str) -> u8
-    ensures { result ≡ first_byte text.now }
+fn form_first_byte(text: &str) -> u8
+    ensures { result ≡ form_first_byte text.now }
 {
     match text.as_bytes() {
         [first, ..] => *first,
@@ -240,21 +242,21 @@ fn first_byte(text: &str) -> u8
 }
 
 /// The attribute whose form is named: only forms whose names begin as the text does are asked.
-fn media_named<P: Place<MediaAttribute>>(
+fn media_named<P: AttributePlace<MediaAttribute>>(
     alloc: Global,
     text: &str,
     place: &mut P,
 ) -> Result<bool, AllocError>
-    ensures { IfOk result (Takes P.Puts (named_read text.now) place.old place.new) }
+    ensures { IfOk result (TakesPart P.Puts (named_read text.now) place.old place.new) }
 {
-    match first_byte(text) {
-        b'c' => taken_result(media_candidate(alloc, text), place),
-        b'e' => with_e(alloc, text, place),
-        b'f' => with_f(alloc, text, place),
-        b'i' => with_i(alloc, text, place),
-        b'm' => with_m(alloc, text, place),
-        b'r' => with_r(alloc, text, place),
-        b's' => with_s(alloc, text, place),
+    match form_first_byte(text) {
+        b'c' => taken_attribute_result(media_candidate(alloc, text), place),
+        b'e' => forms_of_e(alloc, text, place),
+        b'f' => forms_of_f(alloc, text, place),
+        b'i' => forms_of_i(alloc, text, place),
+        b'm' => forms_of_m(alloc, text, place),
+        b'r' => forms_of_r(alloc, text, place),
+        b's' => forms_of_s(alloc, text, place),
         _ => Ok(false),
     }
 }
@@ -272,7 +274,7 @@ fn media_unused(alloc: Global, text: &str) -> Result<Option<MediaAttribute>, All
 impl Attribute for MediaAttribute {
     ghost reading = { media_read };
 
-    fn take<P: Place<MediaAttribute>>(
+    fn take<P: AttributePlace<MediaAttribute>>(
         alloc: Global,
         text: &str,
         place: &mut P,
@@ -280,7 +282,7 @@ impl Attribute for MediaAttribute {
         if media_named(alloc, text, place)? {
             return Ok(true);
         }
-        taken_result(media_unused(alloc, text), place)
+        taken_attribute_result(media_unused(alloc, text), place)
     }
 }
 

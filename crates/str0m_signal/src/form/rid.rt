@@ -5,7 +5,7 @@ ghost use Rattle.str0m_sdp.specs.declared.label.TheConstants as label;
 ghost use Rattle.str0m_signal.specs.Prelude.{parts, when};
 ghost use Rattle.str0m_signal.specs.form.FormReading.{behind, two_read};
 ghost use Rattle.str0m_signal.specs.form.MediaAttribute.{rid};
-ghost use Rattle.str0m_signal.specs.form.RidReading.{lists_of, next_read, restriction_read, restrictions_read, restricted_read, typed_read, lists_read, more_read, direction_read};
+ghost use Rattle.str0m_signal.specs.form.RidReading.{rid_lists_of, next_read, restriction_read, restrictions_read, restricted_read, typed_read, lists_read, more_read, direction_read};
 ghost use Rattle.str0m_signal.specs.form.RidStreamName.{is_stream_name};
 
 use crate::form::simulcast::is_stream_name;
@@ -56,7 +56,7 @@ fn are_restrictions(text: &str) -> bool
 }
 
 /// Puts copies of a key and its value after the others.
-fn keep_pair(
+fn keep_restriction(
     alloc: Global,
     key: &str,
     value: &str,
@@ -80,7 +80,7 @@ fn restrictions(alloc: Global, text: &str) -> Result<Option<Items<(Text, Text)>>
         let Some((key, value, next)) = restriction(rest) else {
             return Ok(None);
         };
-        keep_pair(alloc, key, value, &mut pairs)?;
+        keep_restriction(alloc, key, value, &mut pairs)?;
         let Some(more) = next else {
             return Ok(Some(Items::from(pairs)));
         };
@@ -130,7 +130,7 @@ struct Lists {
 
 /// The lists after `pt=`. Memory is asked for only where both can be read.
 fn typed(alloc: Global, text: &str) -> Result<Option<Lists>, AllocError>
-    ensures { IfOk result (λ found. option_map lists_of found ≡ typed_read text.now) }
+    ensures { IfOk result (λ found. option_map rid_lists_of found ≡ typed_read text.now) }
 {
     let Some((front, behind)) = cut(text, Separator::Semicolon) else {
         return match parts::<Number<127>>(alloc, text, Separator::Comma)? {
@@ -160,8 +160,8 @@ fn typed(alloc: Global, text: &str) -> Result<Option<Lists>, AllocError>
 }
 
 /// The lists after the direction and a space.
-fn listed(alloc: Global, text: &str) -> Result<Option<Lists>, AllocError>
-    ensures { IfOk result (λ found. option_map lists_of found ≡ lists_read text.now) }
+fn rid_lists(alloc: Global, text: &str) -> Result<Option<Lists>, AllocError>
+    ensures { IfOk result (λ found. option_map rid_lists_of found ≡ lists_read text.now) }
 {
     if let Some(body) = strip(text, "pt=") {
         return typed(alloc, body);
@@ -180,7 +180,7 @@ fn listed(alloc: Global, text: &str) -> Result<Option<Lists>, AllocError>
 
 /// The lists after the direction.
 fn more(alloc: Global, text: &str) -> Result<Option<Lists>, AllocError>
-    ensures { IfOk result (λ found. option_map lists_of found ≡ more_read text.now) }
+    ensures { IfOk result (λ found. option_map rid_lists_of found ≡ more_read text.now) }
 {
     if text.is_empty() {
         let types = Items::empty(alloc);
@@ -191,7 +191,7 @@ fn more(alloc: Global, text: &str) -> Result<Option<Lists>, AllocError>
         }));
     }
     match strip(text, " ") {
-        Some(body) => listed(alloc, body),
+        Some(body) => rid_lists(alloc, body),
         None => Ok(None),
     }
 }
@@ -208,7 +208,7 @@ fn direction(text: &str) -> Option<(&'static str, &str)>
 }
 
 /// The name of the stream, its direction, and what stands after them.
-fn fields(text: &str) -> Option<(&str, &'static str, &str)>
+fn rid_fields(text: &str) -> Option<(&str, &'static str, &str)>
     ensures { option_map (λ x. (x.0.now, (x.1.now, x.2.now))) result ≡ behind label.RID.now (two_read 32 (λ name. when (is_stream_name name) name) direction_read) text.now }
 {
     let body = strip(text, label::RID)?;
@@ -221,7 +221,7 @@ fn fields(text: &str) -> Option<(&str, &'static str, &str)>
 }
 
 /// The rid line of these parts.
-fn made(name: Text, word: &'static str, lists: Lists) -> MediaAttribute
+fn made_rid(name: Text, word: &'static str, lists: Lists) -> MediaAttribute
     ensures { result ≡ Rid (record { 0 = name; 1 = true }) word.now lists.types lists.restrictions }
 {
     MediaAttribute::Rid {
@@ -236,12 +236,12 @@ fn made(name: Text, word: &'static str, lists: Lists) -> MediaAttribute
 pub(crate) fn rid(alloc: Global, text: &str) -> Result<Option<MediaAttribute>, AllocError>
     ensures { IfOk result (λ found. found ≡ rid.read text.now) }
 {
-    let Some((name, word, behind)) = fields(text) else {
+    let Some((name, word, behind)) = rid_fields(text) else {
         return Ok(None);
     };
     let Some(lists) = more(alloc, behind)? else {
         return Ok(None);
     };
     let name = Text::from_str(alloc, name)?;
-    Ok(Some(made(name, word, lists)))
+    Ok(Some(made_rid(name, word, lists)))
 }

@@ -10,28 +10,29 @@ use str0m_sdp::{MediaAttribute, RtpMap, label};
 use str0m_values::cuts::{cut, num_u8, num_u32, strip};
 use str0m_values::{Frequency, Pt, Separator};
 
-#[tactic(auto, using(str0m_formats::proofs::read_only))]
+#[tactic(auto, using(str0m_formats::proofs::codec_read_only))]
 fn codec(name: &str) -> Codec
     ensures { result ≡ codec_of name.now }
 {
     Codec::from(name)
 }
 
-fn frequency(text: &str) -> Option<Frequency>
+fn mapping_frequency(text: &str) -> Option<Frequency>
     ensures { result ≡ frequency_read text.now }
 {
     Frequency::new(num_u32(text)?)
 }
 
-fn clock(text: &str) -> Option<(Frequency, Option<u8>)>
+fn mapping_clock(text: &str) -> Option<(Frequency, Option<u8>)>
     ensures { result ≡ clock_read text.now (cut 47 text.now) }
 {
     match cut(text, Separator::Slash) {
-        None => Some((frequency(text)?, None)),
-        Some((hertz, channels)) => Some((frequency(hertz)?, Some(num_u8(channels, 255)?))),
+        None => Some((mapping_frequency(text)?, None)),
+        Some((hertz, channels)) => Some((mapping_frequency(hertz)?, Some(num_u8(channels, 255)?))),
     }
 }
 
+#[inline(always)]
 fn mapping(text: &str) -> Option<RtpMap>
     ensures { result ≡ mapping_read text.now }
 {
@@ -39,7 +40,7 @@ fn mapping(text: &str) -> Option<RtpMap>
     if name.is_empty() {
         return None;
     }
-    let (clock_rate, channels) = clock(rates)?;
+    let (clock_rate, channels) = mapping_clock(rates)?;
     Some(RtpMap {
         codec: codec(name),
         clock_rate,

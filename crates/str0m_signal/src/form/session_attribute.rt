@@ -2,7 +2,7 @@
 
 ghost use Rattle.std.specs.Prelude.{◌≡◌, IfOk};
 ghost use Rattle.str0m_sdp.specs.declared.attribute.SessionAttribute.TheVariants.{Setup, Fingerprint, Candidate, Unused};
-ghost use Rattle.str0m_signal.specs.form.FormTable.{made_as, any, texts, unused_read};
+ghost use Rattle.str0m_signal.specs.form.FormTable.{form_made_as, any_form, texts, unused_read};
 ghost use Rattle.str0m_signal.specs.form.FormTransport.{candidate, fingerprint, setup};
 ghost use Rattle.str0m_signal.specs.form.SessionAttribute.{session_texts, session_forms, session_read, IsSessionLine};
 ghost use Rattle.str0m_signal.specs.line.Lines.{Run, OneLine};
@@ -10,8 +10,8 @@ ghost use Rattle.str0m_signal.specs.line.LinesReading.{lines_of};
 
 use crate::form::fingerprint::fingerprint;
 use crate::form::groups::{group, msid_semantic};
-use crate::line::fields::{kept, role};
-use crate::session::attributes::{Attribute, Place, attribute_run, taken};
+use crate::line::fields::{kept_field, role_field};
+use crate::session::attributes::{Attribute, AttributePlace, attribute_run, taken};
 use std::alloc::{AllocError, Global};
 use str0m_sdp::{SessionAttribute, label};
 use str0m_values::candidate_text::candidate;
@@ -22,27 +22,27 @@ fn session_setup(text: &str) -> Option<SessionAttribute>
     ensures { result ≡ (setup Setup).read text.now }
 {
     let word = strip(text, label::SETUP)?;
-    Some(SessionAttribute::Setup(role(word)?))
+    Some(SessionAttribute::Setup(role_field(word)?))
 }
 
 /// The attributes that are a label and a text.
 fn session_text(alloc: Global, text: &str) -> Result<Option<SessionAttribute>, AllocError>
     ensures { IfOk result (λ found. found ≡ (texts session_texts).read text.now) }
 {
-    if let Some(value) = kept(alloc, text, label::ICE_UFRAG)? {
+    if let Some(value) = kept_field(alloc, text, label::ICE_UFRAG)? {
         return Ok(Some(SessionAttribute::IceUfrag(value)));
     }
-    if let Some(value) = kept(alloc, text, label::ICE_PWD)? {
+    if let Some(value) = kept_field(alloc, text, label::ICE_PWD)? {
         return Ok(Some(SessionAttribute::IcePwd(value)));
     }
-    if let Some(value) = kept(alloc, text, label::ICE_OPTIONS)? {
+    if let Some(value) = kept_field(alloc, text, label::ICE_OPTIONS)? {
         return Ok(Some(SessionAttribute::IceOptions(value)));
     }
     Ok(None)
 }
 
 fn session_fingerprint(alloc: Global, text: &str) -> Result<Option<SessionAttribute>, AllocError>
-    ensures { IfOk result (λ found. found ≡ (made_as fingerprint Fingerprint).read text.now) }
+    ensures { IfOk result (λ found. found ≡ (form_made_as fingerprint Fingerprint).read text.now) }
 {
     match fingerprint(alloc, text)? {
         Some(hash) => Ok(Some(SessionAttribute::Fingerprint(hash))),
@@ -51,7 +51,7 @@ fn session_fingerprint(alloc: Global, text: &str) -> Result<Option<SessionAttrib
 }
 
 fn session_candidate(alloc: Global, text: &str) -> Result<Option<SessionAttribute>, AllocError>
-    ensures { IfOk result (λ found. found ≡ (made_as candidate Candidate).read text.now) }
+    ensures { IfOk result (λ found. found ≡ (form_made_as candidate Candidate).read text.now) }
 {
     match candidate(alloc, text)? {
         Some(candidate) => Ok(Some(SessionAttribute::Candidate(candidate))),
@@ -60,7 +60,7 @@ fn session_candidate(alloc: Global, text: &str) -> Result<Option<SessionAttribut
 }
 
 fn session_named(alloc: Global, text: &str) -> Result<Option<SessionAttribute>, AllocError>
-    ensures { IfOk result (λ found. found ≡ (any session_forms).read text.now) }
+    ensures { IfOk result (λ found. found ≡ (any_form session_forms).read text.now) }
 {
     if let Some(found) = SessionAttribute::from_word(text) {
         return Ok(Some(found));
@@ -96,7 +96,7 @@ fn session_unused(alloc: Global, text: &str) -> Result<Option<SessionAttribute>,
 impl Attribute for SessionAttribute {
     ghost reading = { session_read };
 
-    fn take<P: Place<SessionAttribute>>(
+    fn take<P: AttributePlace<SessionAttribute>>(
         alloc: Global,
         text: &str,
         place: &mut P,

@@ -3,7 +3,7 @@ ghost use Rattle.std.specs.List.{list_all};
 ghost use Rattle.std.specs.Prelude.{◌≡◌, IfOk, option_map, chars};
 ghost use Rattle.str0m_signal.specs.form.MediaAttribute.{simulcast};
 ghost use Rattle.str0m_signal.specs.form.RidStreamName.{is_name_character, is_stream_name};
-ghost use Rattle.str0m_signal.specs.form.SimulcastReading.{sides_of, alternative_read, first_name_read, layer_read, sides_read, layers_of, simulcast_fields_read};
+ghost use Rattle.str0m_signal.specs.form.SimulcastReading.{simulcast_sides_of, alternative_read, first_name_read, layer_read, sides_read, layers_of, simulcast_fields_read};
 
 use crate::line::parts::{Part, are_parts, parts};
 use std::alloc::{AllocError, Global};
@@ -75,7 +75,7 @@ impl Part for RestrictionId {
 }
 
 /// The first of several names; the others aren't kept.
-fn first_name(alloc: Global, text: &str) -> Result<Option<RestrictionId>, AllocError>
+fn first_layer_name(alloc: Global, text: &str) -> Result<Option<RestrictionId>, AllocError>
     ensures { IfOk result (λ found. found ≡ first_name_read text.now) }
 {
     let Some((first, others)) = cut(text, Separator::Comma) else {
@@ -105,7 +105,7 @@ impl Part for SimulcastLayer {
     }
 
     fn read(alloc: Global, text: &str) -> Result<Option<SimulcastLayer>, AllocError> {
-        match first_name(alloc, text)? {
+        match first_layer_name(alloc, text)? {
             Some(restriction_id) => Ok(Some(SimulcastLayer {
                 restriction_id,
                 attributes: None,
@@ -123,8 +123,12 @@ struct LayerSides {
 }
 
 /// Memory is asked for only where both sides can be read.
-fn both_sides(alloc: Global, text: &str, other: &str) -> Result<Option<LayerSides>, AllocError>
-    ensures { IfOk result (λ found. option_map sides_of found ≡ sides_read other.now text.now) }
+fn both_layer_sides(
+    alloc: Global,
+    text: &str,
+    other: &str,
+) -> Result<Option<LayerSides>, AllocError>
+    ensures { IfOk result (λ found. option_map simulcast_sides_of found ≡ sides_read other.now text.now) }
 {
     let Some((front, behind)) = cut(text, Separator::Space) else {
         return match parts::<SimulcastLayer>(alloc, text, Separator::Semicolon)? {
@@ -151,11 +155,11 @@ fn both_sides(alloc: Global, text: &str, other: &str) -> Result<Option<LayerSide
 }
 
 /// The layers of the text after the label.
-fn layers(alloc: Global, text: &str) -> Result<Option<Simulcast>, AllocError>
+fn simulcast_layers(alloc: Global, text: &str) -> Result<Option<Simulcast>, AllocError>
     ensures { IfOk result (λ found. found ≡ simulcast_fields_read text.now) }
 {
     if let Some(body) = strip(text, "send ") {
-        let Some(LayerSides { first, second }) = both_sides(alloc, body, "recv ")? else {
+        let Some(LayerSides { first, second }) = both_layer_sides(alloc, body, "recv ")? else {
             return Ok(None);
         };
         return Ok(Some(simulcast(first, second)));
@@ -163,7 +167,7 @@ fn layers(alloc: Global, text: &str) -> Result<Option<Simulcast>, AllocError>
     let Some(body) = strip(text, "recv ") else {
         return Ok(None);
     };
-    let Some(LayerSides { first, second }) = both_sides(alloc, body, "send ")? else {
+    let Some(LayerSides { first, second }) = both_layer_sides(alloc, body, "send ")? else {
         return Ok(None);
     };
     Ok(Some(simulcast(second, first)))
@@ -189,7 +193,7 @@ pub(crate) fn simulcast_line(
     let Some(body) = strip(text, label::SIMULCAST) else {
         return Ok(None);
     };
-    match layers(alloc, body)? {
+    match simulcast_layers(alloc, body)? {
         Some(simulcast) => Ok(Some(MediaAttribute::Simulcast(simulcast))),
         None => Ok(None),
     }

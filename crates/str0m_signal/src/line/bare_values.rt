@@ -33,7 +33,7 @@ fn digits(text: &str) -> Option<u8>
 }
 
 /// Where a range from 0 on ends.
-fn range(text: &str) -> Option<u8>
+fn bare_range(text: &str) -> Option<u8>
     ensures { result ≡ range_read text.now }
 {
     digits(strip(text, "0-")?)
@@ -49,7 +49,7 @@ pub(crate) fn bare(more: &str) -> FormatParam
     if let Some(first) = first(text) {
         return FormatParam::BarePtList(Pt::new_with_value(first));
     }
-    if let Some(last) = range(text) {
+    if let Some(last) = bare_range(text) {
         return FormatParam::BareRange(last);
     }
     FormatParam::Unknown

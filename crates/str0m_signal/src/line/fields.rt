@@ -1,11 +1,11 @@
 //! What fields of several lines share.
 
 ghost use Rattle.std.specs.Prelude.{◌≡◌, IfOk, option_map};
-ghost use Rattle.str0m_signal.specs.Prelude.{beginning_of, code, num, parts};
+ghost use Rattle.str0m_signal.specs.Prelude.{text_beginning_of, code, num, parts};
 ghost use Rattle.str0m_signal.specs.form.FormReading.{behind, text_read, two_read};
 ghost use Rattle.str0m_signal.specs.form.FormTable.{two_texts};
 ghost use Rattle.str0m_signal.specs.form.MediaAttributeReading.{role_read};
-ghost use Rattle.str0m_signal.specs.line.LinesReading.{lines_of, line_read, both_left};
+ghost use Rattle.str0m_signal.specs.line.LinesReading.{lines_of, line_read, both_lines_left};
 ghost use Rattle.str0m_signal.specs.session.SectionReading.{field_read};
 
 use crate::line::lines::clean_line;
@@ -24,14 +24,14 @@ pub(crate) fn field<'a>(line: &'a str, label: &str) -> Option<&'a str>
 
 /// What follows `label` in the first line, and what follows that line.
 pub(crate) fn read_field<'a>(text: &'a str, label: &str) -> Option<(&'a str, &'a str)>
-    ensures { option_map both_left result ≡ line_read (field_read label.now) (lines_of text.now) }
+    ensures { option_map both_lines_left result ≡ line_read (field_read label.now) (lines_of text.now) }
 {
     let (line, rest) = clean_line(text)?;
     Some((field(line, label)?, rest))
 }
 
 /// A copy of what follows `label`, where that is not nothing.
-pub(crate) fn kept(alloc: Global, text: &str, label: &str) -> Result<Option<Text>, AllocError>
+pub(crate) fn kept_field(alloc: Global, text: &str, label: &str) -> Result<Option<Text>, AllocError>
     ensures { IfOk result (λ found. found ≡ behind label.now text_read text.now) }
 {
     match field(text, label) {
@@ -56,7 +56,7 @@ pub(crate) fn two_texts(text: &str, at: Separator) -> Option<(&str, &str)>
 
 /// Copies of the two texts that follow `label` with a space between them, where neither is nothing.
 #[inline(always)]
-pub(crate) fn both_kept(
+pub(crate) fn both_texts_kept(
     alloc: Global,
     text: &str,
     label: &str,
@@ -83,14 +83,14 @@ pub(crate) fn num_u64(text: &str) -> Option<u64>
 
 /// A name, as far as it is kept.
 #[tactic(auto, using(str0m_values::proofs::IdentifierBeginnings::beginning_only))]
-pub(crate) fn short(name: &str) -> Mid
-    ensures { result ≡ beginning_of 16 name.now }
+pub(crate) fn short_field(name: &str) -> Mid
+    ensures { result ≡ text_beginning_of 16 name.now }
 {
     Mid::from(name)
 }
 
 /// The setup that a word says.
-pub(crate) fn role(word: &str) -> Option<Setup>
+pub(crate) fn role_field(word: &str) -> Option<Setup>
     ensures { result ≡ role_read word.now }
 {
     case_of(&SETUPS, word)

@@ -1,7 +1,7 @@
 //! The m-lines of sections.
 
 ghost use Rattle.std.specs.Prelude.{◌≡◌, IfOk, codes, is_some, option_map, bytes_eq};
-ghost use Rattle.str0m_signal.specs.line.Heads.{kind_is, media_head};
+ghost use Rattle.str0m_signal.specs.line.Heads.{head_kind_is, media_head};
 ghost use Rattle.str0m_signal.specs.session.SectionReading.{unknown_read, media_kind_read, proto_read, types_read, head_read};
 
 use crate::line::parts::parts;
@@ -32,7 +32,7 @@ enum Kind<'a> {
 
 impl<'a> Kind<'a> {
     fn to_media_type(self, alloc: Global) -> Result<MediaType, AllocError>
-        ensures { IfOk result (λ typ. typ ≡ kind_is self.entry) }
+        ensures { IfOk result (λ typ. typ ≡ head_kind_is self.entry) }
     {
         match self {
             Kind::Audio => Ok(MediaType::Audio),
@@ -43,8 +43,8 @@ impl<'a> Kind<'a> {
     }
 }
 
-fn unknown(text: &str) -> Option<Kind<'_>>
-    ensures { option_map kind_is result ≡ unknown_read text.now }
+fn unknown_head_kind(text: &str) -> Option<Kind<'_>>
+    ensures { option_map head_kind_is result ≡ unknown_read text.now }
 {
     if strip(text, AUDIO).is_some()
         || strip(text, VIDEO).is_some()
@@ -56,14 +56,14 @@ fn unknown(text: &str) -> Option<Kind<'_>>
     Some(Kind::Unknown(text))
 }
 
-fn kind_of(text: &str) -> Option<Kind<'_>>
-    ensures { option_map kind_is result ≡ media_kind_read text.now }
+fn head_kind(text: &str) -> Option<Kind<'_>>
+    ensures { option_map head_kind_is result ≡ media_kind_read text.now }
 {
     match text {
         AUDIO => Some(Kind::Audio),
         VIDEO => Some(Kind::Video),
         APPLICATION => Some(Kind::Application),
-        _ => unknown(text),
+        _ => unknown_head_kind(text),
     }
 }
 
@@ -78,13 +78,14 @@ fn proto(text: &str) -> Option<Proto>
 }
 
 /// Whether a section on this port is disabled.
-fn is_disabled(port: &str) -> bool
+fn is_head_disabled(port: &str) -> bool
     ensures { result ≡ bytes_eq port.now (codes "0") }
 {
     port == "0"
 }
 
 /// The types of an m-line. Memory is asked for only where they are numbers.
+#[inline(always)]
 fn types(alloc: Global, text: &str) -> Result<Option<Items<Pt>>, AllocError>
     ensures { IfOk result (λ found. found ≡ types_read text.now) }
 {
@@ -113,7 +114,7 @@ pub(crate) fn head(alloc: Global, line: &str) -> Result<Option<MediaHead>, Alloc
     let Some((protocol, body)) = cut(body, Separator::Space) else {
         return Ok(None);
     };
-    let Some(kind) = kind_of(kind_text) else {
+    let Some(kind) = head_kind(kind_text) else {
         return Ok(None);
     };
     if port.is_empty() {
@@ -128,7 +129,7 @@ pub(crate) fn head(alloc: Global, line: &str) -> Result<Option<MediaHead>, Alloc
     let typ = kind.to_media_type(alloc)?;
     Ok(Some(MediaHead {
         typ,
-        disabled: is_disabled(port),
+        disabled: is_head_disabled(port),
         proto,
         pts,
     }))

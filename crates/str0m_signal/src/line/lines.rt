@@ -3,7 +3,7 @@
 ghost use Rattle.memchr.specs.Find.{IsFirstByte, is_byte2};
 ghost use Rattle.std.specs.Prelude.{◌≡◌, ◌++◌, option_map};
 ghost use Rattle.str0m_signal.specs.Prelude.{Lacks};
-ghost use Rattle.str0m_signal.specs.line.LinesReading.{lines_of, clean_line, behind_end, IsAtEnd, both_left};
+ghost use Rattle.str0m_signal.specs.line.LinesReading.{lines_of, clean_line, behind_end, IsAtEnd, both_lines_left};
 
 use memchr::memchr2;
 use str0m_values::cuts::strip;
@@ -13,13 +13,13 @@ pub(crate) const BYTES_OF_A_LINE: usize = 48;
 
 /// How many bytes a line's end is first looked for in. The search takes least time where it is given fewer than 64, and several
 /// times as long where it is given more than 191 and the end isn't among the first 64; most lines are shorter.
-const NEAR: [usize; 2] = [63, 191];
+const NEAR_LINE_END: [usize; 2] = [63, 191];
 
 /// Where the first line feed or carriage return stands.
 fn line_end(bytes: &[u8]) -> Option<usize>
     ensures { IsFirstByte (is_byte2 10 13) bytes.now result }
 {
-    for limit in NEAR {
+    for limit in NEAR_LINE_END {
         let near = &bytes[..bytes.len().min(limit)];
         if let Some(at) = memchr2(b'\n', b'\r', near) {
             return Some(at);
@@ -58,7 +58,7 @@ fn behind_end(text: &str) -> Option<&str>
 /// The first line, without its end, and what follows it. A line that holds a carriage return fits no form, so nobody
 /// needs to know where it ends.
 pub(crate) fn clean_line(text: &str) -> Option<(&str, &str)>
-    ensures { option_map both_left result ≡ clean_line (lines_of text.now) }
+    ensures { option_map both_lines_left result ≡ clean_line (lines_of text.now) }
 {
     if text.is_empty() {
         return None;

@@ -56,7 +56,7 @@ pub(crate) fn skip_blanks(text: &str) -> &str
 }
 
 /// Whether there is a space or a tab.
-fn has_blank(bytes: &[u8]) -> bool
+fn has_pair_blank(bytes: &[u8]) -> bool
     ensures { result ≡ list_any is_blank bytes.now }
 {
     bytes.iter().any(|byte| is_blank(*byte))
@@ -69,11 +69,11 @@ fn is_blank(byte: u8) -> bool
 }
 
 /// A key: one or more characters other than space and tab.
-#[tactic(auto, using(crate::proofs::line::PairLaws::key_is))]
+#[tactic(auto, using(crate::proofs::line::PairLaws::pair_key_is))]
 pub(crate) fn key(text: &str) -> Option<&str>
     ensures { option_map (λ x. x.now) result ≡ fmtp_key_read text.now }
 {
-    if has_blank(text.as_bytes()) {
+    if has_pair_blank(text.as_bytes()) {
         return None;
     }
     if text.is_empty() { None } else { Some(text) }

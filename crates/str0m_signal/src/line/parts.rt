@@ -3,7 +3,7 @@ ghost use Rattle.std.specs.Prelude.{◌≡◌, ℕ, List, Option, IfOk, is_some}
 ghost use Rattle.str0m_signal.specs.Prelude.{code};
 ghost use Rattle.str0m_signal.specs.form.FormReading.{parted_read};
 
-use crate::session::attributes::taken_result;
+use crate::session::attributes::taken_attribute_result;
 use std::alloc::{AllocError, Global};
 use str0m_values::cuts::cut;
 use str0m_values::{Items, Separator};
@@ -50,12 +50,12 @@ fn read_parts<T: Part>(
     let mut parts = Vec::new(alloc);
     let mut rest = text;
     while let Some((part, more)) = cut(rest, at) {
-        if !taken_result(T::read(alloc, part), &mut parts)? {
+        if !taken_attribute_result(T::read(alloc, part), &mut parts)? {
             return Ok(None);
         }
         rest = more;
     }
-    if taken_result(T::read(alloc, rest), &mut parts)? {
+    if taken_attribute_result(T::read(alloc, rest), &mut parts)? {
         Ok(Some(Items::from(parts)))
     } else {
         Ok(None)

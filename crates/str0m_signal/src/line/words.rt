@@ -3,7 +3,7 @@ ghost use Rattle.std.specs.Prelude.{◌≡◌, ◌&&◌};
 ghost use Rattle.str0m_signal.specs.Prelude.{is_rest, lacks, num};
 ghost use Rattle.str0m_signal.specs.line.WordsReading.{word_text_read, name_read, digit_read, hex_pair_read, without_space};
 
-use crate::line::fields::short;
+use crate::line::fields::short_field;
 use crate::line::parts::Part;
 use std::alloc::{AllocError, Global};
 use str0m_values::cuts::{has, num_u8, num_u32};
@@ -46,7 +46,7 @@ impl Part for Mid {
 
     fn read(_alloc: Global, text: &str) -> Result<Option<Mid>, AllocError> {
         if is_word(text) {
-            Ok(Some(short(text)))
+            Ok(Some(short_field(text)))
         } else {
             Ok(None)
         }

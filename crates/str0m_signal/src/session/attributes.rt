@@ -2,7 +2,7 @@
 
 ghost use Rattle.std.specs.Prelude.{◌≡◌, ◌∷◌, ◌++◌, [], ℕ, List, Ok, Option, Some, IfOk, option_map};
 ghost use Rattle.str0m_signal.specs.line.Lines.{Run};
-ghost use Rattle.str0m_signal.specs.line.LinesReading.{lines_of, line_read, read_attribute, left, ReadsTo, Takes, TakesLine};
+ghost use Rattle.str0m_signal.specs.line.LinesReading.{lines_of, line_read, read_attribute, lines_left, ReadsTo, TakesPart, TakesLine};
 
 use crate::line::lines::{BYTES_OF_A_LINE, clean_line};
 use std::alloc::{AllocError, Global};
@@ -10,7 +10,7 @@ use str0m_values::Items;
 use str0m_values::cuts::strip;
 
 /// Where what is found goes.
-pub(crate) trait Place<A> {
+pub(crate) trait AttributePlace<A> {
     /// What the place holds once an item was put there.
     ghost Puts: { Self → A → Self → Type 0 };
 
@@ -19,7 +19,7 @@ pub(crate) trait Place<A> {
 }
 
 /// After the others of a list.
-impl<A: Drop> Place<A> for Vec<A> {
+impl<A: Drop> AttributePlace<A> for Vec<A> {
     ghost Puts = { λ old item new. new.items ≡ old.items ++ item ∷ [] };
 
     #[inline(always)]
@@ -30,7 +30,7 @@ impl<A: Drop> Place<A> for Vec<A> {
 }
 
 /// Alone, for which no memory is asked.
-impl<A: Drop> Place<A> for Option<A> {
+impl<A: Drop> AttributePlace<A> for Option<A> {
     ghost Puts = { λ _ item new. new ≡ Some item };
 
     #[inline(always)]
@@ -47,19 +47,23 @@ pub(crate) trait Attribute: Drop {
     ghost reading: { List ℕ → Option Self };
 
     /// Puts the attribute of the text after `a=` in its place, where it is one; whether it is.
-    fn take<P: Place<Self>>(alloc: Global, text: &str, place: &mut P) -> Result<bool, AllocError>
+    fn take<P: AttributePlace<Self>>(
+        alloc: Global,
+        text: &str,
+        place: &mut P,
+    ) -> Result<bool, AllocError>
     where
         Self: Sized,
-        ensures { IfOk result (Takes P.Puts (reading text.now) place.old place.new) };
+        ensures { IfOk result (TakesPart P.Puts (reading text.now) place.old place.new) };
 }
 
 /// Puts what was found in its place; whether there was anything.
 #[inline(always)]
-pub(crate) fn taken<A: Drop, P: Place<A>>(
+pub(crate) fn taken<A: Drop, P: AttributePlace<A>>(
     found: Option<A>,
     place: &mut P,
 ) -> Result<bool, AllocError>
-    ensures { IfOk result (Takes P.Puts found place.old place.new) }
+    ensures { IfOk result (TakesPart P.Puts found place.old place.new) }
 {
     match found {
         Some(item) => {
@@ -72,22 +76,22 @@ pub(crate) fn taken<A: Drop, P: Place<A>>(
 
 /// The same of what a form answers that asks for memory.
 #[inline(always)]
-pub(crate) fn taken_result<A: Drop, P: Place<A>>(
+pub(crate) fn taken_attribute_result<A: Drop, P: AttributePlace<A>>(
     answer: Result<Option<A>, AllocError>,
     place: &mut P,
 ) -> Result<bool, AllocError>
-    ensures { IfOk result (λ taken. (found : Option A) × (answer ≡ Ok found) × Takes P.Puts found place.old place.new taken) }
+    ensures { IfOk result (λ taken. (found : Option A) × (answer ≡ Ok found) × TakesPart P.Puts found place.old place.new taken) }
 {
     taken(answer?, place)
 }
 
 /// Puts the attribute of the line in its place, where it is one; whether it is.
-fn take_content<A: Attribute, P: Place<A>>(
+fn take_attribute_content<A: Attribute, P: AttributePlace<A>>(
     alloc: Global,
     line: &str,
     place: &mut P,
 ) -> Result<bool, AllocError>
-    ensures { IfOk result (Takes P.Puts (read_attribute A.reading line.now) place.old place.new) }
+    ensures { IfOk result (TakesPart P.Puts (read_attribute A.reading line.now) place.old place.new) }
 {
     match strip(line, "a=") {
         Some(text) => A::take(alloc, text, place),
@@ -100,7 +104,7 @@ pub(crate) fn line<A: Attribute>(alloc: Global, line: &str) -> Result<Option<A>,
     ensures { IfOk result (λ found. found ≡ read_attribute A.reading line.now) }
 {
     let mut found = None;
-    take_content(alloc, line, &mut found)?;
+    take_attribute_content(alloc, line, &mut found)?;
     Ok(found)
 }
 
@@ -109,7 +113,7 @@ pub(crate) fn next_line<A: Attribute>(
     alloc: Global,
     text: &str,
 ) -> Result<Option<(A, &str)>, AllocError>
-    ensures { IfOk result (λ found. option_map left found ≡ line_read (read_attribute A.reading) (lines_of text.now)) }
+    ensures { IfOk result (λ found. option_map lines_left found ≡ line_read (read_attribute A.reading) (lines_of text.now)) }
 {
     let Some((content, rest)) = clean_line(text) else {
         return Ok(None);
@@ -131,7 +135,7 @@ fn take_line<'a, A: Attribute>(
     let Some((content, rest)) = clean_line(text) else {
         return Ok(None);
     };
-    if take_content(alloc, content, attributes)? {
+    if take_attribute_content(alloc, content, attributes)? {
         Ok(Some(rest))
     } else {
         Ok(None)
@@ -145,7 +149,7 @@ const FIRST_LINES: usize = 32;
 const SPARE_LINES: usize = 8;
 
 /// The attributes as they are held, which is for longer than they are read: room for many further lines is given back.
-fn without_spare_room<A: Drop>(mut attributes: Vec<A>) -> Items<A>
+fn attributes_without_spare_room<A: Drop>(mut attributes: Vec<A>) -> Items<A>
     ensures { result ≡ attributes.items }
 {
     if attributes.capacity().saturating_sub(attributes.len()) > SPARE_LINES {
@@ -167,5 +171,5 @@ pub(crate) fn attribute_run<A: Attribute>(
     while let Some(after) = take_line(alloc, rest, &mut attributes)? {
         rest = after;
     }
-    Ok((without_spare_room(attributes), rest))
+    Ok((attributes_without_spare_room(attributes), rest))
 }

@@ -1,8 +1,8 @@
 //! Lines with a bandwidth.
 
 ghost use Rattle.std.specs.Prelude.{◌≡◌, IfOk, option_map};
-ghost use Rattle.str0m_signal.specs.line.Lines.{Taken, OneLine};
-ghost use Rattle.str0m_signal.specs.line.LinesReading.{lines_of, line_read, left};
+ghost use Rattle.str0m_signal.specs.line.Lines.{TakenLine, OneLine};
+ghost use Rattle.str0m_signal.specs.line.LinesReading.{lines_of, line_read, lines_left};
 ghost use Rattle.str0m_signal.specs.session.Section.{IsBandwidth};
 ghost use Rattle.str0m_signal.specs.session.SectionReading.{bandwidth_read};
 
@@ -30,7 +30,7 @@ pub(crate) fn bandwidth(alloc: Global, line: &str) -> Result<Option<Bandwidth>, 
 }
 
 fn read_bandwidth(alloc: Global, text: &str) -> Result<Option<(Bandwidth, &str)>, AllocError>
-    ensures { IfOk result (λ found. option_map left found ≡ line_read bandwidth_read (lines_of text.now)) }
+    ensures { IfOk result (λ found. option_map lines_left found ≡ line_read bandwidth_read (lines_of text.now)) }
 {
     let Some((line, rest)) = clean_line(text) else {
         return Ok(None);
@@ -46,7 +46,7 @@ pub(crate) fn take_bandwidth(
     alloc: Global,
     text: &str,
 ) -> Result<(Option<Bandwidth>, &str), AllocError>
-    ensures { IfOk result (λ found. Taken (OneLine IsBandwidth) (lines_of text.now) found.0 (lines_of found.1.now)) }
+    ensures { IfOk result (λ found. TakenLine (OneLine IsBandwidth) (lines_of text.now) found.0 (lines_of found.1.now)) }
 {
     match read_bandwidth(alloc, text)? {
         Some((bandwidth, rest)) => Ok((Some(bandwidth), rest)),

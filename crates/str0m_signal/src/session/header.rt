@@ -4,7 +4,7 @@ ghost use Rattle.std.specs.Prelude.{◌≡◌, IfOk, List, ℕ, codes, option_ma
 ghost use Rattle.str0m_signal.specs.form.FormReading.{digits_read};
 ghost use Rattle.str0m_signal.specs.line.Heads.{session_head};
 ghost use Rattle.str0m_signal.specs.line.Lines.{Run, OneLine};
-ghost use Rattle.str0m_signal.specs.line.LinesReading.{lines_of, line_read, left, both_left, Next};
+ghost use Rattle.str0m_signal.specs.line.LinesReading.{lines_of, line_read, lines_left, both_lines_left, NextPart};
 ghost use Rattle.str0m_signal.specs.session.Header.{IsInfo, IsHeader};
 ghost use Rattle.str0m_signal.specs.session.HeaderReading.{exact_read, origin_read, info_read, opening_read};
 ghost use Rattle.str0m_signal.specs.session.Section.{IsField};
@@ -25,7 +25,7 @@ pub(crate) struct SessionHead {
 }
 
 /// What follows the first line, where that is the word.
-fn exact<'a>(text: &'a str, word: &str) -> Option<&'a str>
+fn exact_line<'a>(text: &'a str, word: &str) -> Option<&'a str>
     ensures { option_map (λ x. (word.now, lines_of x.now)) result ≡ line_read (exact_read word.now) (lines_of text.now) }
 {
     let (line, rest) = clean_line(text)?;
@@ -42,7 +42,7 @@ fn id_digits(text: &str) -> Option<u64>
     }
 }
 
-fn origin(line: &str) -> Option<u64>
+fn header_origin(line: &str) -> Option<u64>
     ensures { result ≡ origin_read line.now }
 {
     let body = strip(line, "o=")?;
@@ -56,16 +56,16 @@ fn origin(line: &str) -> Option<u64>
 }
 
 fn read_origin(text: &str) -> Option<(u64, &str)>
-    ensures { option_map left result ≡ line_read origin_read (lines_of text.now) }
+    ensures { option_map lines_left result ≡ line_read origin_read (lines_of text.now) }
 {
     let (line, rest) = clean_line(text)?;
-    Some((origin(line)?, rest))
+    Some((header_origin(line)?, rest))
 }
 
-fn opening(text: &str) -> Option<(u64, &str)>
-    ensures { option_map left result ≡ opening_read (lines_of text.now) }
+fn header_opening(text: &str) -> Option<(u64, &str)>
+    ensures { option_map lines_left result ≡ opening_read (lines_of text.now) }
 {
-    let rest = exact(text, "v=0")?;
+    let rest = exact_line(text, "v=0")?;
     let Some((id, rest)) = read_origin(rest) else {
         return None;
     };
@@ -73,7 +73,7 @@ fn opening(text: &str) -> Option<(u64, &str)>
     Some((id, rest))
 }
 
-fn info(line: &str) -> Option<&str>
+fn header_info(line: &str) -> Option<&str>
     ensures { option_map (λ x. x.now) result ≡ info_read line.now }
 {
     if let Some(text) = field(line, "i=") {
@@ -98,13 +98,13 @@ fn info(line: &str) -> Option<&str>
 }
 
 fn read_info(text: &str) -> Option<(&str, &str)>
-    ensures { option_map both_left result ≡ line_read info_read (lines_of text.now) }
+    ensures { option_map both_lines_left result ≡ line_read info_read (lines_of text.now) }
 {
     let (line, rest) = clean_line(text)?;
-    Some((info(line)?, rest))
+    Some((header_info(line)?, rest))
 }
 
-fn skip_infos(text: &str) -> &str
+fn skip_header_infos(text: &str) -> &str
     ensures { (infos : List (List ℕ)) × Run (OneLine IsInfo) (lines_of text.now) infos (lines_of result.now) }
 {
     let mut rest = text;
@@ -114,7 +114,7 @@ fn skip_infos(text: &str) -> &str
     rest
 }
 
-fn skip_repeats(text: &str) -> &str
+fn skip_header_repeats(text: &str) -> &str
     ensures { (repeats : List (List ℕ)) × Run (OneLine (IsField (codes "r="))) (lines_of text.now) repeats (lines_of result.now) }
 {
     let mut rest = text;
@@ -129,17 +129,17 @@ pub(crate) fn next_header(
     alloc: Global,
     text: &str,
 ) -> Result<Option<(SessionHead, &str)>, AllocError>
-    ensures { IfOk result (λ found. Next IsHeader text.now (option_map session_head found)) }
+    ensures { IfOk result (λ found. NextPart IsHeader text.now (option_map session_head found)) }
 {
-    let Some((id, rest)) = opening(text) else {
+    let Some((id, rest)) = header_opening(text) else {
         return Ok(None);
     };
-    let rest = skip_infos(rest);
+    let rest = skip_header_infos(rest);
     let (bw, rest) = take_bandwidth(alloc, rest)?;
-    let Some(rest) = exact(rest, "t=0 0") else {
+    let Some(rest) = exact_line(rest, "t=0 0") else {
         return Ok(None);
     };
-    let rest = skip_repeats(rest);
+    let rest = skip_header_repeats(rest);
     Ok(Some((
         SessionHead {
             id: SessionId::from(id),

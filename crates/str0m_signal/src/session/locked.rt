@@ -2,15 +2,15 @@
 
 ghost use Rattle.std.specs.Prelude.{◌≡◌, ◌≢◌, [], IfOk};
 ghost use Rattle.str0m_signal.specs.back.ReadBack.{MayBePrinted};
-ghost use Rattle.str0m_signal.specs.session.Locked.{is_carried, locked_of_kind};
+ghost use Rattle.str0m_signal.specs.session.Locked.{is_carried_by_section, locked_of_kind};
 
 use std::alloc::{AllocError, Global};
 use str0m_formats::{CodecConfig, PayloadParams};
 use str0m_values::MediaKind;
 
 /// Whether sections of the kind carry what the row is of.
-fn is_carried(kind: MediaKind, row: &PayloadParams) -> bool
-    ensures { result ≡ is_carried kind row.now }
+fn is_carried_by_section(kind: MediaKind, row: &PayloadParams) -> bool
+    ensures { result ≡ is_carried_by_section kind row.now }
 {
     let codec = row.spec().codec;
     match kind {
@@ -29,7 +29,7 @@ fn locked_among(
 {
     let mut locked = Vec::new(alloc);
     for row in rows {
-        if row.locked() && is_carried(kind, row) {
+        if row.locked() && is_carried_by_section(kind, row) {
             locked.push(*row)?;
         }
     }

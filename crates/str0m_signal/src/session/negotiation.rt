@@ -1,22 +1,22 @@
 //! Rounds of negotiation over a whole text.
 
 ghost use Rattle.std.specs.Prelude.{◌≡◌, All, IfErr, IfOk, OnErr, filter_map, map, option_map, ℕ};
-ghost use Rattle.str0m_signal.specs.Prelude.{AllDistinct, HasBoundedRows, IsPlain, Sdp, types};
+ghost use Rattle.str0m_signal.specs.Prelude.{AllTypesDistinct, HasBoundedRows, IsPlain, Sdp, types};
 ghost use Rattle.str0m_signal.specs.back.ReadBack.{MayBePrinted, ReadsBack};
 ghost use Rattle.str0m_signal.specs.back.Writable.{Writable};
-ghost use Rattle.str0m_signal.specs.back.WritableAgain.{IsOverSrtp, IsRead, MayBeWrittenAgain};
-ghost use Rattle.str0m_signal.specs.session.Negotiation.{Negotiated, NegotiatedText, brought, brought_by};
+ghost use Rattle.str0m_signal.specs.back.WritableAgain.{IsWritableOverSrtp, IsRead, MayBeWrittenAgain};
+ghost use Rattle.str0m_signal.specs.session.Negotiation.{Negotiated, NegotiatedText, brought_by_round, brought_by_section};
 ghost use Rattle.str0m_signal.specs.session.Reader.{Described};
 ghost use Rattle.str0m_signal.specs.session.ReaderAnswers.{Refuses};
 
-use crate::session::offer::described;
+use crate::session::offer::described_offer;
 use std::alloc::{AllocError, Global};
 use str0m_formats::{CodecConfig, NegotiationError, Round};
 use str0m_sdp::{MediaLine, SdpError};
 
 /// What an audio or video section brings to a round.
 fn round_of(section: &MediaLine) -> Result<Option<Round>, AllocError>
-    ensures { IfOk result (λ found. option_map brought found ≡ brought_by section.now) }
+    ensures { IfOk result (λ found. option_map brought_by_round found ≡ brought_by_section section.now) }
 {
     if section.typ.is_media() {
         let remote = section.rtp_params()?;
@@ -29,7 +29,7 @@ fn round_of(section: &MediaLine) -> Result<Option<Round>, AllocError>
 
 /// The rounds of the audio and video sections, in order.
 fn rounds_of(alloc: Global, sections: &[MediaLine]) -> Result<Vec<Round>, AllocError>
-    ensures { IfOk result (λ rounds. map brought rounds.items ≡ filter_map brought_by sections.now) }
+    ensures { IfOk result (λ rounds. map brought_by_round rounds.items ≡ filter_map brought_by_section sections.now) }
 {
     let mut rounds = Vec::new(alloc);
     for section in sections {
@@ -48,7 +48,7 @@ fn negotiate(
     ensures ok { IfOk result (λ outcomes. Negotiated sections.now config.old.params.items outcomes.items config.new.params.items) }
     ensures else_same { config.new ≡ record config.old { params = config.new.params } }
     ensures err { OnErr result (config.new ≡ config.old) }
-    ensures distinct { AllDistinct (types config.old.params.items) → AllDistinct (types config.new.params.items) }
+    ensures distinct { AllTypesDistinct (types config.old.params.items) → AllTypesDistinct (types config.new.params.items) }
     ensures plain { All HasBoundedRows sections.now → All IsPlain config.old.params.items → All IsPlain config.new.params.items }
     ensures printable { All HasBoundedRows sections.now → MayBePrinted config.old.params.items → MayBePrinted config.new.params.items }
 {
@@ -82,7 +82,7 @@ pub fn negotiate_text(
     ensures else_same { config.new ≡ record config.old { params = config.new.params } }
 
     // Whatever is answered, payload types that were distinct are distinct, and rows that were plain are plain.
-    ensures distinct { AllDistinct (types config.old.params.items) → AllDistinct (types config.new.params.items) }
+    ensures distinct { AllTypesDistinct (types config.old.params.items) → AllTypesDistinct (types config.new.params.items) }
     ensures plain { All IsPlain config.old.params.items → All IsPlain config.new.params.items }
     ensures printable { MayBePrinted config.old.params.items → MayBePrinted config.new.params.items }
 
@@ -91,8 +91,8 @@ pub fn negotiate_text(
 
     // And so in every session that was read, in each section over Srtp: `is_writable` needn't be asked.
     ensures back_in_readings { MayBePrinted config.old.params.items → (sdp : Sdp) (i : ℕ) → IsRead sdp → MayBeWrittenAgain sdp
-        → IsOverSrtp sdp i → ReadsBack sdp i config.new.params.items }
+        → IsWritableOverSrtp sdp i → ReadsBack sdp i config.new.params.items }
 {
-    let sdp = described(*config.allocator(), text)?;
+    let sdp = described_offer(*config.allocator(), text)?;
     Ok(negotiate(config, sdp.media_lines.as_slice())?)
 }

@@ -23,7 +23,7 @@ pub struct SdpOffer(Sdp);
 pub struct SdpAnswer(Sdp);
 
 /// The description that a text begins with; what follows it is dropped.
-pub(crate) fn described(alloc: Global, text: &str) -> Result<Sdp, SdpError>
+pub(crate) fn described_offer(alloc: Global, text: &str) -> Result<Sdp, SdpError>
     ensures read { Answers (λ sdp. sdp) result (Described text.now) }
     ensures one { AtMostOne (Described text.now) }
     ensures bounded { IfOk result (λ sdp. All HasBoundedRows sdp.media_lines) }
@@ -45,7 +45,7 @@ fn likely_length(sdp: &Sdp) -> usize {
 }
 
 /// The printed description.
-fn printed(sdp: &Sdp) -> Result<String, AllocError>
+fn printed_offer(sdp: &Sdp) -> Result<String, AllocError>
     ensures { IfOk result (λ text. string_bytes text ≡ sdp_text sdp.now) }
 {
     let alloc = *sdp.media_lines.allocator();
@@ -79,7 +79,7 @@ impl SdpOffer {
         // The rows of its sections have types of seven bits, and modes and distances in their ranges.
         ensures bounded { IfOk result (λ offer. All HasBoundedRows offer.media_lines) }
     {
-        match described(alloc, text) {
+        match described_offer(alloc, text) {
             Ok(sdp) => Ok(SdpOffer(sdp)),
             Err(error) => Err(error),
         }
@@ -89,7 +89,7 @@ impl SdpOffer {
     pub fn to_sdp_string(&self) -> Result<String, AllocError>
         ensures { IfOk result (λ text. string_bytes text ≡ sdp_text self.now) }
     {
-        printed(&self.0)
+        printed_offer(&self.0)
     }
 }
 
@@ -145,7 +145,7 @@ impl SdpAnswer {
         // The rows of its sections have types of seven bits, and modes and distances in their ranges.
         ensures bounded { IfOk result (λ answer. All HasBoundedRows answer.media_lines) }
     {
-        match described(alloc, text) {
+        match described_offer(alloc, text) {
             Ok(sdp) => Ok(SdpAnswer(sdp)),
             Err(error) => Err(error),
         }
@@ -155,7 +155,7 @@ impl SdpAnswer {
     pub fn to_sdp_string(&self) -> Result<String, AllocError>
         ensures { IfOk result (λ text. string_bytes text ≡ sdp_text self.now) }
     {
-        printed(&self.0)
+        printed_offer(&self.0)
     }
 }
 

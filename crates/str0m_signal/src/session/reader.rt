@@ -6,9 +6,9 @@ ghost use Rattle.str0m_signal.specs.form.CandidateLine.{IsCandidateLine};
 ghost use Rattle.str0m_signal.specs.form.MediaAttribute.{IsMediaLine};
 ghost use Rattle.str0m_signal.specs.form.SessionAttribute.{IsSessionLine};
 ghost use Rattle.str0m_signal.specs.line.Lines.{FirstLine};
-ghost use Rattle.str0m_signal.specs.line.LinesReading.{left, line_read, lines_of, read_attribute};
+ghost use Rattle.str0m_signal.specs.line.LinesReading.{lines_left, line_read, lines_of, read_attribute};
 ghost use Rattle.str0m_signal.specs.session.Reader.{IsFromLine, Sections, IsSession, IsReading, Reading, SessionReading};
-ghost use Rattle.str0m_signal.specs.session.ReaderAnswers.{Answers, AtMostOne, GivesRead, IsRefusal, unread};
+ghost use Rattle.str0m_signal.specs.session.ReaderAnswers.{Answers, AtMostOne, GivesRead, IsReaderRefusal, unread};
 
 use crate::form::session_attribute::session_attributes;
 use crate::session::attributes::{Attribute, next_line};
@@ -19,8 +19,8 @@ use str0m_sdp::{MediaAttribute, MediaLine, Sdp, SdpError, Session, SessionAttrib
 use str0m_values::{Candidate, Items};
 
 /// The refusal with a message, or out of memory.
-pub(crate) fn refusal(alloc: Global, message: &str) -> SdpError
-    ensures { IsRefusal result }
+pub(crate) fn reader_refusal(alloc: Global, message: &str) -> SdpError
+    ensures { IsReaderRefusal result }
 {
     match String::from_str(alloc, message) {
         Ok(message) => SdpError::ParseError(message),
@@ -30,7 +30,7 @@ pub(crate) fn refusal(alloc: Global, message: &str) -> SdpError
 
 /// The consistent sections that stand next.
 fn sections(alloc: Global, text: &str) -> Result<(Items<MediaLine>, &str), SdpError>
-    ensures { Answers left result (λ v. Sections (lines_of text.now) v.0 v.1) }
+    ensures { Answers lines_left result (λ v. Sections (lines_of text.now) v.0 v.1) }
 {
     let mut sections = Vec::new(alloc);
     let mut rest = text;
@@ -45,10 +45,10 @@ fn sections(alloc: Global, text: &str) -> Result<(Items<MediaLine>, &str), SdpEr
 }
 
 fn read_session(alloc: Global, text: &str) -> Result<(Session, &str), SdpError>
-    ensures { Answers left result (λ v. IsSession (lines_of text.now) v.0 v.1) }
+    ensures { Answers lines_left result (λ v. IsSession (lines_of text.now) v.0 v.1) }
 {
     let Some((head, rest)) = next_header(alloc, text)? else {
-        return Err(refusal(alloc, "bad session header"));
+        return Err(reader_refusal(alloc, "bad session header"));
     };
     let (attrs, rest) = session_attributes(alloc, rest)?;
     let SessionHead { id, bw } = head;
@@ -56,7 +56,7 @@ fn read_session(alloc: Global, text: &str) -> Result<(Session, &str), SdpError>
 }
 
 fn read_sdp(alloc: Global, text: &str) -> Result<(Sdp, &str), SdpError>
-    ensures { Answers left result (λ v. IsReading (lines_of text.now) v.0 v.1) }
+    ensures { Answers lines_left result (λ v. IsReading (lines_of text.now) v.0 v.1) }
 {
     let (session, rest) = read_session(alloc, text)?;
     let (media_lines, rest) = sections(alloc, rest)?;
@@ -69,11 +69,11 @@ fn read_sdp(alloc: Global, text: &str) -> Result<(Sdp, &str), SdpError>
 
 /// The attribute of the first line, where it is one.
 fn first_attribute<A: Attribute>(alloc: Global, text: &str) -> Result<(A, &str), SdpError>
-    ensures { GivesRead left result (line_read (read_attribute A.reading) (lines_of text.now)) }
+    ensures { GivesRead lines_left result (line_read (read_attribute A.reading) (lines_of text.now)) }
 {
     match next_line(alloc, text)? {
         Some(found) => Ok(found),
-        None => Err(refusal(alloc, "line does not fit")),
+        None => Err(reader_refusal(alloc, "line does not fit")),
     }
 }
 

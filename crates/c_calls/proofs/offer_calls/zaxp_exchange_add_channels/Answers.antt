@@ -3,17 +3,17 @@ use Rattle.c_calls.specs.Common.{Of}
 use Rattle.c_parts.specs.Fault.{RefusesCall, ToldFault}
 use Rattle.c_parts.specs.declared.fault.Fault.TheVariants.{Refused}
 use Rattle.exchange.specs.declared.state.exchange.Exchange.{Exchange}
-use Rattle.exchange.specs.state.Exchange.{RefusesChannels}
+use Rattle.exchange.specs.state.Exchange.{ExchangeRefusesChannels}
 use Rattle.std.proofs.Common.{subst, sym}
 use Rattle.std.specs.Prelude.{Option}
 
 -- the fault is the error of the exchange
 pub returns-in-Err-clause-refused : goal.returns-in-Err-clause-refused
 returns-in-Err-clause-refused c = λ failed.
-    subst (λ (inner : Option Exchange). Of inner (λ before. ToldFault (RefusesCall (RefusesChannels before)) c.tell_error.result))
+    subst (λ (inner : Option Exchange). Of inner (λ before. ToldFault (RefusesCall (ExchangeRefusesChannels before)) c.tell_error.result))
     (sym c.take-exchange.ensures.0) (
       Refused c.in-Err.error,
-      subst (λ (before : Exchange). RefusesChannels before c.in-Err.error) c.deref_mut.ensures.value
+      subst (λ (before : Exchange). ExchangeRefusesChannels before c.in-Err.error) c.deref_mut.ensures.value
           c.in-Err.ensures.refused,
       c.tell_error.ensures.code,
     )

@@ -1,7 +1,7 @@
 use Rattle.c_calls.proofs.offer_calls.zaxp_exchange_add_media.Goals as goal
 use Rattle.c_calls.specs.Common.{Of}
 use Rattle.c_parts.specs.Fault.{RefusesCall, ToldFault}
-use Rattle.c_parts.specs.Side.{kind_numbered}
+use Rattle.c_parts.specs.Side.{side_kind_numbered}
 use Rattle.c_parts.specs.declared.fault.Fault.TheVariants.{Refused}
 use Rattle.exchange.specs.declared.state.exchange.Exchange.{Exchange}
 use Rattle.exchange.specs.state.Exchange.{RefusesMedia}
@@ -13,11 +13,11 @@ use Rattle.str0m_values.specs.declared.media_kind.MediaKind.{MediaKind}
 pub returns-in-Err-clause-refused : goal.returns-in-Err-clause-refused
 returns-in-Err-clause-refused c = λ failed.
     subst (λ (inner : Option Exchange). Of inner
-    (λ before. ToldFault (RefusesCall (RefusesMedia before (kind_numbered c.args.kind))) c.tell_error.result))
+    (λ before. ToldFault (RefusesCall (RefusesMedia before (side_kind_numbered c.args.kind))) c.tell_error.result))
     (sym c.take-exchange.ensures.0) (
       Refused c.in-Err.error,
-      subst (λ (before : Exchange). RefusesMedia before (kind_numbered c.args.kind) c.in-Err.error) c.deref_mut.ensures.value
-          (subst (λ (kind : MediaKind). RefusesMedia c.deref_mut.result.now kind c.in-Err.error) c.kind_numbered.ensures
+      subst (λ (before : Exchange). RefusesMedia before (side_kind_numbered c.args.kind) c.in-Err.error) c.deref_mut.ensures.value
+          (subst (λ (kind : MediaKind). RefusesMedia c.deref_mut.result.now kind c.in-Err.error) c.side_kind_numbered.ensures
           c.in-Err.ensures.refused),
       c.tell_error.ensures.code,
     )

@@ -1,4 +1,4 @@
-use Rattle.c_calls.proofs.OfferCallsFilled.{of_full}
+use Rattle.c_calls.proofs.OfferCallsFilled.{offer_of_full}
 use Rattle.c_calls.proofs.offer_calls.zaxp_exchange_create_offer.Goals as goal
 use Rattle.c_calls.specs.Common.{Of}
 use Rattle.c_parts.specs.Fault.{RefusesCall, ToldFault}
@@ -11,7 +11,8 @@ use Rattle.std.specs.Prelude.{Option}
 
 -- no memory was left for a place
 pub returns-in_default-clause-refused : goal.returns-in_default-clause-refused
-returns-in_default-clause-refused c = λ failed. of_full _ c.args.handle.now.inner c.requires.handle (λ before. (Refused Memory, tt, refl))
+returns-in_default-clause-refused c = λ failed. offer_of_full _ c.args.handle.now.inner c.requires.handle
+    (λ before. (Refused Memory, tt, refl))
 
 -- the fault is the error of the exchange
 pub returns-in-Err-clause-refused : goal.returns-in-Err-clause-refused

@@ -1,4 +1,4 @@
-use Rattle.c_parts.proofs.SideListed.{candidates_more, candidates_refused}
+use Rattle.c_parts.proofs.SideListed.{listed_candidates_more, listed_candidates_refused}
 use Rattle.c_parts.proofs.side.candidates_of.Goals as goal
 use Rattle.c_parts.specs.Side.{RefusesCandidates, listed_texts}
 use Rattle.exchange.specs.section.Trickled.{IsTrickled}
@@ -10,7 +10,7 @@ use Rattle.str0m_values.specs.declared.candidate.Candidate.{Candidate}
 pub returns-in_err-candidate-clause-refused : goal.returns-in_err-candidate-clause-refused
 returns-in_err-candidate-clause-refused c =
     let told : RefusesCandidates (listed_texts c.args.lines.now) c.in_err-candidate.field-0.0 =
-    candidates_refused c.args.lines.now c.loop-line.line-index _ c.loop-line-test.true c.in_err-candidate.field-0.0
+    listed_candidates_refused c.args.lines.now c.loop-line.line-index _ c.loop-line-test.true c.in_err-candidate.field-0.0
     c.in_err-candidate.ensures.refused in
     grind (arith, common_steps, told)
 
@@ -18,6 +18,7 @@ pub loop-line-preserved : goal.loop-line-preserved
 loop-line-preserved c =
     subst (λ (candidates : List Candidate). AllZip IsTrickled (listed_texts (take (c.loop-line.line-index + 1) c.args.lines.now))
     candidates) (sym c.in_ok-push.ensures.ok)
-    (candidates_more c.args.lines.now c.loop-line.line-index _ c.loop-line-test.true c.loop-line.candidates c.in_ok-candidate.candidate
+    (listed_candidates_more c.args.lines.now c.loop-line.line-index _ c.loop-line-test.true c.loop-line.candidates
+    c.in_ok-candidate.candidate
     c.loop-line.invariant
     c.in_ok-candidate.ensures.read)

@@ -1,5 +1,5 @@
 use Rattle.lint.proofs.Common.{on_ok_weaker}
-use Rattle.lint.proofs.FateLaws.{says_none, says_read}
+use Rattle.lint.proofs.FateLaws.{fate_says_none, says_read}
 use Rattle.lint.proofs.against.note_reading.Goals as goal
 
 pub returns-in-Some-clause-said : goal.returns-in-Some-clause-said
@@ -12,4 +12,4 @@ returns-in-Some-clause-said c = λ none one reads.
 pub returns-in-None-clause-said : goal.returns-in-None-clause-said
 returns-in-None-clause-said c = λ none one reads.
     let refused = rw c.in-None.is at reads in
-    says_none c.args.text.now c.args.ours.now.params.items c.args.notes.now refused none
+    fate_says_none c.args.text.now c.args.ours.now.params.items c.args.notes.now refused none

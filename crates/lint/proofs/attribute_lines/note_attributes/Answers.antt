@@ -1,8 +1,8 @@
-use Rattle.lint.proofs.AttributeLinesLaws.{here, one_further, without_lines}
+use Rattle.lint.proofs.AttributeLinesLaws.{here, one_line_further, without_lines}
 use Rattle.lint.proofs.Common.{◌≡◌, ◌+◌, ◌∙◌, arith, rules}
 use Rattle.lint.proofs.attribute_lines.note_attributes.Goals as goal
 use Rattle.lint.specs.Findings.{NotesLine}
-use Rattle.lint.specs.Lines.{IsNumbered}
+use Rattle.lint.specs.Lines.{IsLineNumber}
 
 pub loop-line-preserved : goal.loop-line-preserved
 loop-line-preserved c =
@@ -15,10 +15,10 @@ loop-line-preserved c =
           let numbered = here c.args.notes.now c.args.before c.args.text.now c.args.marks.now now.notes now.passed now.rest.now now.left.now
           c.in-Some.line.now c.in-Some.after.now fits so_far c.in-Some.ensures.line in
           let is : c.saturating_add-passed.result ≡ now.passed + 1 = omega (arith, numbered.1, now.notes.bounded) in
-          let number : IsNumbered now.notes.last c.saturating_add-passed.result = rw is numbered in
+          let number : IsLineNumber now.notes.last c.saturating_add-passed.result = rw is numbered in
           let notes : NotesLine (now.passed + 1) c.in-Some.line.now now.left.now c.in_ok-left.left.now now.notes next =
           rw is at (c.in_ok-left.ensures.notes number) in
-          rw is (one_further c.args.notes.now c.args.before c.args.text.now c.args.marks.now now.notes next now.passed now.rest.now
+          rw is (one_line_further c.args.notes.now c.args.before c.args.text.now c.args.marks.now now.notes next now.passed now.rest.now
           now.left.now c.in_ok-left.left.now c.in-Some.line.now c.in-Some.after.now so_far c.in-Some.ensures.line notes),
     )
 

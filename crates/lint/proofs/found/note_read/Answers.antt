@@ -1,10 +1,11 @@
 use Rattle.lint.proofs.Common.{◌≡◌, ◌+◌, ◌≤◌, [], Bool, List, map, length, ap, ◌∙◌, sym, subst, arith, rules, on_ok_weaker, sdp_text}
 use Rattle.lint.proofs.Common.{lines_of}
-use Rattle.lint.proofs.FindingsLaws.{empty_rest, first_unread, same_as_printed, some_lines, tells_rest, tells_whole, unread_numbered}
+use Rattle.lint.proofs.FindingsLaws.{finding_rest_is_empty, first_unread, finding_same_as_printed, some_lines, tells_rest, tells_whole}
+use Rattle.lint.proofs.FindingsLaws.{unread_numbered}
 use Rattle.lint.proofs.found.note_read.Goals as goal
 use Rattle.lint.specs.Findings.{KeepsUnread}
 use Rattle.lint.specs.Kept.{is_unread, kept_at, kept_flags}
-use Rattle.lint.specs.Lines.{IsNumbered, attribute_numbers}
+use Rattle.lint.specs.Lines.{IsLineNumber, attribute_numbers}
 
 pub returns-then-is_empty-clause-tells : goal.returns-then-is_empty-clause-tells
 returns-then-is_empty-clause-tells c = λ last.
@@ -19,9 +20,10 @@ returns-then-is_empty-clause-tells c = λ last.
     let keeps : KeepsUnread (kept_at (kept_flags sdp) (attribute_numbers 1 (lines_of text))) old mid =
     subst (λ (fs : List Bool). KeepsUnread (kept_at fs (attribute_numbers 1 (lines_of text))) old mid) flags
     (c.in_ok-note_attributes.ensures.keeps fits) in
-    let none : c.args.rest.now ≡ [] = empty_rest c.args.rest.now (sym c.is_empty.ensures ∙ c.if-is_empty.true) in
+    let none : c.args.rest.now ≡ [] = finding_rest_is_empty c.args.rest.now (sym c.is_empty.ensures ∙ c.if-is_empty.true) in
     let printed : c.as_str.result.now ≡ sdp_text sdp = search rules in
-    let changed = same_as_printed text c.text_before.result.now c.as_str.result.now sdp mid new (c.text_before.ensures none) printed
+    let changed = finding_same_as_printed text c.lines_before_rest.result.now c.as_str.result.now sdp mid new
+    (c.lines_before_rest.ensures none) printed
     c.in_ok-note_changes.ensures.changed in
     tells_whole text sdp c.args.rest.now old mid new none keeps c.in_ok-note_changes.ensures.only changed c.in_ok-note_changes.ensures.last
 
@@ -42,7 +44,7 @@ returns-clause-tells c = λ last.
     let numbered = unread_numbered text rest some in
     let is : c.saturating_add.result ≡ first_unread text rest = omega (arith, some_lines rest some) in
     let stays = c.in_ok-note_changes.ensures.last in
-    let here : IsNumbered late.last c.saturating_add.result =
+    let here : IsLineNumber late.last c.saturating_add.result =
     (omega (arith, is), omega (arith, is, stays, keeps.last_stays, last, numbered.1)) in
     on_ok_weaker c.note_end.result
     (λ e. tells_rest text c.args.sdp.now rest c.saturating_add.result old mid late c.note_end.new.notes some is keeps

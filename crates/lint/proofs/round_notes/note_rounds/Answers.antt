@@ -1,5 +1,5 @@
 use Rattle.lint.proofs.Common.{◌≡◌, ◌+◌, ◌<◌, true, false, length, get_or, take, subst, sym, ◌∙◌, ap, arith, rules, CodecConfig, is_media}
-use Rattle.lint.proofs.FateLaws.{SaidSoFar, round_step, skip_step}
+use Rattle.lint.proofs.FateLaws.{FatesSaidSoFar, round_step, fate_round_skip_step}
 use Rattle.lint.proofs.round_notes.note_rounds.Goals.{then-is_media+in_ok-note_round, else-is_media}
 use Rattle.lint.proofs.round_notes.note_rounds.Goals as goal
 use Rattle.lint.specs.declared.notes.Notes.{Notes}
@@ -22,16 +22,17 @@ loop-section-preserved c =
           let so_far = round_step all i m old now.notes w.note_round.new.notes ours now.config.params.items
           w.note_round.new.config.params.items inside is one now.invariant.1 w.in_ok-note_round.ensures.said in (
             ap (λ (n : Notes). n.last) (sym notes) ∙ w.in_ok-note_round.ensures.last ∙ now.invariant.0,
-            subst (λ (n : Notes). SaidSoFar old n (take (i + 1) all) ours c.if-is_media.config.params.items) notes
-                (subst (λ (f : CodecConfig). SaidSoFar old w.note_round.new.notes (take (i + 1) all) ours f.params.items) config so_far),
+            subst (λ (n : Notes). FatesSaidSoFar old n (take (i + 1) all) ours c.if-is_media.config.params.items) notes
+                (subst (λ (f : CodecConfig). FatesSaidSoFar old w.note_round.new.notes (take (i + 1) all) ours f.params.items) config
+                so_far),
           )
       | else-is_media w ↦
           let none : is_media m.typ ≡ false = search rules in
           let notes : now.notes ≡ c.if-is_media.notes = search rules in
           let config : now.config ≡ c.if-is_media.config = search rules in
-          let so_far = skip_step all i m old now.notes ours now.config.params.items inside is none now.invariant.1 in (
+          let so_far = fate_round_skip_step all i m old now.notes ours now.config.params.items inside is none now.invariant.1 in (
             ap (λ (n : Notes). n.last) (sym notes) ∙ now.invariant.0,
-            subst (λ (n : Notes). SaidSoFar old n (take (i + 1) all) ours c.if-is_media.config.params.items) notes
-                (subst (λ (f : CodecConfig). SaidSoFar old now.notes (take (i + 1) all) ours f.params.items) config so_far),
+            subst (λ (n : Notes). FatesSaidSoFar old n (take (i + 1) all) ours c.if-is_media.config.params.items) notes
+                (subst (λ (f : CodecConfig). FatesSaidSoFar old now.notes (take (i + 1) all) ours f.params.items) config so_far),
           )
     ]

@@ -1,5 +1,5 @@
 use Rattle.show.proofs.run.asked.Goals as goal
-use Rattle.show.specs.Run.{asked_by}
+use Rattle.show.specs.Run.{run_asked_by}
 use Rattle.std.proofs.Common.{◌≡◌, ◌<◌, ◌≤◌, List, [], ◌∷◌, length, get_or, ap, sym, ◌∙◌, arith}
 
 -- a list of one item
@@ -11,4 +11,4 @@ only_item (y ∷ z ∷ zs) x some few is = absurd (omega (arith, few))
 pub returns-in-len1 : goal.returns-in-len1
 returns-in-len1 c =
     let only = only_item c.args.words.now c.word-item.result c.in-len1.len_at_least c.in-len1.len_below c.word-item.is in
-    rw only (c.asked_by.ensures ∙ ap asked_by c.as_str.ensures.value)
+    rw only (c.run_asked_by.ensures ∙ ap run_asked_by c.as_str.ensures.value)

@@ -1,5 +1,5 @@
-use Rattle.show.proofs.Faults.{unwritten}
-use Rattle.show.proofs.RunShows.{described_by}
+use Rattle.show.proofs.Faults.{fault_of_unwritten}
+use Rattle.show.proofs.RunShows.{shown_described_by}
 use Rattle.show.proofs.run.show.Goals as goal
 use Rattle.std.proofs.Common.{Result, Ok, Err, OnErr, inr}
 use Rattle.std.proofs.lemmas.Result.{on_ok_weaker}
@@ -20,10 +20,10 @@ returns-clause-shown g c =
 pub returns-clause-refused : goal.returns-clause-refused
 returns-clause-refused g c =
     let prints = rw c.as_str.ensures.value at c.in_ok-printed.ensures.printed in
-    on_err c.write_whole.result (inr (string_bytes c.in_ok-text.text, c.in_ok-text.ensures.whole, described_by _ _ _ prints))
+    on_err c.write_whole.result (inr (string_bytes c.in_ok-text.text, c.in_ok-text.ensures.whole, shown_described_by _ _ _ prints))
 
 pub returns-clause-fault : goal.returns-clause-fault
 returns-clause-fault g c =
     let prints = rw c.as_str.ensures.value at c.in_ok-printed.ensures.printed in
-    unwritten _ c.write_whole.result c.write_whole.ensures.fault
-    (string_bytes c.in_ok-text.text, c.in_ok-text.ensures.whole, described_by _ _ _ prints)
+    fault_of_unwritten _ c.write_whole.result c.write_whole.ensures.fault
+    (string_bytes c.in_ok-text.text, c.in_ok-text.ensures.whole, shown_described_by _ _ _ prints)

@@ -19,7 +19,7 @@ printed text (Ok found) h c fits is = h ∙ ap candidate_read is ∙ candidate_b
 printed text (Err e) h c fits is = tt
 
 pub returns-clause-read : goal.returns-clause-read
-returns-clause-read c = candidate_found c.args.text.now c.keep.result c.keep.ensures
+returns-clause-read c = candidate_found c.args.text.now c.keep_candidate.result c.keep_candidate.ensures
 
 pub returns-clause-printed : goal.returns-clause-printed
-returns-clause-printed c = printed c.args.text.now c.keep.result c.keep.ensures
+returns-clause-printed c = printed c.args.text.now c.keep_candidate.result c.keep_candidate.ensures

@@ -14,11 +14,11 @@ returns-in-Some c = rw (c.range.ensures.value, c.range_from.ensures.value)
     (cut_first (code c.args.at) c.args.text.now c.in-Some.place
     (rw (← c.character-wanted.ensures.is) (rw c.as_bytes.ensures.value at c.in-Some.ensures)))
 
-pub returns-then-text-le-NEAR : goal.returns-then-text-le-NEAR
-returns-then-text-le-NEAR c = cut_nowhere (code c.args.at) c.args.text.now
-    (rw (← c.character-wanted.ensures.is) ((rw c.as_bytes.ensures.value at c.in-None.ensures) c.if-text-le-NEAR.true))
+pub returns-then-text-le-NEAR_CUT : goal.returns-then-text-le-NEAR_CUT
+returns-then-text-le-NEAR_CUT c = cut_nowhere (code c.args.at) c.args.text.now
+    (rw (← c.character-wanted.ensures.is) ((rw c.as_bytes.ensures.value at c.in-None.ensures) c.if-text-le-NEAR_CUT.true))
 
-pub returns-else-text-le-NEAR : goal.returns-else-text-le-NEAR
-returns-else-text-le-NEAR c = cut_from_split (code c.args.at) c.args.text.now c.split_once.result
+pub returns-else-text-le-NEAR_CUT : goal.returns-else-text-le-NEAR_CUT
+returns-else-text-le-NEAR_CUT c = cut_from_split (code c.args.at) c.args.text.now c.split_once.result
     (rw (← c.character-wanted.ensures.is) c.split_once.ensures.cases)
     (rw (← c.character-wanted.ensures.is) c.character-wanted.ensures.ascii)

@@ -4,8 +4,9 @@ use Rattle.c_parts.proofs.PartsSteps.{◌≡◌, refl, List, [], ◌∷◌, ◌+
 use Rattle.c_parts.proofs.PartsSteps.{WpFn, tables, ‵, raw, ◌⊛◌, ◌$◌, ◌∵◌, !, qed, by, move, keep, use1, fjoin, fpack, feq_i, prop, regoal}
 use Rattle.c_parts.proofs.PartsSteps.{agg, lit, no_more, and_then, returns, enter, alloc_all, pass_all, free_all, look_at, get, sets}
 use Rattle.c_parts.proofs.PartsSteps.{RattleType, Valss, RawPtr, yes, null_ptr, ptr_val, type_at, plain, nothing, Stays, stay_dropped}
-use Rattle.c_parts.proofs.PartsSteps.{walk_of, Goes-dropped, handle_tells, proved_at, leaves, lit<, within, shape, to, and_tt, α, takes}
-use Rattle.c_parts.proofs.PartsSteps.{told, spent}
+use Rattle.c_parts.proofs.PartsSteps.{walk_of, Goes-dropped, handle_tells, proved_at, leaves, lit<, within, shape, to, and_tt, α}
+use Rattle.c_parts.proofs.PartsSteps.{takes_parts}
+use Rattle.c_parts.proofs.PartsSteps.{told_parts, spent_parts}
 use Rattle.c_parts.proofs.config_handle.ConfigHandle.empty.Code as code
 use Rattle.c_parts.proofs.config_handle.ConfigHandle.empty.Statement.{statement}
 use Rattle.c_parts.specs.contracts.config_handle.ConfigHandle as Handle
@@ -26,7 +27,8 @@ empty_spec 𝓤 𝓛 𝓜 𝓡 wired =
     let a = z.0.3.0 in let made : To.Denot = record { ptr = null_ptr; alloc = a; inner = None } in
     qed 𝓛 ((‵ ftrue ⊛ ‵ (fsep ((Heap.the_row).own_val a z.0.4.0) ftrue)) ∷ raw ((c tt z.0.3).requires z.1) ∷ []) ∵
     -- the allocator is one word
-    takes ! $ handle_tells E.al ! a z.0.4.0 (λ hv is fits. regoal ! (λ (vs : List Val). prop (WpFn 𝓤 H 𝓣.C 𝓣.Λ fn (vs ++ []) Post)) is refl
+    takes_parts ! $ handle_tells E.al ! a z.0.4.0
+    (λ hv is fits. regoal ! (λ (vs : List Val). prop (WpFn 𝓤 H 𝓣.C 𝓣.Λ fn (vs ++ []) Post)) is refl
     $
     let w : Val = vstruct (of_list (vint w64 0 ∷ hv ∷ [])) in
     enter ! 𝓣.C 𝓣.Λ fn (hv ∷ []) Post $ alloc_all ! (λ l. pass_all ! refl (fits, tt) $
@@ -39,5 +41,5 @@ empty_spec 𝓤 𝓛 𝓜 𝓡 wired =
     (vint w64 0 ∷ [], (hv ∷ [], tt)) $
     nothing ! $ move ! (1 ∷ 0 ∷ []) $ fjoin ! $ use1 𝓛 (‵ (To.own_val made (w ∷ []))) (id⊢ 𝓤 _) $
     -- [nothing of the allocator; the fact; the handle; no tokens]
-    told 𝓛 (made.inner ≡ None) refl $ spent ! $ returns ! (look_at ! 0 refl) $ free_all ! refl $ keep ! (3 ∷ 0 ∷ 2 ∷ 1 ∷ []) $
+    told_parts 𝓛 (made.inner ≡ None) refl $ spent_parts ! $ returns ! (look_at ! 0 refl) $ free_all ! refl $ keep ! (3 ∷ 0 ∷ 2 ∷ 1 ∷ []) $
     by ! (leaves 𝓛 ended gone c z w made (tt, tt) (tt, tt)))))

@@ -4,7 +4,7 @@ use Rattle.c_parts.proofs.PartsSteps.{‵, raw, ◌⊛◌, at_ret, ◌$◌, ◌�
 use Rattle.c_parts.proofs.PartsSteps.{and_then, of_opd, returns, enter, first, blocks, exec, alloc_all, pass_all, free_all, look_at, get}
 use Rattle.c_parts.proofs.PartsSteps.{sets, lands_last, env, RattleType, no, block_ptr, plain, calls_at_last, Stays, stay_dropped, walk_of}
 use Rattle.c_parts.proofs.PartsSteps.{Goes-blank, after, fm, proved_at, leaves, D, R, P, B, args, word, box_typed, alive, boxed}
-use Rattle.c_parts.proofs.PartsSteps.{asked_triple, takes, begins, one_box, box_apart, answer, spent, field_of}
+use Rattle.c_parts.proofs.PartsSteps.{asked_parts_triple, takes_parts, begins, one_box, box_apart, answer, spent_parts, field_of_parts}
 use Rattle.c_parts.proofs.parts.Parts.into_box.Code as code
 use Rattle.c_parts.proofs.parts.Parts.into_box.Statement.{statement}
 use Rattle.c_parts.specs.contracts.parts.Parts as parts
@@ -27,14 +27,15 @@ into_box_spec 𝓤 𝓛 𝓜 𝓡 wired X Z LX LZ g d dd allocator freed =
     let lasting = raw (fact 𝓤 (z.0.0.0 ⊑ X.lives)) ⊛ raw (fact 𝓤 (z.0.0.1.0 ⊑ Z.lives)) ⊛ ‵ ftrue in
     qed 𝓛 ((raw (alive 𝓛 S.signature z.0.0 z.0.1) ⊛ ‵ (fsep ((B E).own_val held z.0.4.0) ftrue)) ∷ lasting ∷ []) ∵
     -- the parts are one word, an allocator and a pointer
-    takes ! $ begins E held z.0.4.0 (λ vs. prop (WpFn 𝓤 H 𝓣.C 𝓣.Λ fn (vs ++ []) Post)) ! refl (λ b o hv at fits. box_apart E held b o hv ! $
-    let k = asked_triple 𝓛 T e in let w = word E hv b o in let y : k.Ghost =
+    takes_parts ! $ begins E held z.0.4.0 (λ vs. prop (WpFn 𝓤 H 𝓣.C 𝓣.Λ fn (vs ++ []) Post)) ! refl
+    (λ b o hv at fits. box_apart E held b o hv ! $
+    let k = asked_parts_triple 𝓛 T e in let w = word E hv b o in let y : k.Ghost =
     ((z.0.0, z.0.1, tt, (held.alloc, (block_ptr b o, tt)), (hv ∷ [], (vptr b o ∷ [], tt))), held.value) in
     -- [the two lifetimes; nothing; the arguments; what lies there; the tokens], and of it what `from_raw` requires
     move ! (3 ∷ []) $ split3 ! $ keep ! (0 ∷ 1 ∷ 4 ∷ 3 ∷ 5 ∷ []) $ group ! 3 $ move ! (2 ∷ 1 ∷ 0 ∷ []) $ join ! $ join !
     $ use1 𝓛 (raw (k.pre y)) (id⊢ 𝓤 _) $
     enter ! 𝓣.C 𝓣.Λ fn (w ∷ []) Post $ alloc_all ! (λ l. pass_all ! refl (box_typed E hv b o fits, tt) $
-    sets ! (field_of 0 ! refl refl refl) refl (tt, tt) $ sets ! (field_of 1 ! refl refl refl) refl fits $
+    sets ! (field_of_parts 0 ! refl refl refl) refl (tt, tt) $ sets ! (field_of_parts 1 ! refl refl refl) refl fits $
     first ! $ blocks ! $ sets ! (of_opd ! (get ! refl)) refl fits $
     calls_at_last ! (fm 𝓛 𝓜 𝓡) k (met 𝓤 𝓛 𝓜 𝓡 (code.calls-std_alloc::boxed::Box::from_raw 𝓡.env wired) X Z LX LZ g d dd allocator freed) y
     (and_then ! (get ! refl) (and_then ! (get ! refl) (no_more !))) (λ u.
@@ -45,5 +46,5 @@ into_box_spec 𝓤 𝓛 𝓜 𝓡 wired X Z LX LZ g d dd allocator freed =
     lands_last ! refl typed $ exec ! 𝓣.C 𝓣.Λ (env fn.locals l) (after 3 fn.body) (at_ret (env fn.locals l) Post)
     $ sets ! (of_opd ! (get ! refl)) refl typed $
     -- [nothing of the parts; the box; its value; the tokens]
-    spent ! $ returns ! (look_at ! 0 refl) $ free_all ! refl $ keep ! (3 ∷ 0 ∷ 1 ∷ 2 ∷ [])
+    spent_parts ! $ returns ! (look_at ! 0 refl) $ free_all ! refl $ keep ! (3 ∷ 0 ∷ 1 ∷ 2 ∷ [])
     $ by ! (leaves 𝓛 S gone c z u r ((tt, (tt, tt)), tt) (tt, tt))))))))

@@ -3,8 +3,10 @@ use Rattle.c_parts.proofs.PartsSteps.{◌≡◌, refl, ap, [], ◌∷◌, ◌++�
 use Rattle.c_parts.proofs.PartsSteps.{tables, ‵, raw, ◌⊛◌, ◌$◌, ◌∵◌, !, qed, by, keep, use1, join, prop, agg, no_more, and_then, of_opd}
 use Rattle.c_parts.proofs.PartsSteps.{returns, enter, alloc_all, pass_all, free_all, look_at, get, sets, lands_as, no, bounded, plain, only}
 use Rattle.c_parts.proofs.PartsSteps.{calls_at, Stays, stay_dropped, walk_of, Goes-blank, fm, proved_at, leaves, B, D, word, box_typed}
-use Rattle.c_parts.proofs.PartsSteps.{box_in, alive, boxed, asked_triple, takes, hands, begins, box_in_one, box_both, answer, told, spent}
-use Rattle.c_parts.proofs.PartsSteps.{field_of}
+use Rattle.c_parts.proofs.PartsSteps.{box_in, alive, boxed, asked_parts_triple, takes_parts, hands_parts, begins, box_in_one, box_both}
+use Rattle.c_parts.proofs.PartsSteps.{answer}
+use Rattle.c_parts.proofs.PartsSteps.{told_parts, spent_parts}
+use Rattle.c_parts.proofs.PartsSteps.{field_of_parts}
 use Rattle.c_parts.proofs.parts.Parts.of.Code as code
 use Rattle.c_parts.proofs.parts.Parts.of.Statement.{statement}
 use Rattle.c_parts.specs.contracts.parts.Parts.of.{ended, clauses}
@@ -24,9 +26,9 @@ of_spec 𝓤 𝓛 𝓜 𝓡 wired X Z LX LZ g d dd dx allocator freed dropped =
     let v : D E = z.0.3.0 in let Post : Val → SProp 𝓤 = (walk_of 𝓛 S gone c).post z in
     qed 𝓛 ((raw (alive 𝓛 S.signature z.0.0 z.0.1) ⊛ ‵ (fsep ((B E).own_val v z.0.4.0) ftrue)) ∷ raw ((c z.0.0 z.0.3).requires z.1) ∷ []) ∵
     -- the box is one word, which is handed on
-    takes ! $ begins E v z.0.4.0 (λ vs. prop (WpFn 𝓤 H 𝓣.C 𝓣.Λ fn (vs ++ []) Post)) ! refl (λ b o hv at fits.
-    let k = asked_triple 𝓛 T e in let w = word E hv b o in let y : k.Ghost = ((z.0.0, z.0.1, tt, (v, tt), (w ∷ [], tt)), tt) in
-    box_in E ! v b o v.value at refl $ hands ! $ join ! $ use1 𝓛 (raw (k.pre y)) (id⊢ 𝓤 _) $
+    takes_parts ! $ begins E v z.0.4.0 (λ vs. prop (WpFn 𝓤 H 𝓣.C 𝓣.Λ fn (vs ++ []) Post)) ! refl (λ b o hv at fits.
+    let k = asked_parts_triple 𝓛 T e in let w = word E hv b o in let y : k.Ghost = ((z.0.0, z.0.1, tt, (v, tt), (w ∷ [], tt)), tt) in
+    box_in E ! v b o v.value at refl $ hands_parts ! $ join ! $ use1 𝓛 (raw (k.pre y)) (id⊢ 𝓤 _) $
     enter ! 𝓣.C 𝓣.Λ fn (w ∷ []) Post
     $ alloc_all ! (λ l. pass_all ! refl (box_typed E hv b o fits, tt) $ sets ! (of_opd ! (get ! refl)) refl (box_typed E hv b o fits) $
     calls_at ! (fm 𝓛 𝓜 𝓡) k (met 𝓤 𝓛 𝓜 𝓡 (code.calls-std_alloc::boxed::Box::into_raw_with_allocator 𝓡.env wired) X Z LX LZ g d dd dx
@@ -36,8 +38,8 @@ of_spec 𝓤 𝓛 𝓜 𝓡 wired X Z LX LZ g d dd dx allocator freed dropped =
     let made : D E = record { ptr = r.0; alloc = r.1; value = v.value } in box_in_one E made (u ∷ []) ! (λ b' o' hv' is fits'.
     let typed = box_typed E hv' b' o' fits' in lands_as ! (ap only is) refl typed $
     -- its fields are moved
-    sets ! (field_of 0 ! refl refl refl) refl (tt, tt) $ sets ! (field_of 1 ! refl refl refl) refl fits' $
+    sets ! (field_of_parts 0 ! refl refl refl) refl (tt, tt) $ sets ! (field_of_parts 1 ! refl refl refl) refl fits' $
     sets ! (of_opd ! (get ! refl)) refl fits' $ sets ! (agg ! (and_then ! (get ! refl) (and_then ! (get ! refl) (no_more !)))) refl typed $
     -- [nothing of the box; the value is the box's; the parts; the tokens]
-    told 𝓛 (v.value ≡ v.value) refl $ spent ! $ returns ! (look_at ! 0 refl) $ free_all ! refl $ keep ! (3 ∷ 0 ∷ 2 ∷ 1 ∷ []) $
+    told_parts 𝓛 (v.value ≡ v.value) refl $ spent_parts ! $ returns ! (look_at ! 0 refl) $ free_all ! refl $ keep ! (3 ∷ 0 ∷ 2 ∷ 1 ∷ []) $
     by ! (leaves 𝓛 S gone c z (word E hv' b' o') (record { ptr = r.0; alloc = r.1; value = v.value }) ((tt, (tt, tt)), tt) (tt, tt))))))))

@@ -1,11 +1,12 @@
-use Rattle.exchange.proofs.answer.RowLaws.{all_say, all_stand, answers_once}
+use Rattle.exchange.proofs.answer.RowLaws.{answered_rows_say, answered_rows_stand, answers_once}
 use Rattle.exchange.proofs.answer.RowTypes.{answer_apart}
 use Rattle.exchange.proofs.answer.RowsPlain.{all_plain}
 use Rattle.exchange.proofs.answer.rows.rows_for.Goals as goal
 
 pub returns-clause-offered : goal.returns-clause-offered
 returns-clause-offered c =
-    all_say c.args.config.now.params.items c.args.section.now c.in_ok-rows.rows.items (rw c.params.ensures at c.in_ok-rows.ensures)
+    answered_rows_say c.args.config.now.params.items c.args.section.now c.in_ok-rows.rows.items
+    (rw c.params.ensures at c.in_ok-rows.ensures)
 
 pub returns-clause-distinct : goal.returns-clause-distinct
 returns-clause-distinct c =
@@ -13,7 +14,8 @@ returns-clause-distinct c =
 
 pub returns-clause-complete : goal.returns-clause-complete
 returns-clause-complete c =
-    all_stand c.args.config.now.params.items c.args.section.now c.in_ok-rows.rows.items (rw c.params.ensures at c.in_ok-rows.ensures)
+    answered_rows_stand c.args.config.now.params.items c.args.section.now c.in_ok-rows.rows.items
+    (rw c.params.ensures at c.in_ok-rows.ensures)
 
 pub returns-clause-apart : goal.returns-clause-apart
 returns-clause-apart c =

@@ -1,18 +1,18 @@
 use Rattle.exchange.proofs.Common.{arith, ◌≤◌, ◌∙◌, length, sym, take, true≢false, take_all, All-more}
-use Rattle.exchange.proofs.offer.FitsLaws.{first_broken, rules_kept}
+use Rattle.exchange.proofs.offer.FitsLaws.{first_rule_broken, rules_kept}
 use Rattle.exchange.proofs.offer.fits_section.broken_rule.Goals as goal
 use Rattle.exchange.specs.declared.offer.rule.Rule.TheVariants.{Sections}
-use Rattle.exchange.specs.offer.Fits.{Keeps}
+use Rattle.exchange.specs.offer.Fits.{KeepsRule}
 
 pub returns-then-not-branch : goal.returns-then-not-branch
 returns-then-not-branch c =
-    first_broken c.args.ours.now.params.items c.args.answer.now c.args.offered.now c.args.answered.now
+    first_rule_broken c.args.ours.now.params.items c.args.answer.now c.args.offered.now c.args.answered.now
     c.rules-rule-items.result.now c.rules-rule-items.ensures c.loop-rule.rule-index
     c.loop-rule-test.true c.loop-rule.invariant (λ kept. true≢false (sym (c.in_ok-keeps.ensures.1 kept) ∙ c.if-not-branch.true))
 
 pub loop-rule-preserved : goal.loop-rule-preserved
 loop-rule-preserved c =
-    All-more (Keeps c.args.ours.now.params.items c.args.answer.now c.args.offered.now c.args.answered.now) c.rules-rule-items.result.now
+    All-more (KeepsRule c.args.ours.now.params.items c.args.answer.now c.args.offered.now c.args.answered.now) c.rules-rule-items.result.now
     c.loop-rule.rule-index Sections
     c.loop-rule-test.true c.loop-rule.invariant (c.in_ok-keeps.ensures.0 c.if-not-branch.false)
 

@@ -1,5 +1,5 @@
 use Rattle.str0m_sdp.proofs.Common.{◌==◌, take, sym, refl, ◌∙◌, list_any, get_or-replicate, length-set}
-use Rattle.str0m_sdp.proofs.section.TypeTablesMarks.{any_more, set_marked}
+use Rattle.str0m_sdp.proofs.section.TypeTablesMarks.{mark_any_more, set_marked}
 use Rattle.str0m_sdp.proofs.section.mappings.mapped_types.Goals as goal
 
 pub loop-pt-init : goal.loop-pt-init
@@ -14,5 +14,5 @@ loop-pt-preserved c =
     rw c.place.ensures.is (
       length-set c.loop-pt.types item.0 _ ∙ c.loop-pt.invariant.0,
       λ pt lt. set_marked c.loop-pt.types item.0 pt (list_any (λ m. m.0 == pt) (take i rows)) row (c.loop-pt.invariant.1 pt lt)
-          ∙ sym (any_more (λ m. m.0 == pt) rows i item c.loop-pt-test.true c.loop-pt-item.is),
+          ∙ sym (mark_any_more (λ m. m.0 == pt) rows i item c.loop-pt-test.true c.loop-pt-item.is),
     )

@@ -1,5 +1,5 @@
 use Rattle.str0m_sdp.proofs.Common.{refl, ◌∙◌, get_or-replicate, length-set}
-use Rattle.str0m_sdp.proofs.section.TypeTableLaws.{count_same, count_more}
+use Rattle.str0m_sdp.proofs.section.TypeTableLaws.{table_maps_count_same, table_maps_count_more}
 use Rattle.str0m_sdp.proofs.section.type_tables.count_maps.Goals as goal
 
 pub loop-attr-init : goal.loop-attr-init
@@ -16,13 +16,15 @@ loop-attr-preserved c =
           let variant = rw (← w.place.ensures.is) at w.in-RtpMap.is in
           rw w.counts-is (
             length-set c.loop-attr.counts n _ ∙ c.loop-attr.invariant.0,
-            λ pt lt. count_more attrs c.loop-attr.counts i n w.in-RtpMap.value c.attr-item.result c.loop-attr-test.true row c.attr-item.is
+            λ pt lt. table_maps_count_more attrs c.loop-attr.counts i n w.in-RtpMap.value c.attr-item.result c.loop-attr-test.true row
+                c.attr-item.is
                 variant pt (c.loop-attr.invariant.1 pt lt),
           )
       | goal.in_default w ↦
           rw w.counts-is (
             c.loop-attr.invariant.0,
-            λ pt lt. count_same attrs c.loop-attr.counts i c.attr-item.result c.loop-attr-test.true c.attr-item.is w.in_default.not-RtpMap
+            λ pt lt. table_maps_count_same attrs c.loop-attr.counts i c.attr-item.result c.loop-attr-test.true c.attr-item.is
+                w.in_default.not-RtpMap
                 pt (c.loop-attr.invariant.1 pt lt),
           )
     ]

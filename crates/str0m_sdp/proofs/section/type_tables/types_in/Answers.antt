@@ -1,5 +1,5 @@
 use Rattle.str0m_sdp.proofs.Common.{◌==◌, ℕ, List, take, ap, sym, refl, ◌∙◌, list_any, get_or-replicate, length-set, take_all}
-use Rattle.str0m_sdp.proofs.section.TypeTablesMarks.{any_more, set_marked}
+use Rattle.str0m_sdp.proofs.section.TypeTablesMarks.{mark_any_more, set_marked}
 use Rattle.str0m_sdp.proofs.section.type_tables.types_in.Goals as goal
 
 pub loop-pt-init : goal.loop-pt-init
@@ -14,7 +14,7 @@ loop-pt-preserved c =
     rw c.place.ensures.is (
       length-set c.loop-pt.types n _ ∙ c.loop-pt.invariant.0,
       λ pt lt. set_marked c.loop-pt.types n pt (list_any (λ m. m == pt) (take i pts)) row (c.loop-pt.invariant.1 pt lt)
-          ∙ sym (any_more (λ m. m == pt) pts i n c.loop-pt-test.true c.pt-item.is),
+          ∙ sym (mark_any_more (λ m. m == pt) pts i n c.loop-pt-test.true c.pt-item.is),
     )
 
 pub returns : goal.returns

@@ -2,7 +2,7 @@ use Rattle.str0m_sdp.proofs.Common.{Some, ap, filter_map, sym, take, ◌∙◌, 
 use Rattle.str0m_sdp.proofs.section.SectionAccessorsLists.{filter_map_more, filter_map_same}
 use Rattle.str0m_sdp.proofs.session.PreferredFingerprintLaws.{preferred_more}
 use Rattle.str0m_sdp.proofs.session.preferred_fingerprint.preferred.Goals as goal
-use Rattle.str0m_sdp.specs.session.PreferredFingerprint.{better_of, preferred}
+use Rattle.str0m_sdp.specs.session.PreferredFingerprint.{better_fingerprint_of, preferred}
 
 pub loop-attr-preserved : goal.loop-attr-preserved
 loop-attr-preserved g c =
@@ -13,8 +13,8 @@ loop-attr-preserved g c =
       | goal.in-Some w ↦
           let print = w.in-Some.print.now in
           ap option_copied w.best-is
-          ∙ ap Some w.better_of.ensures
-          ∙ ap (λ best. Some (better_of best print)) c.loop-attr.invariant
+          ∙ ap Some w.better_fingerprint_of.ensures
+          ∙ ap (λ best. Some (better_fingerprint_of best print)) c.loop-attr.invariant
           ∙ sym (preferred_more (filter_map held (take i attrs)) print)
           ∙ ap preferred (sym (filter_map_more held attrs i c.attr-item.result print c.loop-attr-test.true c.attr-item.is
           w.in-Some.ensures))

@@ -1,5 +1,5 @@
 use Rattle.str0m_signal.proofs.Common.{IfOk-weaker}
-use Rattle.str0m_signal.proofs.back.WritableLaws.{back_beside, lost_beside}
+use Rattle.str0m_signal.proofs.back.WritableLaws.{back_beside, writable_lost_beside}
 use Rattle.str0m_signal.proofs.back.writable.session_comes_back.Goals as goal
 
 pub returns : goal.returns
@@ -10,5 +10,5 @@ returns c =
           rw w.result-is (IfOk-weaker w.bandwidth_comes_back.result _ _ (λ answer. back_beside _ only) w.bandwidth_comes_back.ensures)
       | goal.in-None w ↦
           let none = rw (c.as_slice.ensures, w.in-None.is) at c.in_ok-session_back.ensures in
-          rw w.result-is (lost_beside none)
+          rw w.result-is (writable_lost_beside none)
     ]

@@ -1,5 +1,5 @@
 use Rattle.str0m_signal.proofs.Common.{rules, sym, ◌∙◌, code}
-use Rattle.str0m_signal.proofs.line.PartLaws.{cut_shorter, one_part, bad_part, last_part}
+use Rattle.str0m_signal.proofs.line.PartLaws.{part_cut_shorter, one_part, bad_part, last_part}
 use Rattle.str0m_signal.proofs.line.parts.are_parts.Goals as goal
 
 pub returns-then-not-is_part : goal.returns-then-not-is_part
@@ -8,7 +8,7 @@ returns-then-not-is_part g c = sym
     (sym c.is_part.ensures ∙ c.if-not-is_part.true)) ∙ c.loop-part.invariant.1
 
 pub loop-part-smaller : goal.loop-part-smaller
-loop-part-smaller g c = cut_shorter (code c.args.at) c.loop-part.rest.now c.in-Some.part.now c.in-Some.more.now (sym c.in-Some.ensures)
+loop-part-smaller g c = part_cut_shorter (code c.args.at) c.loop-part.rest.now c.in-Some.part.now c.in-Some.more.now (sym c.in-Some.ensures)
 
 pub loop-part-preserved : goal.loop-part-preserved
 loop-part-preserved g c = (

@@ -1,5 +1,5 @@
 use Rattle.str0m_signal.proofs.Common.{sym}
-use Rattle.str0m_signal.proofs.line.LinesChainLaws.{taken_none}
+use Rattle.str0m_signal.proofs.line.LinesChainLaws.{chain_taken_none}
 use Rattle.str0m_signal.proofs.line.LinesLaws.{line_found}
 use Rattle.str0m_signal.proofs.session.SectionLaws.{bandwidth_both}
 use Rattle.str0m_signal.proofs.session.bandwidth.take_bandwidth.Goals as goal
@@ -11,4 +11,4 @@ returns-in-Some c =
     line_found bandwidth_both (lines_of c.args.text.now) c.in-Some.bandwidth (lines_of c.in-Some.rest.now) (sym read)
 
 pub returns-in-None : goal.returns-in-None
-returns-in-None c = taken_none bandwidth_both c.args.text.now (rw c.in-None.is at c.in_ok-bandwidth.ensures)
+returns-in-None c = chain_taken_none bandwidth_both c.args.text.now (rw c.in-None.is at c.in_ok-bandwidth.ensures)

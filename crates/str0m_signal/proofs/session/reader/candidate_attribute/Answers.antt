@@ -1,7 +1,7 @@
 use Rattle.str0m_signal.proofs.Common.{candidate_both}
 use Rattle.str0m_signal.proofs.line.LinesLaws.{attribute_both}
 use Rattle.str0m_signal.proofs.session.ReaderAnswerLaws.{first_line, first_line_one}
-use Rattle.str0m_signal.proofs.session.ReaderRestLaws.{one_leaves, left_from_line}
+use Rattle.str0m_signal.proofs.session.ReaderRestLaws.{rest_one_leaves, left_from_line}
 use Rattle.str0m_signal.proofs.session.reader.candidate_attribute.Goals as goal
 use Rattle.str0m_signal.specs.form.CandidateLine.{IsCandidateLine}
 use Rattle.str0m_signal.specs.line.Lines.{OneLine}
@@ -13,5 +13,5 @@ pub returns-clause-one : goal.returns-clause-one
 returns-clause-one c = first_line_one (attribute_both candidate_both) c.args.text.now
 
 pub returns-clause-rest : goal.returns-clause-rest
-returns-clause-rest c = left_from_line (OneLine IsCandidateLine) (one_leaves IsCandidateLine) c.args.text.now c.first_attribute.result
+returns-clause-rest c = left_from_line (OneLine IsCandidateLine) (rest_one_leaves IsCandidateLine) c.args.text.now c.first_attribute.result
     (returns-clause-read c)

@@ -1,6 +1,6 @@
 use Rattle.str0m_signal.proofs.form.SessionAttributeAgain.{session_line_both}
 use Rattle.str0m_signal.proofs.session.ReaderAnswerLaws.{first_line, first_line_one}
-use Rattle.str0m_signal.proofs.session.ReaderRestLaws.{one_leaves, left_from_line}
+use Rattle.str0m_signal.proofs.session.ReaderRestLaws.{rest_one_leaves, left_from_line}
 use Rattle.str0m_signal.proofs.session.reader.session_attribute_line.Goals as goal
 use Rattle.str0m_signal.specs.form.SessionAttribute.{IsSessionLine}
 use Rattle.str0m_signal.specs.line.Lines.{OneLine}
@@ -12,5 +12,5 @@ pub returns-clause-one : goal.returns-clause-one
 returns-clause-one c = first_line_one session_line_both c.args.text.now
 
 pub returns-clause-rest : goal.returns-clause-rest
-returns-clause-rest c = left_from_line (OneLine IsSessionLine) (one_leaves IsSessionLine) c.args.text.now c.first_attribute.result
+returns-clause-rest c = left_from_line (OneLine IsSessionLine) (rest_one_leaves IsSessionLine) c.args.text.now c.first_attribute.result
     (returns-clause-read c)

@@ -1,5 +1,5 @@
 use Rattle.str0m_signal.proofs.Common.{sym}
-use Rattle.str0m_signal.proofs.line.LinesChainLaws.{taken_none}
+use Rattle.str0m_signal.proofs.line.LinesChainLaws.{chain_taken_none}
 use Rattle.str0m_signal.proofs.line.LinesLaws.{line_found}
 use Rattle.str0m_signal.proofs.session.SectionLaws.{head_both}
 use Rattle.str0m_signal.proofs.session.section.section.Goals as goal
@@ -7,7 +7,7 @@ use Rattle.str0m_signal.specs.line.Heads.{media_head}
 use Rattle.str0m_signal.specs.line.LinesReading.{lines_of}
 
 pub returns-in_default : goal.returns-in_default
-returns-in_default c = (taken_none head_both c.args.text.now (rw c.in_default.is at c.in_ok-head.ensures)).1
+returns-in_default c = (chain_taken_none head_both c.args.text.now (rw c.in_default.is at c.in_ok-head.ensures)).1
 
 pub returns : goal.returns
 returns c = record {

@@ -1,5 +1,5 @@
 use Rattle.str0m_values.proofs.Common.{◌≡◌, ◌<◌, ℕ, List, Option, Some, None, refl, sym, ◌∙◌, ap, arith, IfSome, ◌↔◌, IsSome}
-use Rattle.str0m_values.proofs.CutsBothWays.{some_is}
+use Rattle.str0m_values.proofs.CutsBothWays.{cuts_some_is}
 use Rattle.str0m_values.proofs.CutsNumLaws.{num_found, num_reads}
 use Rattle.str0m_values.proofs.frequency.Frequency.from_str.Goals as goal
 use Rattle.str0m_values.specs.Cuts.{num, IsTheOnly}
@@ -11,7 +11,7 @@ no_rate text e = record { found = tt; only = λ n is. let reads = num_reads 4294
 
 -- a rate is the number read
 same_rate : (text : List ℕ) (n m : ℕ) → Some n ≡ num 4294967295 text → IsNum 4294967295 text m → n ≡ m
-same_rate text n m e is = some_is n m (e ∙ num_reads 4294967295 text m is)
+same_rate text n m e is = cuts_some_is n m (e ∙ num_reads 4294967295 text m is)
 
 rate_read : (text : List ℕ) (n : ℕ) (r : Option ℕ) → Some n ≡ num 4294967295 text → IfSome r (λ f. f ≡ n) → (IsSome r ↔ (0 < n))
     → IsTheOnly (IsRate text) r

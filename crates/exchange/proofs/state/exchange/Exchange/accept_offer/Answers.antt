@@ -1,11 +1,11 @@
-use Rattle.exchange.proofs.Common.{rules, ◌≡◌, Some, ap, length, subst, sym, ◌∙◌, AllDistinct, LockedStay, types, Sdp, versioned_text}
-use Rattle.exchange.proofs.Common.{AreDistinct, section_mids}
-use Rattle.exchange.proofs.state.ExchangeFollowLaws.{follows_answer, none_open, sound_done}
+use Rattle.exchange.proofs.Common.{rules, ◌≡◌, Some, ap, length, subst, sym, ◌∙◌, AllTypesDistinct, LockedStay, types, Sdp, versioned_text}
+use Rattle.exchange.proofs.Common.{AreMidsDistinct, section_mids}
+use Rattle.exchange.proofs.state.ExchangeFollowLaws.{follows_answer, follows_none_open, exchange_sound_done}
 use Rattle.exchange.proofs.state.exchange.Exchange.accept_offer.Goals as goal
 use Rattle.exchange.specs.declared.answer.Answer.{Answer}
 use Rattle.exchange.specs.declared.state.exchange.Exchange.{Exchange}
 use Rattle.exchange.specs.declared.state.signaling_state.SignalingState.TheVariants.{Stable}
-use Rattle.exchange.specs.offer.Names.{grown}
+use Rattle.exchange.specs.offer.Names.{grown_names}
 use Rattle.exchange.specs.state.ReadBack.{IsReadBack}
 use Rattle.exchange.specs.state.State.{state_of}
 
@@ -21,19 +21,20 @@ returns-clause-stay c =
 
 pub returns-clause-distinct : goal.returns-clause-distinct
 returns-clause-distinct c = λ distinct.
-    subst (λ (after : Exchange). AllDistinct (types after.config.params.items)) (sym c.settle.ensures)
+    subst (λ (after : Exchange). AllTypesDistinct (types after.config.params.items)) (sym c.settle.ensures)
     (c.in_ok-made.ensures.answered.distinct distinct)
 
 pub returns-clause-sound : goal.returns-clause-sound
 returns-clause-sound c = λ sound.
     let stable : state_of c.args.self.now ≡ Stable = search rules in
-    let named : c.in_ok-made.made.names ≡ grown c.args.self.now.names c.in_ok-made.made.local.media_lines =
+    let named : c.in_ok-made.made.names ≡ grown_names c.args.self.now.names c.in_ok-made.made.local.media_lines =
     cc (c.in_ok-made.ensures.names, c.in_ok-made.ensures.same) in
     let same : section_mids c.in_ok-made.made.local.media_lines ≡ section_mids c.in_ok-made.made.remote.media_lines =
     ap (λ (sdp : Sdp). section_mids sdp.media_lines) c.in_ok-made.ensures.same ∙ c.in_ok-made.ensures.answered.mids in
-    sound_done _ c.args.self.now.names c.in_ok-made.made.local (subst AreDistinct (sym same) c.in_ok-made.ensures.answered.different)
+    exchange_sound_done _ c.args.self.now.names c.in_ok-made.made.local
+    (subst AreMidsDistinct (sym same) c.in_ok-made.ensures.answered.different)
     (ap (λ (after : Exchange). after.local) c.settle.ensures) (ap (λ (after : Exchange). after.names) c.settle.ensures ∙ named)
-    (ap (λ (after : Exchange). after.pending) c.settle.ensures ∙ none_open c.args.self.now.pending stable)
+    (ap (λ (after : Exchange). after.pending) c.settle.ensures ∙ follows_none_open c.args.self.now.pending stable)
 
 pub returns-clause-follows : goal.returns-clause-follows
 returns-clause-follows c =

@@ -1,12 +1,12 @@
 use Rattle.exchange.proofs.Common.{arith, common_steps}
-use Rattle.exchange.proofs.answer.AnswerLaws.{unprintable}
+use Rattle.exchange.proofs.answer.AnswerLaws.{answer_unprintable}
 use Rattle.exchange.proofs.state.exchange.Exchange.answering.Goals as goal
 use Rattle.exchange.specs.state.Exchange.{RefusesOffer}
 
 pub returns-in_err-local-clause-refused : goal.returns-in_err-local-clause-refused
 returns-in_err-local-clause-refused c =
     let told : RefusesOffer c.args.self.now c.args.offer.now c.in_err-local.field-0.0 =
-    unprintable c.args.self.now c.args.offer.now c.in_ok-remote.remote c.in_ok-config.config.params.items c.in_err-local.field-0.0
+    answer_unprintable c.args.self.now c.args.offer.now c.in_ok-remote.remote c.in_ok-config.config.params.items c.in_err-local.field-0.0
     c.in_ok-remote.ensures.read c.in_ok-config.ensures.rounds c.in_err-local.ensures.refused in
     grind (arith, common_steps, told)
 

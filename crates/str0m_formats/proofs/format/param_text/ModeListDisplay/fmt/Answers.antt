@@ -1,20 +1,20 @@
 use Rattle.str0m_formats.proofs.Common.{rules, arith, has_written_append, has_written_of_eq}
-use Rattle.str0m_formats.proofs.format.ParamTextListed.{has_some, listed, listed_push, has_some_push}
-use Rattle.str0m_formats.proofs.format.ParamTextPrinted.{modes_below, modes_push, modes_pass, shifted_one}
+use Rattle.str0m_formats.proofs.format.ParamTextListed.{param_list_has_some, listed, listed_push, param_list_has_some_push}
+use Rattle.str0m_formats.proofs.format.ParamTextPrinted.{modes_below, modes_push, modes_pass, param_mode_shifted}
 use Rattle.str0m_formats.proofs.format.param_text.ModeListDisplay.fmt.Goals as goal
 use Rattle.str0m_formats.proofs.format.param_text.ModeListDisplay.fmt.Goals.{else-mask-mode-ne0}
 
 pub loop-mode-init : goal.loop-mode-init
-unfolding has_some listed
+unfolding param_list_has_some listed
 loop-mode-init g c = search rules
 
 pub loop-mode-preserved : goal.loop-mode-preserved
 loop-mode-preserved g c = grind (
   arith,
-  shifted_one,
+  param_mode_shifted,
   modes_push,
-  has_some,
-  has_some_push,
+  param_list_has_some,
+  param_list_has_some_push,
   modes_below,
   has_written_of_eq,
   listed,

@@ -1,9 +1,9 @@
 use Rattle.std.proofs.lemmas.Bool.{OnTrue_from, OnFalse_from}
-use Rattle.str0m_formats.proofs.round.ClaimedSets.{claimed_with, claimed_without, answer_small}
+use Rattle.str0m_formats.proofs.round.ClaimedSets.{claimed_with, claimed_without, claimed_answer_small}
 use Rattle.str0m_formats.proofs.round.claims.Claims.claim.Goals as goal
 
 pub returns-clause-answer : goal.returns-clause-answer
-returns-clause-answer g c = answer_small _ _ c.args.pt c.requires c.claim_once.ensures.answer
+returns-clause-answer g c = claimed_answer_small _ _ c.args.pt c.requires c.claim_once.ensures.answer
 
 pub returns-clause-yes : goal.returns-clause-yes
 returns-clause-yes g c = OnTrue_from _ _

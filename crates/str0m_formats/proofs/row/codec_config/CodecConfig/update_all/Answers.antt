@@ -1,10 +1,10 @@
 use Rattle.str0m_formats.proofs.Common.{arith, take_all, length-set, on_err_weaker}
 use Rattle.str0m_formats.proofs.round.RoundsRunLaws.{run_promised}
-use Rattle.str0m_formats.proofs.round.RoundsRunSteps.{ran_from, reached_step}
+use Rattle.str0m_formats.proofs.round.RoundsRunSteps.{rounds_ran_from, run_reached_step}
 use Rattle.str0m_formats.proofs.row.codec_config.CodecConfig.update_all.Goals as goal
 
 pub loop-i-preserved : goal.loop-i-preserved
-loop-i-preserved c = grind (arith, ran_from, on_err_weaker, reached_step, length-set)
+loop-i-preserved c = grind (arith, rounds_ran_from, on_err_weaker, run_reached_step, length-set)
 
 pub returns-clause-else_same : goal.returns-clause-else_same
 returns-clause-else_same c = c.loop-i.invariant.2

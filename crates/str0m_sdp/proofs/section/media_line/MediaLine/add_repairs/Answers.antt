@@ -1,7 +1,7 @@
 use Rattle.str0m_sdp.proofs.Common.{ap, subst, sym, ◌∙◌, filter_map}
 use Rattle.str0m_sdp.proofs.section.SsrcInfoLaws.{put_repair, pass_repair}
 use Rattle.str0m_sdp.proofs.section.media_line.MediaLine.add_repairs.Goals as goal
-use Rattle.str0m_sdp.specs.section.Sources.{ArePlaced, entries}
+use Rattle.str0m_sdp.specs.section.Sources.{AreSourcesPlaced, entries}
 use Rattle.str0m_sdp.specs.section.SsrcInfo.{source_of}
 
 pub loop-line-preserved : goal.loop-line-preserved
@@ -13,12 +13,12 @@ loop-line-preserved c =
         put_repair (filter_map source_of lines) lines c.loop-line.line-index c.line-item.result es (entries c.match-repair_pair.sources)
             c.loop-line-test.true c.line-item.is c.loop-line.invariant.0
             _ (sym w.in-Some.ensures) (ap entries w.sources-is ∙ w.in_ok-add_repair.ensures.entries),
-        subst ArePlaced (sym w.sources-is) w.in_ok-add_repair.ensures.placed,
+        subst AreSourcesPlaced (sym w.sources-is) w.in_ok-add_repair.ensures.placed,
       )
       | goal.in_default w ↦ (
         pass_repair (filter_map source_of lines) lines c.loop-line.line-index c.line-item.result es (entries c.match-repair_pair.sources)
             c.loop-line-test.true c.line-item.is c.loop-line.invariant.0
             (sym w.in_default.ensures) (ap entries w.sources-is),
-        subst ArePlaced (sym w.sources-is) c.loop-line.invariant.1,
+        subst AreSourcesPlaced (sym w.sources-is) c.loop-line.invariant.1,
       )
     ]

@@ -1,12 +1,12 @@
 use Rattle.str0m_sdp.proofs.Common.{◌≡◌, ◌==◌, ◌++◌, ℕ, List, take, filter_map, nat_eq, ap, sym, ◌∙◌, append_assoc, list_any, append-nil}
 use Rattle.str0m_sdp.proofs.Common.{length-set, take_all, CodecSpec, option_to_list}
-use Rattle.str0m_sdp.proofs.section.MappingLaws.{any_mapped, statics_new, statics_seen, mark_new, mark_seen}
-use Rattle.str0m_sdp.proofs.section.SectionRowsParts.{or_false}
+use Rattle.str0m_sdp.proofs.section.MappingLaws.{any_mapped, mapping_statics_new, mapping_statics_seen, mapping_mark_new, mapping_mark_seen}
+use Rattle.str0m_sdp.proofs.section.SectionRowsParts.{rows_or_false}
 use Rattle.str0m_sdp.proofs.section.media_line.MediaLine.mapped.Goals as goal
 use Rattle.str0m_sdp.specs.Common.{distinct}
 use Rattle.str0m_sdp.specs.declared.attribute.MediaAttribute.{MediaAttribute}
 use Rattle.str0m_sdp.specs.section.Consistency.{maps}
-use Rattle.str0m_sdp.specs.section.Mappings.{mapping, unmapped, mapped, static_type}
+use Rattle.str0m_sdp.specs.section.Mappings.{mapping, unmapped_type, mapped, static_type}
 
 pub loop-pt-init : goal.loop-pt-init
 loop-pt-init c =
@@ -18,7 +18,7 @@ loop-pt-init c =
       whole = c.mapped_types-seen.ensures.whole;
       seen = λ pt lt. c.mapped_types-seen.ensures.rows pt lt
           ∙ ap (λ (rows : List (ℕ × CodecSpec)). list_any (λ row. row.0 == pt) rows) (c.as_slice.ensures.value ∙ rows)
-          ∙ any_mapped pt attrs ∙ sym (or_false (list_any (maps pt) attrs));
+          ∙ any_mapped pt attrs ∙ sym (rows_or_false (list_any (maps pt) attrs));
     }
 
 pub loop-pt-preserved : goal.loop-pt-preserved
@@ -29,29 +29,29 @@ loop-pt-preserved c =
     let pt = c.pt-item.result in
     let seen = c.loop-pt.seen in
     let lines = filter_map mapping attrs in
-    let before = filter_map (unmapped attrs) (distinct nat_eq (take i pts)) in
+    let before = filter_map (unmapped_type attrs) (distinct nat_eq (take i pts)) in
     let lt = c.loop-pt-test.true in
     let is = c.pt-item.is in
     let row = rw (c.place-place.ensures.is, ← c.loop-pt.invariant.whole) at c.place-place.ensures.within in
     let so_far = c.loop-pt.invariant.seen pt (rw c.place-place.ensures.is at c.place-place.ensures.within) in
     elim c.if-not-seen-place.branch [
-      | goal.then-not-seen-place+in_ok-push_static w ↦
+      | goal.then-not-seen-place+in_ok-push_static_mapping w ↦
           let new = rw c.place-place.ensures.is at w.if-not-seen-place.true in
           rw (w.mapped-is, w.seen-is, c.place-place.ensures.is) (record {
-            rows = w.in_ok-push_static.ensures
+            rows = w.in_ok-push_static_mapping.ensures
                 ∙ ap (λ (rows : List (ℕ × CodecSpec)). rows ++ option_to_list (static_type pt)) c.loop-pt.invariant.rows
                 ∙ append_assoc lines before (option_to_list (static_type pt))
-                ∙ sym (ap (λ (rows : List (ℕ × CodecSpec)). lines ++ rows) (statics_new attrs pts i pt lt is (sym so_far ∙ new)));
+                ∙ sym (ap (λ (rows : List (ℕ × CodecSpec)). lines ++ rows) (mapping_statics_new attrs pts i pt lt is (sym so_far ∙ new)));
             whole = length-set seen pt _ ∙ c.loop-pt.invariant.whole;
-            seen = λ n small. mark_new seen pts i pt n (list_any (maps n) attrs) lt is row (c.loop-pt.invariant.seen n small);
+            seen = λ n small. mapping_mark_new seen pts i pt n (list_any (maps n) attrs) lt is row (c.loop-pt.invariant.seen n small);
           })
       | goal.else-not-seen-place w ↦
           let old = rw c.place-place.ensures.is at w.if-not-seen-place.false in
           rw (w.mapped-is, w.seen-is) (record {
             rows = c.loop-pt.invariant.rows
-                ∙ sym (ap (λ (rows : List (ℕ × CodecSpec)). lines ++ rows) (statics_seen attrs pts i pt lt is (sym so_far ∙ old)));
+                ∙ sym (ap (λ (rows : List (ℕ × CodecSpec)). lines ++ rows) (mapping_statics_seen attrs pts i pt lt is (sym so_far ∙ old)));
             whole = c.loop-pt.invariant.whole;
-            seen = λ n small. mark_seen seen pts i pt n (list_any (maps n) attrs) lt is old (c.loop-pt.invariant.seen n small);
+            seen = λ n small. mapping_mark_seen seen pts i pt n (list_any (maps n) attrs) lt is old (c.loop-pt.invariant.seen n small);
           })
     ]
 
@@ -61,5 +61,5 @@ returns c =
     let attrs = c.args.self.now.attrs in
     let pts = c.as_slice-pt-items.result.now in
     c.loop-pt.invariant.rows
-    ∙ ap (λ (ns : List ℕ). filter_map mapping attrs ++ filter_map (unmapped attrs) (distinct nat_eq ns))
+    ∙ ap (λ (ns : List ℕ). filter_map mapping attrs ++ filter_map (unmapped_type attrs) (distinct nat_eq ns))
     (take_all c.loop-pt.pt-index pts c.loop-pt-test.false ∙ c.as_slice-pt-items.ensures)

@@ -1,22 +1,22 @@
 use Rattle.str0m_sdp.proofs.Common.{◌++◌, ◌==◌, ℕ, List, replicate, filter, filter_map, option_to_list, refl, rules, tests, sym, ap, ◌∙◌}
 use Rattle.str0m_sdp.proofs.Common.{Bor, list_any, take_all, All-same, line_values, FormatParam, CodecSpec, PayloadParams, IsBounded}
-use Rattle.str0m_sdp.proofs.section.MappingsFilterMap.{kept_item, left_out}
+use Rattle.str0m_sdp.proofs.section.MappingsFilterMap.{filter_map_kept, filter_map_left_out}
 use Rattle.str0m_sdp.proofs.section.SectionRowsBoundLaws.{rows_bounded}
-use Rattle.str0m_sdp.proofs.section.SectionRowsGatherLaws.{Marks, nothing_gathered, all_gathered}
+use Rattle.str0m_sdp.proofs.section.SectionRowsGatherLaws.{TypeMarks, row_nothing_gathered, row_all_gathered}
 use Rattle.str0m_sdp.proofs.section.media_line.MediaLine.rows_of.Goals as goal
 use Rattle.str0m_sdp.specs.declared.attribute.feedback.Feedback.{Feedback}
-use Rattle.str0m_sdp.specs.section.FmtpLines.{lines_with}
+use Rattle.str0m_sdp.specs.section.FmtpLines.{fmtp_lines_with}
 use Rattle.str0m_sdp.specs.section.SectionRows.{is_kept, row, rows}
 
 pub gather-requires : goal.gather-requires
-gather-requires c = nothing_gathered c.args.types.now _ refl refl (ap (λ (f : Feedback). replicate 256 f) c.none.ensures)
+gather-requires c = row_nothing_gathered c.args.types.now _ refl refl (ap (λ (f : Feedback). replicate 256 f) c.none.ensures)
 
 pub loop-pt-init : goal.loop-pt-init
 loop-pt-init c =
     let m = c.args.self.now in
     let all = rw (c.as_slice-2.ensures, c.requires) at c.in_ok-lines.ensures.words in (
       c.in_ok-groups.ensures m.attrs
-          (λ pt. ap (λ (ls : List (ℕ × Bor (List FormatParam))). line_values (lines_with pt ls)) c.as_slice-3.ensures.value
+          (λ pt. ap (λ (ls : List (ℕ × Bor (List FormatParam))). line_values (fmtp_lines_with pt ls)) c.as_slice-3.ensures.value
           ∙ all.gathered pt),
       search (rules, tests),
     )
@@ -28,21 +28,21 @@ loop-pt-preserved c =
     let i = c.loop-pt.pt-index in
     let item = c.loop-pt-item.result in
     let known = c.loop-pt.invariant.0 in
-    let in_m_line : Marks c.gather.new.self.in_m_line (λ pt. list_any (λ n. n == pt) m.pts) =
+    let in_m_line : TypeMarks c.gather.new.self.in_m_line (λ pt. list_any (λ n. n == pt) m.pts) =
     rw (c.in_ok-lines.ensures.in_m_line, ← c.as_slice.ensures) c.types_in.ensures in
     let all = rw (c.as_slice-2.ensures, c.requires) at c.in_ok-lines.ensures.words in
-    let say = all_gathered m c.gather.new.self c.in_ok-lines.lines.items in_m_line all in
+    let say = row_all_gathered m c.gather.new.self c.in_ok-lines.lines.items in_m_line all in
     elim c.if-is_kept.branch [
       | goal.then-is_kept+in_ok-format+in_ok-push_row w ↦
           let pt = item.0 in
           let own =
-          ap (λ (ls : List (ℕ × Bor (List FormatParam))). line_values (lines_with pt ls)) w.as_slice-lines.ensures.value
+          ap (λ (ls : List (ℕ × Bor (List FormatParam))). line_values (fmtp_lines_with pt ls)) w.as_slice-lines.ensures.value
           ∙ all.gathered pt in (
             rw w.groups-is (w.in_ok-format.ensures.known m.attrs known),
             rw w.rows-is (
                 w.in_ok-push_row.ensures m say (w.in_ok-format.ensures.format m.attrs known own)
                 ∙ ap (λ (rows : List PayloadParams). rows ++ option_to_list (row m item)) c.loop-pt.invariant.1
-                ∙ sym (kept_item (is_kept m) (row m) types i item c.loop-pt-test.true c.loop-pt-item.is
+                ∙ sym (filter_map_kept (is_kept m) (row m) types i item c.loop-pt-test.true c.loop-pt-item.is
                 (sym (c.is_kept.ensures m say) ∙ w.if-is_kept.true))
                 ),
           )
@@ -50,7 +50,7 @@ loop-pt-preserved c =
         rw w.groups-is known,
         rw w.rows-is (
             c.loop-pt.invariant.1
-            ∙ sym (left_out (is_kept m) (row m) types i item c.loop-pt-test.true c.loop-pt-item.is
+            ∙ sym (filter_map_left_out (is_kept m) (row m) types i item c.loop-pt-test.true c.loop-pt-item.is
             (sym (c.is_kept.ensures m say) ∙ w.if-is_kept.false))
             ),
       )

@@ -1,5 +1,5 @@
 use Rattle.str0m_sdp.proofs.Common.{◌≡◌, [], rules, tests, refl, take_all}
-use Rattle.str0m_sdp.proofs.section.SectionRowsGatherLaws.{fmtp_gathered, feedback_gathered, other_gathered}
+use Rattle.str0m_sdp.proofs.section.SectionRowsGatherLaws.{fmtp_gathered, feedback_gathered, row_other_gathered}
 use Rattle.str0m_sdp.proofs.section.section_rows.TypeFacts.gather.Goals as goal
 
 pub loop-attr-init : goal.loop-attr-init
@@ -28,7 +28,8 @@ loop-attr-preserved c =
             fmtp_gathered types attrs words lines c.types_of-rtx_types.result c.types_of-red_types.result _ _ i w.in-Fmtp.pt
                 w.as_slice-values.result attr
                 lt is variant w.value.ensures.range c.types_of-rtx_types.ensures.rows c.types_of-red_types.ensures.rows
-                w.note_line.ensures.whole w.note_line-in-Fmtp.ensures.whole w.note_line.ensures.rows w.note_line-in-Fmtp.ensures.rows
+                w.note_companion_line.ensures.whole w.note_companion_line-in-Fmtp.ensures.whole w.note_companion_line.ensures.rows
+                w.note_companion_line-in-Fmtp.ensures.rows
                 so_far,
             c.loop-attr.invariant.1,
           )
@@ -40,7 +41,7 @@ loop-attr-preserved c =
           )
       | goal.in_default w ↦
           rw (w.self-is, w.lines-is) (
-            other_gathered types attrs words lines i attr lt is w.in_default.not-Fmtp w.in_default.not-RtcpFb so_far,
+            row_other_gathered types attrs words lines i attr lt is w.in_default.not-Fmtp w.in_default.not-RtcpFb so_far,
             c.loop-attr.invariant.1,
           )
     ]

@@ -1,5 +1,5 @@
 use Rattle.str0m_sdp.proofs.Common.{◌≡◌, ◌++◌, ◌∙◌, Option, Some, None, option_to_list, sym, ap, append-nil, PayloadParams, format_of_fmtp}
-use Rattle.str0m_sdp.proofs.section.SectionRowLaws.{row_is, no_row, pushed}
+use Rattle.str0m_sdp.proofs.section.SectionRowLaws.{row_is, no_row, row_pushed}
 use Rattle.str0m_sdp.proofs.section.section_rows.TypeFacts.push_row.Goals as goal
 use Rattle.str0m_sdp.specs.section.SectionRows.{fmtps_of}
 
@@ -9,7 +9,7 @@ returns-in-Some c = λ m say own.
     let spec = c.args.spec in
     let read : Some c.in-Some.format ≡ format_of_fmtp spec.codec (fmtps_of m.attrs pt) =
     sym c.in-Some.is ∙ own in
-    pushed c.extend_from_slice.result c.args.rows.now.items c.extend_from_slice.new.self.items c.row_of.result _
+    row_pushed c.extend_from_slice.result c.args.rows.now.items c.extend_from_slice.new.self.items c.row_of.result _
     c.extend_from_slice.ensures.items
     (row_is m c.args.self.now pt spec c.in-Some.format say c.row_of.ensures.within read
     ∙ ap (λ (r : PayloadParams). Some r) (sym c.row_of.ensures.row))

@@ -1,6 +1,0 @@
-use Rattle.exchange.proofs.Common.{sym, ◌∙◌}
-use Rattle.exchange.proofs.state.CopiedOverLaws.{same_if_alike}
-use Rattle.exchange.proofs.state.copied_over.copy_line.Goals as goal
-
-pub returns-else-may_differ : goal.returns-else-may_differ
-returns-else-may_differ c = same_if_alike c.args.source.now c.args.line.now (sym c.may_differ.ensures ∙ c.if-may_differ.false) c.requires

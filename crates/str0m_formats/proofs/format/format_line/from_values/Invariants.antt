@@ -1,7 +1,0 @@
-use Rattle.str0m_formats.proofs.Common.{◌≡◌, take}
-use Rattle.str0m_formats.proofs.format.format_line.from_values.Given as goal
-use Rattle.str0m_formats.specs.format.FormatLine.{values_of, line_values}
-use Rattle.str0m_formats.specs.format.FormatParams.{empty, set_all}
-
-abbrev pub invariant-loop-line : goal.invariant-loop-line
-invariant-loop-line l = l.format ≡ set_all empty (values_of (line_values (take l.line-index l.lines)))
