@@ -4,7 +4,8 @@
     scripts/hypotheses.py
 
 The proofs of a function (`proofs/../FUNCTION/Answers.antt` and the like) name hypotheses and goals after the calls and variables of its code:
-`c.in_ok-push_row`, `goal.loop-row-preserved`. Each word of such a name, but those that rattle gives, stands in a source with that function."""
+`c.in_ok-push_row`, `goal.then-is_new+in_ok-push_row`. Each word of such a name, but those that rattle gives, stands in a source with that
+function; behind `clause` stands the name of a clause."""
 import re
 import sys
 
@@ -12,7 +13,9 @@ from proved import TOP
 
 CRATES = TOP / "crates"
 PROOFS = ("Answers", "Invariants", "Ends", "Proof")
-NAMED = re.compile(r"\b(?:[cw]|goal)\.([A-Za-z_]\w*(?:-\w+)*)")
+NAMED = re.compile(r"\b(?:[cw]|goal)\.([A-Za-z_]\w*(?:[-+]\w+)*)")
+IMPORTED = re.compile(r"^use [\w.+]+\.Goals\.\{(.*)\}")
+CLAUSE = re.compile(r"\b(?:ensures|requires)\*? (\w+) \{")
 # (of steps, operators and calls that code doesn't spell out)
 GIVEN = re.compile(
     r"args|branch|clause|decreases|else|end|i|if|in|in_default|in_err|in_ok|init|invariant|invariant_of|is|item|iterator|loop|match|not|preserved"
@@ -31,16 +34,33 @@ def sources(crate):
     return found
 
 
+def names_of(line):
+    """The hypotheses and goals that a line of a proof names."""
+    if line.lstrip().startswith("--"):
+        return []
+    imported = IMPORTED.match(line)
+    return imported[1].split(", ") if imported else NAMED.findall(line)
+
+
+def clauses():
+    """The names of clauses, with that which rattle gives to what a `fmt` writes."""
+    return {"writes"}.union(*[CLAUSE.findall(it.read_text("utf-8")) for it in CRATES.glob("*/src/**/*.rt")])
+
+
 def faults():
+    named = clauses()
     for crate in sorted(it for it in CRATES.iterdir() if (it / "proofs").is_dir()):
         code = sources(crate)
         for file in sorted(it for it in (crate / "proofs").rglob("*.antt") if it.stem in PROOFS and it.parent.name in code):
             words = set(re.findall(r"\w+", "\n".join(code[file.parent.name])))
             for number, line in enumerate(file.read_text("utf-8").split("\n"), 1):
-                for name in NAMED.findall("" if line.lstrip().startswith("--") else line):
-                    for word in name.split("-"):
+                for name in names_of(line):
+                    for word in re.split("[-+]", name):
                         if word not in words and not GIVEN.fullmatch(word):
                             yield f"{file.relative_to(CRATES)}:{number}: {name}: no {word} stands in the code of {file.parent.name}"
+                    for word in re.findall(r"clause-(\w+)", name):
+                        if word not in named:
+                            yield f"{file.relative_to(CRATES)}:{number}: {name}: no clause is {word}"
 
 
 if __name__ == "__main__":
