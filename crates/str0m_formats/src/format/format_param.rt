@@ -291,7 +291,6 @@ impl FormatParam {
     /// 7798, section 7.1; RFC 9328, section 7.2), and their three keys are passed over. Otherwise each
     /// pair is read on its own, in order. The only error is that memory was refused.
     #[tactic(auto, using(crate::proofs::format::PairsLaws::are_pairs_read))]
-    #[inline(always)]
     pub fn parse_pairs(
         alloc: Global,
         pairs: &[(&str, &str)],

@@ -3,8 +3,8 @@ use Rattle.std.specs.Borrow.{Bor}
 use Rattle.std.specs.Prelude.{ℕ, List}
 use Rattle.str0m_sdp.specs.declared.attribute.media_type.MediaType.TheVariants as typ
 use Rattle.str0m_signal.specs.Prelude.{MediaType}
-use Rattle.str0m_signal.specs.declared.line.heads.Kind.{Kind}
-use Rattle.str0m_signal.specs.declared.line.heads.Kind.TheVariants.{Audio, Video, Application, Unknown}
+use Rattle.str0m_signal.specs.declared.line.heads.HeadKind.{HeadKind}
+use Rattle.str0m_signal.specs.declared.line.heads.HeadKind.TheVariants.{Audio, Video, Application, Unknown}
 use Rattle.str0m_signal.specs.declared.line.heads.MediaHead.{MediaHead}
 use Rattle.str0m_signal.specs.declared.session.header.SessionHead.{SessionHead}
 use Rattle.str0m_signal.specs.line.Lines.{Line}
@@ -12,7 +12,7 @@ use Rattle.str0m_signal.specs.line.LinesReading.{lines_of}
 use Rattle.str0m_signal.specs.session.Header.{Header}
 use Rattle.str0m_signal.specs.session.Section.{Head}
 
-abbrev pub head_kind_is : Kind → MediaType
+abbrev pub head_kind_is : HeadKind → MediaType
 head_kind_is Audio = typ.Audio
 head_kind_is Video = typ.Video
 head_kind_is Application = typ.Application

@@ -34,7 +34,6 @@ fn cut_uri(text: &str) -> Option<(&str, &str)>
 }
 
 /// The URI; more may stand after it.
-#[inline(always)]
 fn uri(text: &str) -> Option<&str>
     ensures { option_map (λ x. x.now) result ≡ tailed_read 32 text_read text.now }
 {

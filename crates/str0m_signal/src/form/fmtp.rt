@@ -29,7 +29,6 @@ fn pairs_form(alloc: Global, more: &str) -> Result<Option<Items<FormatParam>>, A
 }
 
 /// The values after the payload type.
-#[inline(always)]
 fn values(alloc: Global, more: &str) -> Result<Items<FormatParam>, AllocError>
     ensures { IfOk result (λ values. Some values ≡ fmtp_values_read more.now) }
 {

@@ -32,7 +32,6 @@ fn mapping_clock(text: &str) -> Option<(Frequency, Option<u8>)>
     }
 }
 
-#[inline(always)]
 fn mapping(text: &str) -> Option<RtpMap>
     ensures { result ≡ mapping_read text.now }
 {

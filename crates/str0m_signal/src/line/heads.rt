@@ -23,27 +23,27 @@ pub(crate) struct MediaHead {
 
 /// A media type that isn't copied out of its line yet.
 #[derive(Clone, Copy, Debug)]
-enum Kind<'a> {
+enum HeadKind<'a> {
     Audio,
     Video,
     Application,
     Unknown(&'a str),
 }
 
-impl<'a> Kind<'a> {
+impl<'a> HeadKind<'a> {
     fn to_media_type(self, alloc: Global) -> Result<MediaType, AllocError>
         ensures { IfOk result (λ typ. typ ≡ head_kind_is self.entry) }
     {
         match self {
-            Kind::Audio => Ok(MediaType::Audio),
-            Kind::Video => Ok(MediaType::Video),
-            Kind::Application => Ok(MediaType::Application),
-            Kind::Unknown(text) => Ok(MediaType::Unknown(Text::from_str(alloc, text)?)),
+            HeadKind::Audio => Ok(MediaType::Audio),
+            HeadKind::Video => Ok(MediaType::Video),
+            HeadKind::Application => Ok(MediaType::Application),
+            HeadKind::Unknown(text) => Ok(MediaType::Unknown(Text::from_str(alloc, text)?)),
         }
     }
 }
 
-fn unknown_head_kind(text: &str) -> Option<Kind<'_>>
+fn unknown_head_kind(text: &str) -> Option<HeadKind<'_>>
     ensures { option_map head_kind_is result ≡ unknown_read text.now }
 {
     if strip(text, AUDIO).is_some()
@@ -53,16 +53,16 @@ fn unknown_head_kind(text: &str) -> Option<Kind<'_>>
     {
         return None;
     }
-    Some(Kind::Unknown(text))
+    Some(HeadKind::Unknown(text))
 }
 
-fn head_kind(text: &str) -> Option<Kind<'_>>
+fn head_kind(text: &str) -> Option<HeadKind<'_>>
     ensures { option_map head_kind_is result ≡ media_kind_read text.now }
 {
     match text {
-        AUDIO => Some(Kind::Audio),
-        VIDEO => Some(Kind::Video),
-        APPLICATION => Some(Kind::Application),
+        AUDIO => Some(HeadKind::Audio),
+        VIDEO => Some(HeadKind::Video),
+        APPLICATION => Some(HeadKind::Application),
         _ => unknown_head_kind(text),
     }
 }
@@ -85,7 +85,6 @@ fn is_head_disabled(port: &str) -> bool
 }
 
 /// The types of an m-line. Memory is asked for only where they are numbers.
-#[inline(always)]
 fn types(alloc: Global, text: &str) -> Result<Option<Items<Pt>>, AllocError>
     ensures { IfOk result (λ found. found ≡ types_read text.now) }
 {
