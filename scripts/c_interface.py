@@ -162,7 +162,7 @@ def numbers():
     statuses = dict(re.findall(r"^(\w+) = (\d+)$", (CALLS / "specs" / "Told.antt").read_text("utf-8"), re.M))
     yield from ((f"ZAX_{STATUSES[name]}", number) for name, number in statuses.items())
     row = (PARTS / "specs" / "Row.antt").read_text("utf-8")
-    for name, number in re.findall(r"^codec_number (\w+) = (\d+)$", row, re.M):
+    for name, number in re.findall(r"^row_codec_number (\w+) = (\d+)$", row, re.M):
         yield f"ZAX_{CODECS.get(name, name.upper())}", number
     section = (PARTS / "specs" / "Section.antt").read_text("utf-8")
     for of, name, number in re.findall(r"^(kind|protocol|direction|setup)_number \(?(?:Some )?(\w+).*= (\d+)$", section, re.M):
@@ -189,13 +189,13 @@ def choices(text, name):
 
 def numbers_of_exchanges():
     fault = (PARTS / "specs" / "Fault.antt").read_text("utf-8")
-    for name, number in re.findall(r"^(?:error|fault)_code \(?(\w+).* = (\d+)$", fault, re.M):
+    for name, number in re.findall(r"^fault_code(?:_of_error)? \(?(\w+).* = (\d+)$", fault, re.M):
         yield f"ZAX_{FAULTS[name]}", number
     side = (PARTS / "specs" / "Side.antt").read_text("utf-8")
     for number, name in re.findall(r"nat_eq n (\d+) then (\w+)", side):
         yield f"ZAX_{name.upper()}", number
     exchanged = (CALLS / "specs" / "ExchangeCalls.antt").read_text("utf-8")
-    for name, number in re.findall(r"^state_number (\w+) = (\d+)$", exchanged, re.M):
+    for name, number in re.findall(r"^exchange_state_number (\w+) = (\d+)$", exchanged, re.M):
         yield f"ZAX_{STATES[name]}", number
 
 

@@ -9,7 +9,7 @@ use std::str;
 use str0m_signal::{CodecConfig, Direction, Fingerprint, IceCreds, Items, SessionId, Text};
 
 /// The hash of a certificate.
-fn fingerprint(alloc: Global) -> Result<Fingerprint, AllocError> {
+fn answer_fingerprint(alloc: Global) -> Result<Fingerprint, AllocError> {
     Ok(Fingerprint {
         hash_func: Text::from_str(alloc, "sha-256")?,
         bytes: Items::from(Vec::from_slice(alloc, &[0xab; 32])?),
@@ -24,7 +24,7 @@ fn answering_side(alloc: Global) -> Result<OwnSide, AllocError> {
             ufrag: Text::from_str(alloc, "ufrag")?,
             pass: Text::from_str(alloc, "0123456789abcdef01234567")?,
         },
-        fingerprint: fingerprint(alloc)?,
+        fingerprint: answer_fingerprint(alloc)?,
         audio: Direction::SendRecv,
         video: Direction::SendRecv,
         directions: Items::empty(alloc),
@@ -40,7 +40,7 @@ fn answering_side(alloc: Global) -> Result<OwnSide, AllocError> {
 }
 
 /// An exchange of that side with the default configuration, in which nothing was said yet.
-pub(crate) fn new_exchange(alloc: Global) -> Result<Exchange, AllocError> {
+pub(crate) fn exchange_for_answers(alloc: Global) -> Result<Exchange, AllocError> {
     let config = CodecConfig::new_with_defaults(alloc)?;
     Ok(Exchange::new(answering_side(alloc)?, config))
 }
@@ -49,7 +49,7 @@ pub(crate) fn new_exchange(alloc: Global) -> Result<Exchange, AllocError> {
 fn sections_answered(alloc: Global, offer: &str) -> Result<usize, ExchangeError>
     ensures { IfOk result (HasAnswered offer.now) }
 {
-    let mut exchange = new_exchange(alloc)?;
+    let mut exchange = exchange_for_answers(alloc)?;
     let answer = exchange.accept_offer(offer)?;
     Ok(answer.media_lines.len())
 }

@@ -1,10 +1,10 @@
 //! A task that is timed, over a text.
 
-ghost use Rattle.bench_calls.specs.Answers.{HasAnswer, HasRounds};
+ghost use Rattle.bench_calls.specs.Answers.{HasAnswer, HasRoundsAnswer};
 ghost use Rattle.std.specs.Prelude.{◌≡◌, IfOk, IfSome, length, ℕ};
 ghost use Rattle.str0m_formats.specs.row.DefaultRows.{usual_rows};
 ghost use Rattle.str0m_sdp.specs.declared.session.Sdp.{Sdp};
-ghost use Rattle.str0m_signal.specs.session.Reader.{Described};
+ghost use Rattle.str0m_signal.specs.session.Reader.{DescribesSession};
 
 use std::alloc::{AllocError, Global};
 use std::str;
@@ -21,7 +21,7 @@ pub(crate) trait Task {
 
 /// The description that a text begins with; `None` where there is none, or where memory was refused.
 fn offer_of_task(alloc: Global, text: &[u8]) -> Option<SdpOffer>
-    ensures { IfSome result (λ offer. Described text.now offer) }
+    ensures { IfSome result (λ offer. DescribesSession text.now offer) }
 {
     match str::from_utf8(text) {
         Ok(text) => match SdpOffer::from_sdp_string(alloc, text) {
@@ -66,7 +66,7 @@ pub(crate) fn done_task<T: Task>(alloc: Global, text: &[u8], more: u32) -> Optio
 
 /// Runs the rounds of the default configuration with a text, and answers how many they are.
 fn task_rounds(alloc: Global, text: &str) -> Result<usize, SdpError>
-    ensures { IfOk result (HasRounds text.now) }
+    ensures { IfOk result (HasRoundsAnswer text.now) }
 {
     let mut config = CodecConfig::new_with_defaults(alloc)?;
     let outcomes = negotiate_text(&mut config, text)?;
@@ -74,7 +74,7 @@ fn task_rounds(alloc: Global, text: &str) -> Result<usize, SdpError>
 }
 
 fn task_rounds_once(alloc: Global, text: &str) -> Option<usize>
-    ensures { IfSome result (HasRounds text.now) }
+    ensures { IfSome result (HasRoundsAnswer text.now) }
 {
     match task_rounds(alloc, text) {
         Ok(count) => Some(count),
@@ -84,7 +84,7 @@ fn task_rounds_once(alloc: Global, text: &str) -> Option<usize>
 
 /// These rounds once, and then as often again as `more` says: each time the text is read, too.
 pub(crate) fn negotiated_task(alloc: Global, text: &[u8], more: u32) -> Option<usize>
-    ensures { IfSome result (HasRounds text.now) }
+    ensures { IfSome result (HasRoundsAnswer text.now) }
 {
     match str::from_utf8(text) {
         Ok(text) => {

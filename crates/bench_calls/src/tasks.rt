@@ -1,18 +1,18 @@
 //! What is done with a description.
 
-ghost use Rattle.bench_calls.specs.Answers.{sections, text_length};
+ghost use Rattle.bench_calls.specs.Answers.{section_count_answer, text_length_answer};
 
-use crate::answers::new_exchange;
+use crate::answers::exchange_for_answers;
 use crate::task::Task;
 use std::alloc::AllocError;
 use str0m_signal::{CodecConfig, MediaLine, NegotiationError, SdpError, SdpOffer};
 
 /// Nothing but one byte, which is given back: who counts allocations sees by it where the reading has ended. Answers how many
 /// sections there are.
-pub(crate) struct Mark;
+pub(crate) struct MarkTask;
 
-impl Task for Mark {
-    ghost answer = { sections };
+impl Task for MarkTask {
+    ghost answer = { section_count_answer };
 
     fn run(offer: &SdpOffer) -> Result<usize, AllocError> {
         let sections = &offer.media_lines;
@@ -22,10 +22,10 @@ impl Task for Mark {
 }
 
 /// The rows of each section. Answers how many sections there are.
-pub(crate) struct Rows;
+pub(crate) struct RowsTask;
 
-impl Task for Rows {
-    ghost answer = { sections };
+impl Task for RowsTask {
+    ghost answer = { section_count_answer };
 
     fn run(offer: &SdpOffer) -> Result<usize, AllocError> {
         for section in offer.media_lines.as_slice() {
@@ -36,10 +36,10 @@ impl Task for Rows {
 }
 
 /// The configuration with the default rows. Answers how many sections there are.
-pub(crate) struct Defaults;
+pub(crate) struct DefaultsTask;
 
-impl Task for Defaults {
-    ghost answer = { sections };
+impl Task for DefaultsTask {
+    ghost answer = { section_count_answer };
 
     fn run(offer: &SdpOffer) -> Result<usize, AllocError> {
         let sections = &offer.media_lines;
@@ -49,20 +49,20 @@ impl Task for Defaults {
 }
 
 /// An exchange in which nothing is said. Answers how many sections there are.
-pub(crate) struct Exchanges;
+pub(crate) struct ExchangeTask;
 
-impl Task for Exchanges {
-    ghost answer = { sections };
+impl Task for ExchangeTask {
+    ghost answer = { section_count_answer };
 
     fn run(offer: &SdpOffer) -> Result<usize, AllocError> {
         let sections = &offer.media_lines;
-        let _made = new_exchange(*sections.allocator())?;
+        let _made = exchange_for_answers(*sections.allocator())?;
         Ok(sections.len())
     }
 }
 
 /// A round with the rows of the section, where it is one of audio or video. That one is refused, other than for memory, is no fault.
-fn meet_offer(config: &mut CodecConfig, section: &MediaLine) -> Result<(), AllocError> {
+fn run_round_of_task(config: &mut CodecConfig, section: &MediaLine) -> Result<(), AllocError> {
     if !section.typ.is_media() {
         return Ok(());
     }
@@ -74,26 +74,26 @@ fn meet_offer(config: &mut CodecConfig, section: &MediaLine) -> Result<(), Alloc
 }
 
 /// Such a configuration, and a round with each section's rows. Answers how many sections there are.
-pub(crate) struct Rounds;
+pub(crate) struct RoundsTask;
 
-impl Task for Rounds {
-    ghost answer = { sections };
+impl Task for RoundsTask {
+    ghost answer = { section_count_answer };
 
     fn run(offer: &SdpOffer) -> Result<usize, AllocError> {
         let sections = &offer.media_lines;
         let mut config = CodecConfig::new_with_defaults(*sections.allocator())?;
         for section in sections.as_slice() {
-            meet_offer(&mut config, section)?;
+            run_round_of_task(&mut config, section)?;
         }
         Ok(sections.len())
     }
 }
 
 /// What is said of the sources of each section. Answers how many sections there are.
-pub(crate) struct Sources;
+pub(crate) struct SourcesTask;
 
-impl Task for Sources {
-    ghost answer = { sections };
+impl Task for SourcesTask {
+    ghost answer = { section_count_answer };
 
     fn run(offer: &SdpOffer) -> Result<usize, AllocError> {
         for section in offer.media_lines.as_slice() {
@@ -104,10 +104,10 @@ impl Task for Sources {
 }
 
 /// The candidates of the session and of the sections, each once, to the last. Answers how many sections there are.
-pub(crate) struct Candidates;
+pub(crate) struct CandidatesTask;
 
-impl Task for Candidates {
-    ghost answer = { sections };
+impl Task for CandidatesTask {
+    ghost answer = { section_count_answer };
 
     fn run(offer: &SdpOffer) -> Result<usize, AllocError> {
         let _last = offer.ice_candidates()?.last();
@@ -116,10 +116,10 @@ impl Task for Candidates {
 }
 
 /// Whether the description contradicts itself is asked. Answers how many sections there are.
-pub(crate) struct Consistency;
+pub(crate) struct ConsistencyTask;
 
-impl Task for Consistency {
-    ghost answer = { sections };
+impl Task for ConsistencyTask {
+    ghost answer = { section_count_answer };
 
     fn run(offer: &SdpOffer) -> Result<usize, AllocError> {
         match offer.assert_consistency() {
@@ -130,10 +130,10 @@ impl Task for Consistency {
 }
 
 /// The printed text. Answers how many bytes it has.
-pub(crate) struct Print;
+pub(crate) struct PrintTask;
 
-impl Task for Print {
-    ghost answer = { text_length };
+impl Task for PrintTask {
+    ghost answer = { text_length_answer };
 
     fn run(offer: &SdpOffer) -> Result<usize, AllocError> {
         let text = offer.to_sdp_string()?;

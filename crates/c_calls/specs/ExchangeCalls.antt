@@ -1,6 +1,6 @@
 -- What an exchange of offers and answers is behind a call.
-use Rattle.c_calls.specs.Common.{Of}
-use Rattle.c_calls.specs.Prelude.{AllTypesDistinct, AnswersOffer, AreMidsDistinct, AreFresh, BundlesAccepted, CodecConfig, Direction, EachSection, Exchange, FitsOffer, Follows, HasShapeOf, IsAcceptedExactly, IsAnswer, IsNewOfferName, IsOffer, IsOffered, IsPlain, IsReadBack, IsSound, KeepsOfferPlaces, KeepsRules, LockedStay, MakesOffer, NegotiatesOffer, OwnNumbers, OwnSide, OwnTexts, SaysOwnSide, Sdp, SignalingState, StaysInPlaces, grown_names, pending_sdp, offer_placed_as, offer_placed_of, offer_ready_with, section_mids, sections_of, state_of, taken_names, tracks, types, versioned_text, with_own_side_entry, with_offer_placed}
+use Rattle.c_calls.specs.Common.{OfHandle}
+use Rattle.c_calls.specs.Prelude.{AllTypesDistinct, AnswersOffer, AreMidsDistinct, AreFresh, BundlesAccepted, CodecConfig, Direction, EachSection, Exchange, FitsOffer, Follows, HasOfferedShape, IsAcceptedExactlyByRules, IsAnswer, IsNewOfferName, IsOffer, IsOffered, IsPlain, IsReadBack, IsExchangeSound, KeepsOfferPlaces, KeepsRules, LockedStay, MakesOffer, NegotiatesOffer, OwnNumbers, OwnSide, OwnTexts, SaysOwnSide, Sdp, SignalingState, StaysInPlaces, grown_names, pending_sdp, offer_placed_as, offer_placed_of, offer_ready_with, section_mids, sections_of, state_of, exchange_taken_names, tracks, types, versioned_text, with_own_side_entry, with_offer_placed}
 use Rattle.exchange.specs.declared.state.signaling_state.SignalingState.TheVariants.{HaveLocalOffer, Stable}
 use Rattle.std.specs.Prelude.{◌≡◌, ◌+◌, ◌-◌, ◌^◌, [], ℕ, List, All, IsSomeAnd, None, Option, Some, drop, length, min}
 
@@ -13,8 +13,8 @@ pub record AcceptsOffer (before after : Exchange) (text : List ℕ) (answer : Sd
   pub placed : IsSomeAnd after.remote (StaysInPlaces before.names (sections_of before.local) before.remote)
   -- the answer answers it, line by line, by the rules and with its bundle, and the other side reads it as what it says
   pub answers : IsSomeAnd after.remote (λ offer. AnswersOffer before.own after.config.params.items offer answer)
-  pub shape : EachSection (λ offer. HasShapeOf) after.remote answer
-  pub exactly : EachSection (IsAcceptedExactly before.own after.config.params.items) after.remote answer
+  pub shape : EachSection (λ offer. HasOfferedShape) after.remote answer
+  pub exactly : EachSection (IsAcceptedExactlyByRules before.own after.config.params.items) after.remote answer
   pub rules : EachSection (KeepsRules before.own after.config.params.items) after.remote answer
   pub bundle : IsSomeAnd after.remote (λ offer. BundlesAccepted offer answer)
   pub tracks : AreMidsDistinct (tracks answer)
@@ -33,14 +33,14 @@ pub record AcceptsOffer (before after : Exchange) (text : List ℕ) (answer : Sd
   pub own_same : after.own ≡ before.own
   pub else_same : (after.pending ≡ before.pending) × (after.added ≡ before.added)
   pub follows : Follows before after
-  pub sound : IsSound before → IsSound after
+  pub sound : IsExchangeSound before → IsExchangeSound after
 
 -- this side makes an offer
 pub record CreatesOffer (before after : Exchange) (offer : Sdp) (version : ℕ) : Type 0 where
   pub stable : state_of before ≡ Stable
   -- what was added stands under names that no section of the session has had
   pub names : List (List ℕ)
-  pub fresh : (to : ℕ) × AreFresh (taken_names before) 0 names to
+  pub fresh : (to : ℕ) × AreFresh (exchange_taken_names before) 0 names to
   pub as_many : length names ≡ length before.added
   pub new : All (IsNewOfferName before) names
   -- it is offered with what goes on, by the rules, and the other side reads it as what it says
@@ -56,7 +56,7 @@ pub record CreatesOffer (before after : Exchange) (offer : Sdp) (version : ℕ) 
     version = min (before.version + 1) (2 ^ 64 - 1);
   }
   pub follows : Follows before after
-  pub sound : IsSound before → IsSound after
+  pub sound : IsExchangeSound before → IsExchangeSound after
 
 -- the other side's answer is taken
 pub record AcceptsAnswer (before after : Exchange) (text : List ℕ) : Type 0 where
@@ -77,8 +77,8 @@ pub record AcceptsAnswer (before after : Exchange) (text : List ℕ) : Type 0 wh
   pub own : after.own ≡ record before.own { directions = with_offer_placed before.own.directions (offer_placed_of before) }
   pub added : after.added ≡ drop (length (offer_placed_of before)) before.added
   pub version_same : after.version ≡ before.version
-  pub follows : IsSound before → Follows before after
-  pub sound : IsSound before → IsSound after
+  pub follows : IsExchangeSound before → Follows before after
+  pub sound : IsExchangeSound before → IsExchangeSound after
 
 -- an exchange in which nothing was said yet
 abbrev pub exchange_begun : OwnSide → CodecConfig → Exchange
@@ -86,7 +86,7 @@ exchange_begun own config = record { own = own; config = config; local = None; r
 
 -- with a configuration one side begins, which is what the numbers and the texts say
 abbrev pub BeginsExchange : OwnNumbers → OwnTexts → Option CodecConfig → Option Exchange → Type 0
-BeginsExchange numbers texts config after = (own : OwnSide) × SaysOwnSide numbers texts own × Of config (λ it. after ≡ Some (exchange_begun own it))
+BeginsExchange numbers texts config after = (own : OwnSide) × SaysOwnSide numbers texts own × OfHandle config (λ it. after ≡ Some (exchange_begun own it))
 
 -- this side is ready for a direction in the section of a name, from its next description on (RFC 3264, section 8.4)
 abbrev pub turned_exchange : List ℕ → Direction → Exchange → Exchange
@@ -95,9 +95,9 @@ turned_exchange mid direction before =
 
 -- what a handle held becomes this, and another handle gets that
 abbrev pub ExchangeGoes : {X Y : Type 0} → (X → X → Y → Type 0) → Option X → Option X → Option Y → Type 0
-ExchangeGoes R before after other = Of before (λ it. Of after (λ then. Of other (λ got. R it then got)))
+ExchangeGoes R before after other = OfHandle before (λ it. OfHandle after (λ then. OfHandle other (λ got. R it then got)))
 
 -- the number of a state
-abbrev pub state_number : SignalingState → ℕ
-state_number Stable = 0
-state_number HaveLocalOffer = 1
+abbrev pub exchange_state_number : SignalingState → ℕ
+exchange_state_number Stable = 0
+exchange_state_number HaveLocalOffer = 1

@@ -5,7 +5,7 @@ pub use Rattle.c_parts.specs.Layer.{c_layers}
 pub use Rattle.c_parts.specs.Parts.{IsRoomFull}
 pub use Rattle.c_parts.specs.Reading.{RefusesReading}
 pub use Rattle.c_parts.specs.Rid.{c_rids}
-pub use Rattle.c_parts.specs.Row.{c_outcome, c_row, c_rows, codec_at, row_number_unless}
+pub use Rattle.c_parts.specs.Row.{c_outcome, c_row, c_rows, row_codec_numbered, row_number_unless}
 pub use Rattle.c_parts.specs.Section.{c_section, section_setup_number}
 pub use Rattle.c_parts.specs.Side.{RefusesSidePair, RefusesOwnSide, SaysOwnSide, side_direction_numbered, side_kind_numbered, own_texts}
 pub use Rattle.c_parts.specs.Source.{c_sources}
@@ -26,13 +26,13 @@ pub use Rattle.exchange.specs.offer.FreshNames.{AreFresh}
 pub use Rattle.exchange.specs.offer.MadeOffer.{MakesOffer, offer_placed_as, offer_ready_with}
 pub use Rattle.exchange.specs.offer.Names.{grown_names}
 pub use Rattle.exchange.specs.offer.OfferRules.{IsNewOfferName, IsOffered, KeepsOfferPlaces}
-pub use Rattle.exchange.specs.offer.Rules.{HasShapeOf, IsAcceptedExactly, KeepsRules}
+pub use Rattle.exchange.specs.offer.Rules.{HasOfferedShape, IsAcceptedExactlyByRules, KeepsRules}
 pub use Rattle.exchange.specs.section.Places.{StaysInPlaces}
 pub use Rattle.exchange.specs.state.Exchange.{AnswersOffer, EachSection, ExchangeRefusesChannels, RefusesMedia, RefusesOffer, RefusesToOffer}
-pub use Rattle.exchange.specs.state.ExchangeFollows.{Follows, IsSound}
+pub use Rattle.exchange.specs.state.ExchangeFollows.{Follows, IsExchangeSound}
 pub use Rattle.exchange.specs.state.OwnSide.{with_own_side_entry}
 pub use Rattle.exchange.specs.state.ReadBack.{IsReadBack}
-pub use Rattle.exchange.specs.state.State.{pending_sdp, sections_of, state_of, taken_names}
+pub use Rattle.exchange.specs.state.State.{pending_sdp, sections_of, state_of, exchange_taken_names}
 pub use Rattle.str0m_formats.specs.codec.Codec.{codec_text}
 pub use Rattle.str0m_formats.specs.declared.codec.Codec.{Codec}
 pub use Rattle.str0m_formats.specs.declared.format.format_params.FormatParams.{FormatParams}
@@ -42,7 +42,7 @@ pub use Rattle.str0m_formats.specs.format.FormatLine.{IsFormatOfLine}
 pub use Rattle.str0m_formats.specs.format.FormatParams.{params_text}
 pub use Rattle.str0m_formats.specs.round.Claimed.{AllTypesDistinct}
 pub use Rattle.str0m_formats.specs.round.RoundsPromises.{LockedStay}
-pub use Rattle.str0m_formats.specs.round.RoundsRuns.{Outcome}
+pub use Rattle.str0m_formats.specs.round.RoundsRuns.{OutcomeOfRound}
 pub use Rattle.str0m_formats.specs.row.DefaultRows.{default_rows, enabled_rows, usual_rows}
 pub use Rattle.str0m_formats.specs.row.KindRows.{kind_rows}
 pub use Rattle.str0m_formats.specs.row.PayloadParams.{new_row, types}
@@ -71,7 +71,7 @@ pub use Rattle.str0m_sdp.specs.session.Transport.{sdp_creds, sdp_setup}
 pub use Rattle.str0m_signal.specs.back.Writable.{Writable}
 pub use Rattle.str0m_signal.specs.session.Locked.{locked_of_kind}
 pub use Rattle.str0m_signal.specs.session.Negotiation.{NegotiatedText}
-pub use Rattle.str0m_signal.specs.session.Reader.{Described, Reading}
+pub use Rattle.str0m_signal.specs.session.Reader.{DescribesSession, Reading}
 pub use Rattle.str0m_values.specs.Candidate.{candidate_text}
 pub use Rattle.str0m_values.specs.Fingerprint.{fingerprint_text}
 pub use Rattle.str0m_values.specs.declared.candidate.Candidate.{Candidate}

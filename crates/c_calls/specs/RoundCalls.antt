@@ -1,5 +1,5 @@
 -- A section of one's own that lists what is agreed.
-use Rattle.c_calls.specs.Prelude.{CodecConfig, MediaLine, MediaType, NegotiatedText, Outcome, PayloadParams, Sdp, Writable, c_outcome, locked_of_kind, made}
+use Rattle.c_calls.specs.Prelude.{CodecConfig, MediaLine, MediaType, NegotiatedText, OutcomeOfRound, PayloadParams, Sdp, Writable, c_outcome, locked_of_kind, made}
 use Rattle.c_parts.specs.declared.row.Outcome as c
 use Rattle.std.specs.Prelude.{◌≡◌, ◌≢◌, ◌⊎◌, ℕ, List, [], Option, Some, slice_set, ◌++◌, None, drop, length, map, take, slice_get}
 use Rattle.str0m_sdp.specs.declared.attribute.media_type.MediaType.TheVariants.{Audio, Video}
@@ -42,7 +42,7 @@ cut_to_room items before = take (length before) items ++ drop (length items) bef
 -- counted, and stand in the room
 abbrev pub RanRounds : List ℕ → CodecConfig → CodecConfig → List c.Outcome → List c.Outcome → ℕ → Type 0
 RanRounds text before after room_before room_after needed =
-    (outcomes : List Outcome) × NegotiatedText text before.params.items outcomes after.params.items
+    (outcomes : List OutcomeOfRound) × NegotiatedText text before.params.items outcomes after.params.items
     × (after ≡ record before { params = after.params }) × (needed ≡ length outcomes) × (room_after ≡ cut_to_room (map c_outcome outcomes) room_before)
 
 -- the same of what a handle owns

@@ -1,6 +1,6 @@
 //! Calls of candidates.
 
-ghost use Rattle.c_calls.specs.Common.{Of};
+ghost use Rattle.c_calls.specs.Common.{OfHandle};
 ghost use Rattle.c_calls.specs.Prelude.{IsRoomFull, all_candidates, candidate_text, distinct, same_candidate};
 ghost use Rattle.c_calls.specs.Said.{Says};
 ghost use Rattle.c_calls.specs.Told.{done, no_memory};
@@ -47,7 +47,7 @@ pub extern "C" fn zaxp_session_candidates(
     requires { IsRoomFull handle.old.inner }
     ensures same { handle.new.inner ≡ handle.old.inner }
     ensures statuses { (result ≡ done) ⊎ (result ≡ no_memory) }
-    ensures counted { result ≡ done → Of handle.old.inner (λ sdp. count.new ≡ length (candidate_texts sdp)) }
+    ensures counted { result ≡ done → OfHandle handle.old.inner (λ sdp. count.new ≡ length (candidate_texts sdp)) }
     ensures kept { result ≢ done → count.new ≡ count.old }
 {
     let sdp = handle.take(alloc);
@@ -91,7 +91,7 @@ pub extern "C" fn zaxp_session_candidate(
 ) -> u32
     requires { IsRoomFull handle.old.inner }
     ensures same { handle.new.inner ≡ handle.old.inner }
-    ensures says { Of handle.old.inner (λ sdp. Says (slice_get (candidate_texts sdp) index) (room.old, needed.old) (result, room.new, needed.new)) }
+    ensures says { OfHandle handle.old.inner (λ sdp. Says (slice_get (candidate_texts sdp) index) (room.old, needed.old) (result, room.new, needed.new)) }
 {
     let sdp = handle.take(alloc);
     let code = put_candidate(alloc, &sdp, index, room, needed);

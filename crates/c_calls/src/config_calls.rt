@@ -1,21 +1,21 @@
 //! Calls that make, change and free configurations.
 
-ghost use Rattle.c_calls.specs.Common.{Of};
+ghost use Rattle.c_calls.specs.Common.{OfHandle};
 ghost use Rattle.c_calls.specs.ConfigCalls.{HasNoDefaultRows, IsRowAdded, IsEnabledInConfig, IsNoConfigRow, default_rows_of};
-ghost use Rattle.c_calls.specs.Prelude.{IsFormatOfLine, IsRoomFull, codec_at, enabled_rows, usual_rows};
+ghost use Rattle.c_calls.specs.Prelude.{IsFormatOfLine, IsRoomFull, row_codec_numbered, enabled_rows, usual_rows};
 ghost use Rattle.c_calls.specs.Told.{done, no_memory, no_utf8, wrong_argument};
 ghost use Rattle.std.specs.Prelude.{◌≡◌, ◌≢◌, ◌↔◌, ◌⊎◌, [], IfErr, IfNone, IfOk, IfSome, None, OnErr, OnOk, Some, IsUtf8};
 
 use crate::said::{DONE, NO_MEMORY, NO_UTF8, WRONG_ARGUMENT};
 use c_parts::config_handle::ConfigHandle;
-use c_parts::row::{codec_at, row_number_unless};
+use c_parts::row::{row_codec_numbered, row_number_unless};
 use std::alloc::{AllocError, Global};
 use std::str;
 use str0m_signal::{Codec, CodecConfig, FormatParams, Frequency, Pt};
 
 fn give_config(alloc: Global, handle: &mut ConfigHandle, config: CodecConfig) -> u32
     requires { handle.old.inner ≡ None }
-    ensures made { result ≡ done → Of handle.new.inner (λ given. given ≡ config) }
+    ensures made { result ≡ done → OfHandle handle.new.inner (λ given. given ≡ config) }
     ensures empty { result ≢ done → handle.new.inner ≡ None }
     ensures refused { result ≢ done → result ≡ no_memory }
 {
@@ -32,7 +32,7 @@ fn give_config(alloc: Global, handle: &mut ConfigHandle, config: CodecConfig) ->
 #[unsafe(no_mangle)]
 pub extern "C" fn zaxp_config_defaults(alloc: Global, handle: &mut ConfigHandle) -> u32
     requires { handle.old.inner ≡ None }
-    ensures made { result ≡ done → Of handle.new.inner (λ config. config.params.items ≡ usual_rows) }
+    ensures made { result ≡ done → OfHandle handle.new.inner (λ config. config.params.items ≡ usual_rows) }
     ensures empty { result ≢ done → handle.new.inner ≡ None }
     ensures refused { result ≢ done → result ≡ no_memory }
 {
@@ -46,7 +46,7 @@ pub extern "C" fn zaxp_config_defaults(alloc: Global, handle: &mut ConfigHandle)
 #[unsafe(no_mangle)]
 pub extern "C" fn zaxp_config_empty(alloc: Global, handle: &mut ConfigHandle) -> u32
     requires { handle.old.inner ≡ None }
-    ensures made { result ≡ done → Of handle.new.inner (λ config. config.params.items ≡ []) }
+    ensures made { result ≡ done → OfHandle handle.new.inner (λ config. config.params.items ≡ []) }
     ensures empty { result ≢ done → handle.new.inner ≡ None }
     ensures refused { result ≢ done → result ≡ no_memory }
 {
@@ -88,7 +88,7 @@ fn enable_config_at(config: &mut CodecConfig, number: u8, enabled: bool, use_red
     ensures same { result ≢ done → config.new ≡ config.old }
     ensures wrong { (result ≡ wrong_argument) ↔ HasNoDefaultRows number }
 {
-    let Some(codec) = codec_at(number) else {
+    let Some(codec) = row_codec_numbered(number) else {
         return WRONG_ARGUMENT;
     };
     match enable_config(config, codec, enabled, use_red) {
@@ -108,7 +108,7 @@ pub extern "C" fn zaxp_config_enable(
     use_red: bool,
 ) -> u32
     requires { IsRoomFull handle.old.inner }
-    ensures done { result ≡ done → Of handle.old.inner (λ before. Of handle.new.inner (IsEnabledInConfig codec enabled use_red before)) }
+    ensures done { result ≡ done → OfHandle handle.old.inner (λ before. OfHandle handle.new.inner (IsEnabledInConfig codec enabled use_red before)) }
     ensures same { result ≢ done → handle.new.inner ≡ handle.old.inner }
     ensures wrong { (result ≡ wrong_argument) ↔ HasNoDefaultRows codec }
 {
@@ -120,10 +120,10 @@ pub extern "C" fn zaxp_config_enable(
 
 /// The codec and the clock rate of a row; `None` where there is none of either.
 fn config_row_kind(codec: u8, clock_rate: u32) -> Option<(Codec, Frequency)>
-    ensures some { IfSome result (λ kind. (codec_at codec ≡ Some kind.0) × (kind.1 ≡ clock_rate) × (IsNoConfigRow codec clock_rate → ⊥)) }
+    ensures some { IfSome result (λ kind. (row_codec_numbered codec ≡ Some kind.0) × (kind.1 ≡ clock_rate) × (IsNoConfigRow codec clock_rate → ⊥)) }
     ensures none { IfNone result (IsNoConfigRow codec clock_rate) }
 {
-    let codec = codec_at(codec)?;
+    let codec = row_codec_numbered(codec)?;
     let clock_rate = Frequency::new(clock_rate)?;
     Some((codec, clock_rate))
 }
@@ -152,7 +152,7 @@ pub extern "C" fn zaxp_config_add(
     format: &[u8],
 ) -> u32
     requires { IsRoomFull handle.old.inner }
-    ensures done { result ≡ done → Of handle.old.inner (λ before. Of handle.new.inner (IsRowAdded pt rtx (codec, clock_rate, channels) format.now before)) }
+    ensures done { result ≡ done → OfHandle handle.old.inner (λ before. OfHandle handle.new.inner (IsRowAdded pt rtx (codec, clock_rate, channels) format.now before)) }
     ensures same { result ≢ done → handle.new.inner ≡ handle.old.inner }
     ensures wrong { (result ≡ wrong_argument) ↔ IsNoConfigRow codec clock_rate }
     ensures no_text { result ≡ no_utf8 → IsUtf8 format.now → ⊥ }

@@ -1,12 +1,12 @@
 //! Calls of exchanges: one side is made, and it answers offers.
 
-ghost use Rattle.c_calls.specs.Common.{Of};
-ghost use Rattle.c_calls.specs.ExchangeCalls.{AcceptsOffer, BeginsExchange, ExchangeGoes, state_number};
-ghost use Rattle.c_calls.specs.Prelude.{IsRoomFull, IsSound, RefusesOffer, RefusesOwnSide, SaysOwnSide, c_row, own_texts, state_of};
+ghost use Rattle.c_calls.specs.Common.{OfHandle};
+ghost use Rattle.c_calls.specs.ExchangeCalls.{AcceptsOffer, BeginsExchange, ExchangeGoes, exchange_state_number};
+ghost use Rattle.c_calls.specs.Prelude.{IsRoomFull, IsExchangeSound, RefusesOffer, RefusesOwnSide, SaysOwnSide, c_row, own_texts, state_of};
 ghost use Rattle.c_calls.specs.Said.{Says};
 ghost use Rattle.c_calls.specs.SectionCalls.{row_text_numbered, text_in};
 ghost use Rattle.c_calls.specs.Told.{done};
-ghost use Rattle.c_parts.specs.Fault.{RefusesBytes, ToldFault, FaultToldAt};
+ghost use Rattle.c_parts.specs.Fault.{FaultRefusesBytes, ToldFault, FaultToldAt};
 ghost use Rattle.std.specs.Prelude.{◌≡◌, ◌≢◌, IfErr, IfOk, None, OnErr, Some, map};
 
 use crate::row_calls::{put_row_text, put_rows, row_text_numbered};
@@ -84,7 +84,7 @@ pub extern "C" fn zaxp_exchange_new(
     ensures made { result ≡ done → BeginsExchange numbers.now
         (own_texts ice_ufrag.entry ice_pwd.entry fingerprint.entry stream_id.entry extensions.entry candidates.entry)
         config.old.inner handle.new.inner }
-    ensures sound { result ≡ done → Of handle.new.inner IsSound }
+    ensures sound { result ≡ done → OfHandle handle.new.inner IsExchangeSound }
     ensures taken { result ≡ done → config.new.inner ≡ None }
     ensures empty { result ≢ done → handle.new.inner ≡ None }
     ensures kept { result ≢ done → config.new.inner ≡ config.old.inner }
@@ -148,7 +148,7 @@ fn exchange_answered_bytes(
 ) -> Result<u64, Fault>
     ensures answered { IfOk result (AcceptsOffer exchange.old exchange.new offer.now place.new) }
     ensures same { OnErr result (exchange.new ≡ exchange.old) }
-    ensures refused { IfErr result (RefusesBytes offer.now (RefusesOffer exchange.old offer.now)) }
+    ensures refused { IfErr result (FaultRefusesBytes offer.now (RefusesOffer exchange.old offer.now)) }
 {
     match str::from_utf8(offer) {
         Ok(text) => match exchange_answered(exchange, text, place) {
@@ -177,8 +177,8 @@ pub extern "C" fn zaxp_exchange_accept_offer(
         handle.old.inner handle.new.inner answer.new.inner }
     ensures same { result ≢ done → handle.new.inner ≡ handle.old.inner }
     ensures empty { result ≢ done → answer.new.inner ≡ None }
-    ensures refused { result ≢ done → Of handle.old.inner (λ before.
-        FaultToldAt (RefusesBytes offer.now (RefusesOffer before offer.now)) result line.new) }
+    ensures refused { result ≢ done → OfHandle handle.old.inner (λ before.
+        FaultToldAt (FaultRefusesBytes offer.now (RefusesOffer before offer.now)) result line.new) }
 {
     *line = 0;
     let Ok(mut place) = exchange_description_place(alloc) else {
@@ -207,7 +207,7 @@ pub extern "C" fn zaxp_exchange_rows(
 ) -> u32
     requires { IsRoomFull handle.old.inner }
     ensures same { handle.new.inner ≡ handle.old.inner }
-    ensures says { Of handle.old.inner (λ it.
+    ensures says { OfHandle handle.old.inner (λ it.
         Says (Some (map c_row it.config.params.items)) (room.old, needed.old) (result, room.new, needed.new)) }
 {
     let exchange = handle.take(alloc);
@@ -228,7 +228,7 @@ pub extern "C" fn zaxp_exchange_text(
 ) -> u32
     requires { IsRoomFull handle.old.inner }
     ensures same { handle.new.inner ≡ handle.old.inner }
-    ensures says { Of handle.old.inner (λ it.
+    ensures says { OfHandle handle.old.inner (λ it.
         Says (text_in (row_text_numbered what) it.config.params.items row) (room.old, needed.old) (result, room.new, needed.new)) }
 {
     let exchange = handle.take(alloc);
@@ -238,8 +238,8 @@ pub extern "C" fn zaxp_exchange_text(
     code
 }
 
-fn state_number(state: SignalingState) -> u32
-    ensures { result ≡ state_number state }
+fn exchange_state_number(state: SignalingState) -> u32
+    ensures { result ≡ exchange_state_number state }
 {
     match state {
         SignalingState::Stable => 0,
@@ -252,10 +252,10 @@ fn state_number(state: SignalingState) -> u32
 pub extern "C" fn zaxp_exchange_state(alloc: Global, handle: &mut ExchangeHandle) -> u32
     requires { IsRoomFull handle.old.inner }
     ensures same { handle.new.inner ≡ handle.old.inner }
-    ensures state { Of handle.old.inner (λ it. result ≡ state_number (state_of it)) }
+    ensures state { OfHandle handle.old.inner (λ it. result ≡ exchange_state_number (state_of it)) }
 {
     let exchange = handle.take(alloc);
-    let state = state_number(exchange.state());
+    let state = exchange_state_number(exchange.state());
     handle.put(exchange);
     state
 }

@@ -36,14 +36,18 @@ fn has_text(line: &MediaAttribute, what: LineText) -> bool
 }
 
 /// The line at an index among those that say it.
-fn line_at(lines: &[MediaAttribute], what: LineText, index: usize) -> Option<&MediaAttribute>
+fn line_with_text_at(
+    lines: &[MediaAttribute],
+    what: LineText,
+    index: usize,
+) -> Option<&MediaAttribute>
     ensures { option_copied result ≡ slice_get (filter (λ line. is_some (text_of_line what line)) lines.now) index }
 {
     lines.iter().filter(|line| has_text(line, what)).nth(index)
 }
 
 /// What a printed line has behind a front of so many bytes and one more, without its end.
-fn line_behind_front(line: &[u8], front: usize) -> &[u8]
+fn line_text_behind_front(line: &[u8], front: usize) -> &[u8]
     requires { front + 2 ≤ length line.now }
     ensures { result.now ≡ drop (front + 1) (take (length line.now - 2) line.now) }
 {
@@ -52,7 +56,7 @@ fn line_behind_front(line: &[u8], front: usize) -> &[u8]
 }
 
 /// Writes what a rid line prints behind its direction and a space.
-fn put_restrictions(
+fn put_rid_line_restrictions(
     alloc: Global,
     line: &MediaAttribute,
     room: &mut [u8],
@@ -68,10 +72,10 @@ fn put_restrictions(
     };
     // (`a=` and a space stand beside these)
     let front = label::RID.len() + id.0.len() + direction.as_str().len() + 3;
-    put_said(line_behind_front(text.as_bytes(), front), room, needed)
+    put_said(line_text_behind_front(text.as_bytes(), front), room, needed)
 }
 
-fn put_line(
+fn put_text_of_line(
     alloc: Global,
     line: &MediaAttribute,
     what: LineText,
@@ -87,7 +91,7 @@ fn put_line(
         (LineText::RidName, MediaAttribute::Rid { id, .. }) => {
             put_said(id.0.as_str().as_bytes(), room, needed)
         }
-        (LineText::Restrictions, _) => put_restrictions(alloc, line, room, needed),
+        (LineText::Restrictions, _) => put_rid_line_restrictions(alloc, line, room, needed),
         (LineText::Semantics, MediaAttribute::SsrcGroup { semantics, .. }) => {
             put_said(semantics.as_str().as_bytes(), room, needed)
         }
@@ -107,8 +111,8 @@ pub(crate) fn put_line_text(
 ) -> u32
     ensures { Says (slice_get (filter_map (text_of_line what) lines.now) index) (room.old, needed.old) (result, room.new, needed.new) }
 {
-    match line_at(lines, what, index) {
-        Some(line) => put_line(alloc, line, what, room, needed),
+    match line_with_text_at(lines, what, index) {
+        Some(line) => put_text_of_line(alloc, line, what, room, needed),
         None => NO_SECTION,
     }
 }

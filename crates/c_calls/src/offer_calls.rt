@@ -1,10 +1,10 @@
 //! Calls of exchanges in which this side offers.
 
-ghost use Rattle.c_calls.specs.Common.{Of};
+ghost use Rattle.c_calls.specs.Common.{OfHandle};
 ghost use Rattle.c_calls.specs.ExchangeCalls.{AcceptsAnswer, CreatesOffer, ExchangeGoes, turned_exchange};
 ghost use Rattle.c_calls.specs.Prelude.{IsRoomFull, RefusesAnswer, RefusesSidePair, ExchangeRefusesChannels, RefusesMedia, RefusesToOffer, side_direction_numbered, side_kind_numbered, kind_rows, offer_with_channels, with_media};
 ghost use Rattle.c_calls.specs.Told.{done, no_memory, no_utf8, wrong_argument};
-ghost use Rattle.c_parts.specs.Fault.{RefusesCall, RefusesBytes, ToldFault, FaultToldAt};
+ghost use Rattle.c_parts.specs.Fault.{FaultRefusesCall, FaultRefusesBytes, ToldFault, FaultToldAt};
 ghost use Rattle.std.specs.Prelude.{◌≡◌, ◌≢◌, ◌<◌, ◌≤◌, ◌↔◌, ◌⊎◌, [], IfErr, IfOk, None, OnErr, OnOk, Some, length, true, IsUtf8};
 
 use crate::exchange_calls::exchange_description_place;
@@ -51,7 +51,7 @@ pub extern "C" fn zaxp_exchange_create_offer(
         handle.old.inner handle.new.inner offer.new.inner }
     ensures same { result ≢ done → handle.new.inner ≡ handle.old.inner }
     ensures empty { result ≢ done → offer.new.inner ≡ None }
-    ensures refused { result ≢ done → Of handle.old.inner (λ before. ToldFault (RefusesCall (RefusesToOffer before)) result) }
+    ensures refused { result ≢ done → OfHandle handle.old.inner (λ before. ToldFault (FaultRefusesCall (RefusesToOffer before)) result) }
 {
     let Ok(mut place) = exchange_description_place(alloc) else {
         return NO_MEMORY;
@@ -72,7 +72,7 @@ pub extern "C" fn zaxp_exchange_create_offer(
 fn offer_answer_taken(exchange: &mut Exchange, answer: &[u8]) -> Result<(), Fault>
     ensures taken { OnOk result (AcceptsAnswer exchange.old exchange.new answer.now) }
     ensures same { OnErr result (exchange.new ≡ exchange.old) }
-    ensures refused { IfErr result (RefusesBytes answer.now (RefusesAnswer exchange.old answer.now)) }
+    ensures refused { IfErr result (FaultRefusesBytes answer.now (RefusesAnswer exchange.old answer.now)) }
 {
     match str::from_utf8(answer) {
         Ok(text) => match exchange.accept_answer(text) {
@@ -94,11 +94,11 @@ pub extern "C" fn zaxp_exchange_accept_answer(
     message_length: &mut usize,
 ) -> u32
     requires { IsRoomFull handle.old.inner }
-    ensures taken { result ≡ done → Of handle.old.inner (λ before. Of handle.new.inner (λ after.
+    ensures taken { result ≡ done → OfHandle handle.old.inner (λ before. OfHandle handle.new.inner (λ after.
         AcceptsAnswer before after answer.now)) }
     ensures same { result ≢ done → handle.new.inner ≡ handle.old.inner }
-    ensures refused { result ≢ done → Of handle.old.inner (λ before.
-        FaultToldAt (RefusesBytes answer.now (RefusesAnswer before answer.now)) result line.new) }
+    ensures refused { result ≢ done → OfHandle handle.old.inner (λ before.
+        FaultToldAt (FaultRefusesBytes answer.now (RefusesAnswer before answer.now)) result line.new) }
 {
     let mut exchange = handle.take(alloc);
     let done = offer_answer_taken(&mut exchange, answer);
@@ -113,7 +113,7 @@ pub extern "C" fn zaxp_exchange_accept_answer(
 #[unsafe(no_mangle)]
 pub extern "C" fn zaxp_exchange_rollback(alloc: Global, handle: &mut ExchangeHandle)
     requires { IsRoomFull handle.old.inner }
-    ensures { Of handle.old.inner (λ before. handle.new.inner ≡ Some (record before { pending = None })) }
+    ensures { OfHandle handle.old.inner (λ before. handle.new.inner ≡ Some (record before { pending = None })) }
 {
     let mut exchange = handle.take(alloc);
     exchange.rollback();
@@ -131,13 +131,13 @@ pub extern "C" fn zaxp_exchange_add_media(
     message_length: &mut usize,
 ) -> u32
     requires { IsRoomFull handle.old.inner }
-    ensures added { result ≡ done → Of handle.old.inner (λ before.
+    ensures added { result ≡ done → OfHandle handle.old.inner (λ before.
         handle.new.inner ≡ Some (with_media (side_kind_numbered kind) (side_direction_numbered direction) before)) }
-    ensures has_rows { result ≡ done → Of handle.old.inner (λ before.
+    ensures has_rows { result ≡ done → OfHandle handle.old.inner (λ before.
         kind_rows (side_kind_numbered kind) true before.config.params.items ≢ []) }
     ensures same { result ≢ done → handle.new.inner ≡ handle.old.inner }
-    ensures refused { result ≢ done → Of handle.old.inner (λ before.
-        ToldFault (RefusesCall (RefusesMedia before (side_kind_numbered kind))) result) }
+    ensures refused { result ≢ done → OfHandle handle.old.inner (λ before.
+        ToldFault (FaultRefusesCall (RefusesMedia before (side_kind_numbered kind))) result) }
 {
     let mut exchange = handle.take(alloc);
     let done = exchange.add_media(side_kind_numbered(kind), side_direction_numbered(direction));
@@ -157,11 +157,11 @@ pub extern "C" fn zaxp_exchange_add_channels(
     message_length: &mut usize,
 ) -> u32
     requires { IsRoomFull handle.old.inner }
-    ensures added { result ≡ done → Of handle.old.inner (λ before.
+    ensures added { result ≡ done → OfHandle handle.old.inner (λ before.
         handle.new.inner ≡ Some (offer_with_channels before)) }
-    ensures has_channels { result ≡ done → Of handle.old.inner (λ before. before.own.channels ≢ None) }
+    ensures has_channels { result ≡ done → OfHandle handle.old.inner (λ before. before.own.channels ≢ None) }
     ensures same { result ≢ done → handle.new.inner ≡ handle.old.inner }
-    ensures refused { result ≢ done → Of handle.old.inner (λ before. ToldFault (RefusesCall (ExchangeRefusesChannels before)) result) }
+    ensures refused { result ≢ done → OfHandle handle.old.inner (λ before. ToldFault (FaultRefusesCall (ExchangeRefusesChannels before)) result) }
 {
     let mut exchange = handle.take(alloc);
     let done = exchange.add_channels();
@@ -190,7 +190,7 @@ pub extern "C" fn zaxp_exchange_restart_ice(
     pwd: &[u8],
 ) -> u32
     requires { IsRoomFull handle.old.inner }
-    ensures restarted { result ≡ done → Of handle.old.inner (λ before. handle.new.inner ≡ Some (record before {
+    ensures restarted { result ≡ done → OfHandle handle.old.inner (λ before. handle.new.inner ≡ Some (record before {
       own = record before.own { creds = record { ufrag = ufrag.now; pass = pwd.now } };
     })) }
     ensures same { result ≢ done → handle.new.inner ≡ handle.old.inner }
@@ -216,7 +216,7 @@ pub extern "C" fn zaxp_exchange_set_direction(
     direction: u8,
 ) -> u32
     requires { IsRoomFull handle.old.inner }
-    ensures turned { result ≡ done → Of handle.old.inner (λ before.
+    ensures turned { result ≡ done → OfHandle handle.old.inner (λ before.
         handle.new.inner ≡ Some (turned_exchange mid.now (side_direction_numbered direction) before)) }
     ensures same { result ≢ done → handle.new.inner ≡ handle.old.inner }
     ensures statuses { (result ≡ done) ⊎ (result ≡ no_memory) ⊎ (result ≡ no_utf8) ⊎ (result ≡ wrong_argument) }

@@ -1,11 +1,11 @@
 //! Calls that negotiate, and that answer with what is agreed.
 
-ghost use Rattle.c_calls.specs.Common.{Of};
-ghost use Rattle.c_calls.specs.Prelude.{Described, IsRoomFull, MediaLine, RefusesReading, Sdp, Writable, c_outcome, made};
+ghost use Rattle.c_calls.specs.Common.{OfHandle};
+ghost use Rattle.c_calls.specs.Prelude.{DescribesSession, IsRoomFull, MediaLine, RefusesReading, Sdp, Writable, c_outcome, made};
 ghost use Rattle.c_calls.specs.RoundCalls.{AnsweredRound, CantAnswer, CantListRoundRows, ListsRoundRows, round_rows_of_type, RanRounds, RanHeldRound, cut_to_room};
 ghost use Rattle.c_calls.specs.Told.{done, no_memory, no_section, no_session, no_utf8, nothing_agreed};
 ghost use Rattle.std.specs.Prelude.{◌≡◌, ◌≢◌, ◌↔◌, ◌⊎◌, [], IfErr, IfNone, IfOk, IfSome, OnErr, OnOk, List, None, Some, ℕ, length, map, slice_get, IsUtf8};
-ghost use Rattle.str0m_signal.specs.session.ReaderAnswers.{Refuses};
+ghost use Rattle.str0m_signal.specs.session.ReaderAnswers.{ReaderRefuses};
 
 use crate::said::{DONE, NO_MEMORY, NO_SECTION, NOTHING_AGREED, say_refusal};
 use c_parts::config_handle::ConfigHandle;
@@ -30,7 +30,11 @@ fn fill_round_outcomes(room: &mut [Outcome], outcomes: &[Result<(), NegotiationE
 }
 
 /// Writes as many of the first outcomes as there is room for.
-fn put_outcomes(outcomes: &[Result<(), NegotiationError>], room: &mut [Outcome], needed: &mut usize)
+fn put_round_outcomes(
+    outcomes: &[Result<(), NegotiationError>],
+    room: &mut [Outcome],
+    needed: &mut usize,
+)
     ensures needed { needed.new ≡ length outcomes.now }
     ensures written { room.new ≡ cut_to_room (map c_outcome outcomes.now) room.old }
 {
@@ -54,10 +58,10 @@ fn negotiated_text(
     ensures same { OnErr result (config.new ≡ config.old) }
     ensures kept { OnErr result (room.new ≡ room.old) }
     ensures uncounted { OnErr result (needed.new ≡ needed.old) }
-    ensures refused { IfErr result (λ error. Refuses error (Described text.now)) }
+    ensures refused { IfErr result (λ error. ReaderRefuses error (DescribesSession text.now)) }
 {
     let outcomes = negotiate_text(config, text)?;
-    put_outcomes(outcomes.as_slice(), room, needed);
+    put_round_outcomes(outcomes.as_slice(), room, needed);
     Ok(())
 }
 
@@ -98,7 +102,7 @@ pub extern "C" fn zaxp_config_negotiate(
     ensures same { result ≢ done → handle.new.inner ≡ handle.old.inner }
     ensures kept { result ≢ done → room.new ≡ room.old }
     ensures uncounted { result ≢ done → needed.new ≡ needed.old }
-    ensures no_session { result ≡ no_session → (sdp : Sdp) → Described text.now sdp → ⊥ }
+    ensures no_session { result ≡ no_session → (sdp : Sdp) → DescribesSession text.now sdp → ⊥ }
     ensures no_text { result ≡ no_utf8 → IsUtf8 text.now → ⊥ }
 {
     *message_length = 0;
@@ -181,7 +185,7 @@ pub extern "C" fn zaxp_config_answer(
     ensures statuses { (result ≡ done) ⊎ (result ≡ no_memory) ⊎ (result ≡ no_section) ⊎ (result ≡ nothing_agreed) }
     ensures answered { result ≡ done → AnsweredRound handle.old.inner own.old.inner at own.new.inner }
     ensures kept { result ≢ done → own.new.inner ≡ own.old.inner }
-    ensures missing { Of own.old.inner (λ sdp. (result ≡ no_section) ↔ (slice_get sdp.media_lines at ≡ None)) }
+    ensures missing { OfHandle own.old.inner (λ sdp. (result ≡ no_section) ↔ (slice_get sdp.media_lines at ≡ None)) }
     ensures nothing { result ≡ nothing_agreed → CantAnswer handle.old.inner own.old.inner at }
 {
     let config = handle.take(alloc);

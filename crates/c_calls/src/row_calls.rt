@@ -1,6 +1,6 @@
 //! Calls of rows, and what is written of a row.
 
-ghost use Rattle.c_calls.specs.Common.{Of};
+ghost use Rattle.c_calls.specs.Common.{OfHandle};
 ghost use Rattle.c_calls.specs.Prelude.{IsRoomFull, c_row, rows};
 ghost use Rattle.c_calls.specs.Said.{Says};
 ghost use Rattle.c_calls.specs.SectionCalls.{row_text, row_text_numbered, text_in};
@@ -97,7 +97,7 @@ pub extern "C" fn zaxp_config_rows(
 ) -> u32
     requires { IsRoomFull handle.old.inner }
     ensures same { handle.new.inner ≡ handle.old.inner }
-    ensures says { Of handle.old.inner (λ config. Says (Some (map c_row config.params.items)) (room.old, needed.old) (result, room.new, needed.new)) }
+    ensures says { OfHandle handle.old.inner (λ config. Says (Some (map c_row config.params.items)) (room.old, needed.old) (result, room.new, needed.new)) }
 {
     let config = handle.take(alloc);
     let code = put_rows(alloc, config.params(), room, needed);
@@ -117,7 +117,7 @@ pub extern "C" fn zaxp_config_text(
 ) -> u32
     requires { IsRoomFull handle.old.inner }
     ensures same { handle.new.inner ≡ handle.old.inner }
-    ensures says { Of handle.old.inner (λ config.
+    ensures says { OfHandle handle.old.inner (λ config.
         Says (text_in (row_text_numbered what) config.params.items row) (room.old, needed.old) (result, room.new, needed.new)) }
 {
     let config = handle.take(alloc);

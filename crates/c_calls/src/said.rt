@@ -1,6 +1,6 @@
 //! What a call answers.
 
-ghost use Rattle.c_calls.specs.Prelude.{Described, RefusesReading, Sdp};
+ghost use Rattle.c_calls.specs.Prelude.{DescribesSession, RefusesReading, Sdp};
 ghost use Rattle.c_calls.specs.Said.{PutsText, Says};
 ghost use Rattle.c_calls.specs.Told.{done, no_session, no_utf8};
 ghost use Rattle.std.specs.Prelude.{◌≡◌, ◌≢◌, IfOk, Some, List, ℕ, string_bytes, IsUtf8};
@@ -58,7 +58,7 @@ pub(crate) fn say_refusal(
     message_length: &mut usize,
 ) -> u32
     ensures refused { result ≢ done }
-    ensures no_session { (text : List ℕ) → RefusesReading refusal.now text → result ≡ no_session → (sdp : Sdp) → Described text sdp → ⊥ }
+    ensures no_session { (text : List ℕ) → RefusesReading refusal.now text → result ≡ no_session → (sdp : Sdp) → DescribesSession text sdp → ⊥ }
     ensures no_text { (text : List ℕ) → RefusesReading refusal.now text → result ≡ no_utf8 → IsUtf8 text → ⊥ }
 {
     if let Ok(text) = refusal.message(alloc) {

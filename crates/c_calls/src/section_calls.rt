@@ -1,6 +1,6 @@
 //! Calls of sections.
 
-ghost use Rattle.c_calls.specs.Common.{Of};
+ghost use Rattle.c_calls.specs.Common.{OfHandle};
 ghost use Rattle.c_calls.specs.Prelude.{IsRoomFull, Writable};
 ghost use Rattle.c_calls.specs.Said.{SaysOne};
 ghost use Rattle.c_calls.specs.SectionCalls.{section_at};
@@ -35,7 +35,7 @@ pub extern "C" fn zaxp_session_section(
 ) -> u32
     requires { IsRoomFull handle.old.inner }
     ensures same { handle.new.inner ≡ handle.old.inner }
-    ensures given { Of handle.old.inner (λ sdp. SaysOne (section_at sdp at) info.old (result, info.new)) }
+    ensures given { OfHandle handle.old.inner (λ sdp. SaysOne (section_at sdp at) info.old (result, info.new)) }
 {
     let sdp = handle.take(alloc);
     let code = give_section(&sdp, at, info);
@@ -72,9 +72,9 @@ pub extern "C" fn zaxp_session_is_writable(
     requires { IsRoomFull handle.old.inner }
     ensures same { handle.new.inner ≡ handle.old.inner }
     ensures statuses { (result ≡ done) ⊎ (result ≡ no_memory) ⊎ (result ≡ no_section) }
-    ensures tested { result ≡ done → Of handle.old.inner (λ sdp. IsTrue writable.new ↔ Writable sdp at) }
+    ensures tested { result ≡ done → OfHandle handle.old.inner (λ sdp. IsTrue writable.new ↔ Writable sdp at) }
     ensures kept { result ≢ done → writable.new ≡ writable.old }
-    ensures missing { Of handle.old.inner (λ sdp. (result ≡ no_section) ↔ (slice_get sdp.media_lines at ≡ None)) }
+    ensures missing { OfHandle handle.old.inner (λ sdp. (result ≡ no_section) ↔ (slice_get sdp.media_lines at ≡ None)) }
 {
     let sdp = handle.take(alloc);
     let code = test_section(&sdp, at, writable);

@@ -1,6 +1,6 @@
 //! Calls that write what a section lists.
 
-ghost use Rattle.c_calls.specs.Common.{Of};
+ghost use Rattle.c_calls.specs.Common.{OfHandle};
 ghost use Rattle.c_calls.specs.Prelude.{IsRoomFull, c_extensions, c_layers, c_rids, c_rows, c_source_groups, c_sources};
 ghost use Rattle.c_calls.specs.Said.{Says};
 ghost use Rattle.c_calls.specs.SectionCalls.{section_list_at};
@@ -57,7 +57,7 @@ fn list<T: SectionItem>(
 ) -> u32
     requires { IsRoomFull handle.old.inner }
     ensures same { handle.new.inner ≡ handle.old.inner }
-    ensures says { Of handle.old.inner (λ sdp. Says (section_list_at T.listed sdp at) (room.old, needed.old) (result, room.new, needed.new)) }
+    ensures says { OfHandle handle.old.inner (λ sdp. Says (section_list_at T.listed sdp at) (room.old, needed.old) (result, room.new, needed.new)) }
 {
     let sdp = handle.take(alloc);
     let code = put_list_at(alloc, &sdp, at, room, needed);
@@ -76,7 +76,7 @@ pub extern "C" fn zaxp_session_rows(
 ) -> u32
     requires { IsRoomFull handle.old.inner }
     ensures same { handle.new.inner ≡ handle.old.inner }
-    ensures says { Of handle.old.inner (λ sdp. Says (section_list_at c_rows sdp at) (room.old, needed.old) (result, room.new, needed.new)) }
+    ensures says { OfHandle handle.old.inner (λ sdp. Says (section_list_at c_rows sdp at) (room.old, needed.old) (result, room.new, needed.new)) }
 {
     list::<Row>(alloc, handle, at, room, needed)
 }
@@ -92,7 +92,7 @@ pub extern "C" fn zaxp_session_extensions(
 ) -> u32
     requires { IsRoomFull handle.old.inner }
     ensures same { handle.new.inner ≡ handle.old.inner }
-    ensures says { Of handle.old.inner (λ sdp. Says (section_list_at c_extensions sdp at) (room.old, needed.old) (result, room.new, needed.new)) }
+    ensures says { OfHandle handle.old.inner (λ sdp. Says (section_list_at c_extensions sdp at) (room.old, needed.old) (result, room.new, needed.new)) }
 {
     list::<SectionExtension>(alloc, handle, at, room, needed)
 }
@@ -108,7 +108,7 @@ pub extern "C" fn zaxp_session_rids(
 ) -> u32
     requires { IsRoomFull handle.old.inner }
     ensures same { handle.new.inner ≡ handle.old.inner }
-    ensures says { Of handle.old.inner (λ sdp. Says (section_list_at c_rids sdp at) (room.old, needed.old) (result, room.new, needed.new)) }
+    ensures says { OfHandle handle.old.inner (λ sdp. Says (section_list_at c_rids sdp at) (room.old, needed.old) (result, room.new, needed.new)) }
 {
     list::<SectionRid>(alloc, handle, at, room, needed)
 }
@@ -124,7 +124,7 @@ pub extern "C" fn zaxp_session_layers(
 ) -> u32
     requires { IsRoomFull handle.old.inner }
     ensures same { handle.new.inner ≡ handle.old.inner }
-    ensures says { Of handle.old.inner (λ sdp. Says (section_list_at c_layers sdp at) (room.old, needed.old) (result, room.new, needed.new)) }
+    ensures says { OfHandle handle.old.inner (λ sdp. Says (section_list_at c_layers sdp at) (room.old, needed.old) (result, room.new, needed.new)) }
 {
     list::<SectionLayer>(alloc, handle, at, room, needed)
 }
@@ -140,7 +140,7 @@ pub extern "C" fn zaxp_session_sources(
 ) -> u32
     requires { IsRoomFull handle.old.inner }
     ensures same { handle.new.inner ≡ handle.old.inner }
-    ensures says { Of handle.old.inner (λ sdp. Says (section_list_at c_sources sdp at) (room.old, needed.old) (result, room.new, needed.new)) }
+    ensures says { OfHandle handle.old.inner (λ sdp. Says (section_list_at c_sources sdp at) (room.old, needed.old) (result, room.new, needed.new)) }
 {
     list::<SectionSource>(alloc, handle, at, room, needed)
 }
@@ -156,7 +156,7 @@ pub extern "C" fn zaxp_session_source_groups(
 ) -> u32
     requires { IsRoomFull handle.old.inner }
     ensures same { handle.new.inner ≡ handle.old.inner }
-    ensures says { Of handle.old.inner (λ sdp. Says (section_list_at c_source_groups sdp at) (room.old, needed.old) (result, room.new, needed.new)) }
+    ensures says { OfHandle handle.old.inner (λ sdp. Says (section_list_at c_source_groups sdp at) (room.old, needed.old) (result, room.new, needed.new)) }
 {
     list::<SourceInGroup>(alloc, handle, at, room, needed)
 }

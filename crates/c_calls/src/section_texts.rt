@@ -1,6 +1,6 @@
 //! Calls that write a text of a section.
 
-ghost use Rattle.c_calls.specs.Common.{Of};
+ghost use Rattle.c_calls.specs.Common.{OfHandle};
 ghost use Rattle.c_calls.specs.Prelude.{IsRoomFull, first, last, msid_of, simulcast_of};
 ghost use Rattle.c_calls.specs.Said.{PutsText, Says};
 ghost use Rattle.c_calls.specs.SectionTexts.{ids_text, section_layer_name, section_layers_both_ways, section_text, text_at, text_numbered};
@@ -153,7 +153,7 @@ pub extern "C" fn zaxp_session_text(
 ) -> u32
     requires { IsRoomFull handle.old.inner }
     ensures same { handle.new.inner ≡ handle.old.inner }
-    ensures says { Of handle.old.inner (λ sdp.
+    ensures says { OfHandle handle.old.inner (λ sdp.
         Says (text_at (text_numbered what) sdp at index) (room.old, needed.old) (result, room.new, needed.new)) }
 {
     let sdp = handle.take(alloc);

@@ -1,7 +1,7 @@
 //! Calls of descriptions.
 
-ghost use Rattle.c_calls.specs.Common.{Of};
-ghost use Rattle.c_calls.specs.Prelude.{Described, IsRoomFull, IsJsonText, Reading, Sdp, sdp_text, versioned_text};
+ghost use Rattle.c_calls.specs.Common.{OfHandle};
+ghost use Rattle.c_calls.specs.Prelude.{DescribesSession, IsRoomFull, IsJsonText, Reading, Sdp, sdp_text, versioned_text};
 ghost use Rattle.c_calls.specs.Said.{PutsText, Says, SaysSome};
 ghost use Rattle.c_calls.specs.SectionCalls.{section_mid_at};
 ghost use Rattle.c_calls.specs.SessionCalls.{session_mid_named, session_mid_or_empty};
@@ -27,7 +27,7 @@ pub extern "C" fn zaxp_session_read(
 ) -> u32
     requires { handle.old.inner ≡ None }
     ensures read { result ≡ done → (sdp : Sdp) × (rest : List ℕ) × (handle.new.inner ≡ Some sdp) × Reading text.now (sdp, rest) × (unread.new ≡ length rest) }
-    ensures no_session { result ≡ no_session → (sdp : Sdp) → Described text.now sdp → ⊥ }
+    ensures no_session { result ≡ no_session → (sdp : Sdp) → DescribesSession text.now sdp → ⊥ }
     ensures no_text { result ≡ no_utf8 → IsUtf8 text.now → ⊥ }
     ensures empty { result ≢ done → handle.new.inner ≡ None }
 {
@@ -50,7 +50,7 @@ pub extern "C" fn zaxp_session_read(
 pub extern "C" fn zaxp_session_sections(alloc: Global, handle: &mut SessionHandle) -> usize
     requires { IsRoomFull handle.old.inner }
     ensures same { handle.new.inner ≡ handle.old.inner }
-    ensures count { Of handle.old.inner (λ sdp. result ≡ length sdp.media_lines) }
+    ensures count { OfHandle handle.old.inner (λ sdp. result ≡ length sdp.media_lines) }
 {
     let sdp = handle.take(alloc);
     let count = sdp.media_lines.len();
@@ -74,7 +74,7 @@ pub extern "C" fn zaxp_session_print(
 ) -> u32
     requires { IsRoomFull handle.old.inner }
     ensures same { handle.new.inner ≡ handle.old.inner }
-    ensures says { Of handle.old.inner (λ sdp. Says (Some (sdp_text sdp)) (room.old, needed.old) (result, room.new, needed.new)) }
+    ensures says { OfHandle handle.old.inner (λ sdp. Says (Some (sdp_text sdp)) (room.old, needed.old) (result, room.new, needed.new)) }
 {
     let sdp = handle.take(alloc);
     let code = put_text(alloc, &sdp, room, needed);
@@ -105,7 +105,7 @@ pub extern "C" fn zaxp_session_print_version(
 ) -> u32
     requires { IsRoomFull handle.old.inner }
     ensures same { handle.new.inner ≡ handle.old.inner }
-    ensures says { Of handle.old.inner (λ sdp. Says (Some (versioned_text version sdp)) (room.old, needed.old) (result, room.new, needed.new)) }
+    ensures says { OfHandle handle.old.inner (λ sdp. Says (Some (versioned_text version sdp)) (room.old, needed.old) (result, room.new, needed.new)) }
 {
     let sdp = handle.take(alloc);
     let code = put_versioned_session(alloc, &sdp, version, room, needed);
@@ -179,7 +179,7 @@ pub extern "C" fn zaxp_session_mid(
 ) -> u32
     requires { IsRoomFull handle.old.inner }
     ensures same { handle.new.inner ≡ handle.old.inner }
-    ensures says { Of handle.old.inner (λ sdp. PutsText (section_mid_at sdp at) (room.old, needed.old) (result, room.new, needed.new)) }
+    ensures says { OfHandle handle.old.inner (λ sdp. PutsText (section_mid_at sdp at) (room.old, needed.old) (result, room.new, needed.new)) }
 {
     let sdp = handle.take(alloc);
     let code = put_session_mid_at(&sdp, at, room, needed);

@@ -1,7 +1,7 @@
 //! What a call of an exchange tells where it is refused.
 
 ghost use Rattle.c_calls.specs.Told.{done};
-ghost use Rattle.c_parts.specs.Fault.{error_code, fault_code, line_of_fault};
+ghost use Rattle.c_parts.specs.Fault.{fault_code_of_error, fault_code, line_of_fault};
 ghost use Rattle.std.specs.Prelude.{◌≡◌, ◌≢◌};
 
 use c_parts::fault::Fault;
@@ -35,7 +35,7 @@ pub(crate) fn tell_error(
     message: &mut [u8],
     message_length: &mut usize,
 ) -> u32
-    ensures code { result ≡ error_code error }
+    ensures code { result ≡ fault_code_of_error error }
     ensures refused { result ≢ done }
 {
     let mut line = 0;

@@ -1,6 +1,6 @@
 //! Calls of the transport that a description speaks of.
 
-ghost use Rattle.c_calls.specs.Common.{Of};
+ghost use Rattle.c_calls.specs.Common.{OfHandle};
 ghost use Rattle.c_calls.specs.Prelude.{IsRoomFull, sdp_creds, sdp_setup, section_setup_number};
 ghost use Rattle.c_calls.specs.Said.{Says, SaysSome};
 ghost use Rattle.c_calls.specs.TransportCalls.{IsPreferredText, pwd_of, ufrag_of};
@@ -32,7 +32,7 @@ pub extern "C" fn zaxp_session_ice_ufrag(
 ) -> u32
     requires { IsRoomFull handle.old.inner }
     ensures same { handle.new.inner ≡ handle.old.inner }
-    ensures says { Of handle.old.inner (λ sdp. Says (Some (ufrag_of (sdp_creds sdp))) (room.old, needed.old) (result, room.new, needed.new)) }
+    ensures says { OfHandle handle.old.inner (λ sdp. Says (Some (ufrag_of (sdp_creds sdp))) (room.old, needed.old) (result, room.new, needed.new)) }
 {
     let sdp = handle.take(alloc);
     let code = put_ufrag(&sdp, room, needed);
@@ -60,7 +60,7 @@ pub extern "C" fn zaxp_session_ice_pwd(
 ) -> u32
     requires { IsRoomFull handle.old.inner }
     ensures same { handle.new.inner ≡ handle.old.inner }
-    ensures says { Of handle.old.inner (λ sdp. Says (Some (pwd_of (sdp_creds sdp))) (room.old, needed.old) (result, room.new, needed.new)) }
+    ensures says { OfHandle handle.old.inner (λ sdp. Says (Some (pwd_of (sdp_creds sdp))) (room.old, needed.old) (result, room.new, needed.new)) }
 {
     let sdp = handle.take(alloc);
     let code = put_pwd(&sdp, room, needed);
@@ -97,7 +97,7 @@ pub extern "C" fn zaxp_session_fingerprint(
 ) -> u32
     requires { IsRoomFull handle.old.inner }
     ensures same { handle.new.inner ≡ handle.old.inner }
-    ensures says { Of handle.old.inner (λ sdp. SaysSome (IsPreferredText sdp) (room.old, needed.old) (result, room.new, needed.new)) }
+    ensures says { OfHandle handle.old.inner (λ sdp. SaysSome (IsPreferredText sdp) (room.old, needed.old) (result, room.new, needed.new)) }
 {
     let sdp = handle.take(alloc);
     let code = put_fingerprint(alloc, &sdp, room, needed);
@@ -110,7 +110,7 @@ pub extern "C" fn zaxp_session_fingerprint(
 pub extern "C" fn zaxp_session_setup(alloc: Global, handle: &mut SessionHandle) -> u8
     requires { IsRoomFull handle.old.inner }
     ensures same { handle.new.inner ≡ handle.old.inner }
-    ensures setup { Of handle.old.inner (λ sdp. result ≡ section_setup_number (sdp_setup sdp)) }
+    ensures setup { OfHandle handle.old.inner (λ sdp. result ≡ section_setup_number (sdp_setup sdp)) }
 {
     let sdp = handle.take(alloc);
     let setup = section_setup_of(sdp.setup());

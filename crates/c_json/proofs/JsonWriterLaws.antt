@@ -1,6 +1,6 @@
 -- Each token that may come next leads to the levels behind it.
 use Rattle.c_json.specs.Description.{IsJsonText}
-use Rattle.c_json.specs.JsonWriter.{Level, object, named, list, json_closed, json_valued, json_after_token, json_open_levels, InObject}
+use Rattle.c_json.specs.JsonWriter.{JsonLevel, object, named, list, json_closed, json_valued, json_after_token, json_open_levels, InObject}
 use Rattle.c_json.specs.JsonWriter.{InList}
 use Rattle.c_json.specs.JsonWriter.{WantsJsonValue}
 use Rattle.c_json.specs.JsonWriter.{MayBeJson}
@@ -86,7 +86,7 @@ list_value ts are =
 
 -- ---- a value within levels
 
-json_put_within : (ls : List Level) (ts vs : List Token) → IsJsonFront ls ts → IsJsonValue vs → LeadsJson ls (ts ++ vs)
+json_put_within : (ls : List JsonLevel) (ts vs : List Token) → IsJsonFront ls ts → IsJsonValue vs → LeadsJson ls (ts ++ vs)
 json_put_within [] ts vs front value = record {
   value = value.value;
   written = value.written;
@@ -110,28 +110,28 @@ json_put_within (list ∷ ls) ts vs (outer, items, front, are, is) value = (
   ap (λ t. t ++ vs) is ∙ append_assoc outer (begin_array ∷ items) vs,
 )
 
-json_put_scalar : (ls : List Level) (ts : List Token) (t : Token) → LeadsJson ls ts → WantsJsonValue ls → IsJsonValue (t ∷ [])
+json_put_scalar : (ls : List JsonLevel) (ts : List Token) (t : Token) → LeadsJson ls ts → WantsJsonValue ls → IsJsonValue (t ∷ [])
     → LeadsJson (json_valued ls) (ts ++ t ∷ [])
 json_put_scalar [] ts t leads wants value = absurd wants
 json_put_scalar (object ∷ ls) ts t leads wants value = absurd wants
 json_put_scalar (named ∷ ls) ts t leads wants value = json_put_within (object ∷ ls) ts (t ∷ []) leads value
 json_put_scalar (list ∷ ls) ts t leads wants value = json_put_within (list ∷ ls) ts (t ∷ []) leads value
 
-begin_members : (ls : List Level) (ts : List Token) → LeadsJson ls ts → WantsJsonValue ls
+begin_members : (ls : List JsonLevel) (ts : List Token) → LeadsJson ls ts → WantsJsonValue ls
     → LeadsJson (object ∷ json_valued ls) (ts ++ begin_object ∷ [])
 begin_members [] ts leads wants = absurd wants
 begin_members (object ∷ ls) ts leads wants = absurd wants
 begin_members (named ∷ ls) ts leads wants = (ts, [], leads, no_members, refl)
 begin_members (list ∷ ls) ts leads wants = (ts, [], leads, no_members, refl)
 
-json_begin_items : (ls : List Level) (ts : List Token) → LeadsJson ls ts → WantsJsonValue ls
+json_begin_items : (ls : List JsonLevel) (ts : List Token) → LeadsJson ls ts → WantsJsonValue ls
     → LeadsJson (list ∷ json_valued ls) (ts ++ begin_array ∷ [])
 json_begin_items [] ts leads wants = absurd wants
 json_begin_items (object ∷ ls) ts leads wants = absurd wants
 json_begin_items (named ∷ ls) ts leads wants = (ts, [], leads, json_no_items, refl)
 json_begin_items (list ∷ ls) ts leads wants = (ts, [], leads, json_no_items, refl)
 
-end_members : (ls : List Level) (ts : List Token) → LeadsJson ls ts → InObject ls → LeadsJson (json_closed ls) (ts ++ end_object ∷ [])
+end_members : (ls : List JsonLevel) (ts : List Token) → LeadsJson ls ts → InObject ls → LeadsJson (json_closed ls) (ts ++ end_object ∷ [])
 end_members [] ts leads inside = absurd inside
 end_members (object ∷ ls) ts (outer, members, front, are, is) inside =
     subst (LeadsJson ls) (sym (ap (λ t. t ++ end_object ∷ []) is ∙ append_assoc outer (begin_object ∷ members) (end_object ∷ [])))
@@ -139,7 +139,7 @@ end_members (object ∷ ls) ts (outer, members, front, are, is) inside =
 end_members (named ∷ ls) ts leads inside = absurd inside
 end_members (list ∷ ls) ts leads inside = absurd inside
 
-json_end_items : (ls : List Level) (ts : List Token) → LeadsJson ls ts → InList ls → LeadsJson (json_closed ls) (ts ++ end_array ∷ [])
+json_end_items : (ls : List JsonLevel) (ts : List Token) → LeadsJson ls ts → InList ls → LeadsJson (json_closed ls) (ts ++ end_array ∷ [])
 json_end_items [] ts leads inside = absurd inside
 json_end_items (object ∷ ls) ts leads inside = absurd inside
 json_end_items (named ∷ ls) ts leads inside = absurd inside
@@ -147,7 +147,7 @@ json_end_items (list ∷ ls) ts (outer, items, front, are, is) inside =
     subst (LeadsJson ls) (sym (ap (λ t. t ++ end_array ∷ []) is ∙ append_assoc outer (begin_array ∷ items) (end_array ∷ [])))
     (json_put_within ls outer (begin_array ∷ (items ++ end_array ∷ [])) front (list_value items are))
 
-put_key : (ls : List Level) (ts : List Token) (k : List ℕ) → LeadsJson ls ts → InObject ls
+put_key : (ls : List JsonLevel) (ts : List Token) (k : List ℕ) → LeadsJson ls ts → InObject ls
     → LeadsJson (named ∷ json_closed ls) (ts ++ key k ∷ [])
 put_key [] ts k leads inside = absurd inside
 put_key (object ∷ ls) ts k (outer, members, front, are, is) inside = (
@@ -161,7 +161,7 @@ put_key (object ∷ ls) ts k (outer, members, front, are, is) inside = (
 put_key (named ∷ ls) ts k leads inside = absurd inside
 put_key (list ∷ ls) ts k leads inside = absurd inside
 
-json_put_token : (ls : List Level) (ts : List Token) (t : Token) → LeadsJson ls ts → MayBeJson ls t
+json_put_token : (ls : List JsonLevel) (ts : List Token) (t : Token) → LeadsJson ls ts → MayBeJson ls t
     → LeadsJson (json_after_token ls t) (ts ++ t ∷ [])
 json_put_token ls ts begin_object leads may = begin_members ls ts leads may
 json_put_token ls ts end_object leads may = end_members ls ts leads may
@@ -176,7 +176,7 @@ json_put_token ls ts bad leads may = absurd may
 
 -- ---- for the writer
 
-pub json_may_be_printed : (ls : List Level) (t : Token) → MayBeJson ls t → IsPrintable t
+pub json_may_be_printed : (ls : List JsonLevel) (t : Token) → MayBeJson ls t → IsPrintable t
 json_may_be_printed ls begin_object may = tt
 json_may_be_printed ls end_object may = tt
 json_may_be_printed ls begin_array may = tt
@@ -231,19 +231,19 @@ begun_object before ts empty is = record {
 }
 
 -- a member, and an item, lead where they began
-pub behind_member : (ls : List Level) → InObject ls → object ∷ json_closed ls ≡ ls
+pub behind_member : (ls : List JsonLevel) → InObject ls → object ∷ json_closed ls ≡ ls
 behind_member [] inside = absurd inside
 behind_member (object ∷ ls) inside = refl
 behind_member (named ∷ ls) inside = absurd inside
 behind_member (list ∷ ls) inside = absurd inside
 
-pub json_behind_item : (ls : List Level) → InList ls → json_valued ls ≡ ls
+pub json_behind_item : (ls : List JsonLevel) → InList ls → json_valued ls ≡ ls
 json_behind_item [] inside = absurd inside
 json_behind_item (object ∷ ls) inside = absurd inside
 json_behind_item (named ∷ ls) inside = absurd inside
 json_behind_item (list ∷ ls) inside = refl
 
-pub json_item_wanted : (ls : List Level) → InList ls → WantsJsonValue ls
+pub json_item_wanted : (ls : List JsonLevel) → InList ls → WantsJsonValue ls
 json_item_wanted [] inside = absurd inside
 json_item_wanted (object ∷ ls) inside = absurd inside
 json_item_wanted (named ∷ ls) inside = absurd inside

@@ -7,25 +7,25 @@ use Rattle.serde_json.specs.Written.{blank, blank_items, blank_members, outline,
 use Rattle.std.specs.Prelude.{◌≡◌, ℕ, List, [], ◌∷◌, ◌++◌, fold}
 
 -- an object, one whose last key waits for its value, or a list
-pub data Level : Type 0 where
-  object : Level
-  named : Level
-  list : Level
+pub data JsonLevel : Type 0 where
+  object : JsonLevel
+  named : JsonLevel
+  list : JsonLevel
 
 -- without the innermost one
-abbrev pub json_closed : List Level → List Level
+abbrev pub json_closed : List JsonLevel → List JsonLevel
 json_closed [] = []
 json_closed (l ∷ ls) = ls
 
 -- behind a value
-abbrev pub json_valued : List Level → List Level
+abbrev pub json_valued : List JsonLevel → List JsonLevel
 json_valued [] = []
 json_valued (object ∷ ls) = object ∷ ls
 json_valued (named ∷ ls) = object ∷ ls
 json_valued (list ∷ ls) = list ∷ ls
 
 -- behind a token
-abbrev pub json_after_token : List Level → Token → List Level
+abbrev pub json_after_token : List JsonLevel → Token → List JsonLevel
 json_after_token ls begin_object = object ∷ json_valued ls
 json_after_token ls end_object = json_closed ls
 json_after_token ls begin_array = list ∷ json_valued ls
@@ -37,32 +37,32 @@ json_after_token ls (boolean b) = json_valued ls
 json_after_token ls null = json_valued ls
 json_after_token ls bad = ls
 
-abbrev pub json_open_levels : List Token → List Level
+abbrev pub json_open_levels : List Token → List JsonLevel
 json_open_levels = fold json_after_token []
 
 -- a member may come next
-abbrev pub InObject : List Level → Type 0
+abbrev pub InObject : List JsonLevel → Type 0
 InObject [] = ⊥
 InObject (object ∷ ls) = Unit {0}
 InObject (named ∷ ls) = ⊥
 InObject (list ∷ ls) = ⊥
 
 -- an item may come next
-abbrev pub InList : List Level → Type 0
+abbrev pub InList : List JsonLevel → Type 0
 InList [] = ⊥
 InList (object ∷ ls) = ⊥
 InList (named ∷ ls) = ⊥
 InList (list ∷ ls) = Unit {0}
 
 -- a value may come next
-abbrev pub WantsJsonValue : List Level → Type 0
+abbrev pub WantsJsonValue : List JsonLevel → Type 0
 WantsJsonValue [] = ⊥
 WantsJsonValue (object ∷ ls) = ⊥
 WantsJsonValue (named ∷ ls) = Unit {0}
 WantsJsonValue (list ∷ ls) = Unit {0}
 
 -- the token may come next; a number has a call of its own
-abbrev pub MayBeJson : List Level → Token → Type 0
+abbrev pub MayBeJson : List JsonLevel → Token → Type 0
 MayBeJson ls begin_object = WantsJsonValue ls
 MayBeJson ls end_object = InObject ls
 MayBeJson ls begin_array = WantsJsonValue ls
@@ -106,7 +106,7 @@ abbrev pub AreJsonItems : List Token → Type 0
 AreJsonItems ts = (rest : json.Items) (more : Items) → blank_items rest ≡ items_outline more → BeginsJsonItems ts rest
 
 -- the tokens in front of a value that stands within these levels
-abbrev pub IsJsonFront : List Level → List Token → Type 0
+abbrev pub IsJsonFront : List JsonLevel → List Token → Type 0
 IsJsonFront [] ts = ts ≡ []
 IsJsonFront (object ∷ ls) ts =
     (outer : List Token) × (members : List Token) × (k : List ℕ) × IsJsonFront ls outer × AreMembers members × (ts ≡ outer ++ begin_object ∷ (members ++ key k ∷ []))
@@ -114,7 +114,7 @@ IsJsonFront (named ∷ ls) ts = ⊥
 IsJsonFront (list ∷ ls) ts = (outer : List Token) × (items : List Token) × IsJsonFront ls outer × AreJsonItems items × (ts ≡ outer ++ begin_array ∷ items)
 
 -- the tokens that lead there; where none is open any more, a value
-abbrev pub LeadsJson : List Level → List Token → Type 0
+abbrev pub LeadsJson : List JsonLevel → List Token → Type 0
 LeadsJson [] ts = IsJsonValue ts
 LeadsJson (object ∷ ls) ts = (outer : List Token) × (members : List Token) × IsJsonFront ls outer × AreMembers members × (ts ≡ outer ++ begin_object ∷ members)
 LeadsJson (named ∷ ls) ts = IsJsonFront (object ∷ ls) ts

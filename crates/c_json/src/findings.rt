@@ -25,7 +25,7 @@ pub fn record(alloc: Global, file: &str, finding: &Finding) -> Result<Value, All
 }
 
 /// The findings as objects, by their lines.
-fn records(alloc: Global, text: &str) -> Result<Value, AllocError> {
+fn finding_records(alloc: Global, text: &str) -> Result<Value, AllocError> {
     let mut found = findings(alloc, text)?.findings.into_vec();
     found.sort_by_key(|finding| (finding.line, finding.column))?;
     let mut records = Vec::new(alloc);
@@ -41,6 +41,6 @@ fn records(alloc: Global, text: &str) -> Result<Value, AllocError> {
 pub fn findings_text(alloc: Global, text: &str) -> Result<String, AllocError>
     ensures { IfOk result (λ text. IsJsonText (string_bytes text)) }
 {
-    let whole = records(alloc, text)?;
+    let whole = finding_records(alloc, text)?;
     whole.to_string(alloc)
 }

@@ -4,7 +4,7 @@ ghost use Rattle.c_json.specs.JsonWriter.{InObject};
 ghost use Rattle.std.specs.Prelude.{◌≡◌, OnOk};
 
 use crate::json_writer::JsonWriter;
-use crate::words::{first_word, line};
+use crate::words::{first_word, words_after_beginning};
 use std::alloc::{AllocError, Global};
 use str0m_signal::{Items, MediaLine, Session};
 
@@ -68,7 +68,7 @@ pub(crate) fn add_head_origin(json: &mut JsonWriter, head: &str) -> Result<(), A
     requires { InObject json.old }
     ensures { OnOk result (json.new ≡ json.old) }
 {
-    let Some(text) = line(head, "o=") else {
+    let Some(text) = words_after_beginning(head, "o=") else {
         return Ok(());
     };
     let (username, rest) = first_word(text);
@@ -87,7 +87,7 @@ pub(crate) fn add_head_timing(json: &mut JsonWriter, head: &str) -> Result<(), A
     requires { InObject json.old }
     ensures { OnOk result (json.new ≡ json.old) }
 {
-    let Some(text) = line(head, "t=") else {
+    let Some(text) = words_after_beginning(head, "t=") else {
         return Ok(());
     };
     let (start, stop) = first_word(text);
@@ -102,7 +102,7 @@ pub(crate) fn add_head_version(json: &mut JsonWriter, head: &str) -> Result<(), 
     requires { InObject json.old }
     ensures { OnOk result (json.new ≡ json.old) }
 {
-    json.number_or_text("version", line(head, "v=").unwrap_or(""))
+    json.number_or_text("version", words_after_beginning(head, "v=").unwrap_or(""))
 }
 
 /// Adds what the section carries (RFC 8866, section 5.14), but for its type.
@@ -110,7 +110,7 @@ pub(crate) fn add_head_formats(json: &mut JsonWriter, head: &str) -> Result<(), 
     requires { InObject json.old }
     ensures { OnOk result (json.new ≡ json.old) }
 {
-    let (_, rest) = first_word(line(head, "m=").unwrap_or(""));
+    let (_, rest) = first_word(words_after_beginning(head, "m=").unwrap_or(""));
     let (port, rest) = first_word(rest);
     let (protocol, payloads) = first_word(rest);
     json.text("payloads", payloads)?;
@@ -123,7 +123,7 @@ pub(crate) fn add_head_connection(json: &mut JsonWriter, head: &str) -> Result<(
     requires { InObject json.old }
     ensures { OnOk result (json.new ≡ json.old) }
 {
-    let Some(at) = read_head_address(line(head, "c=").unwrap_or("")) else {
+    let Some(at) = read_head_address(words_after_beginning(head, "c=").unwrap_or("")) else {
         return Ok(());
     };
     json.begin_object("connection")?;
@@ -137,7 +137,7 @@ pub(crate) fn add_head_bandwidth(json: &mut JsonWriter, head: &str) -> Result<()
     requires { InObject json.old }
     ensures { OnOk result (json.new ≡ json.old) }
 {
-    let Some(text) = line(head, "b=") else {
+    let Some(text) = words_after_beginning(head, "b=") else {
         return Ok(());
     };
     let (kind, limit) = text.split_once(':').unwrap_or((text, ""));

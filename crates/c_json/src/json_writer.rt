@@ -28,10 +28,10 @@ pub(crate) struct JsonWriter {
 }
 
 impl Model for JsonWriter {
-    ghost use Rattle.c_json.specs.JsonWriter.{Level, json_open_levels, IsJsonBegun};
+    ghost use Rattle.c_json.specs.JsonWriter.{JsonLevel, json_open_levels, IsJsonBegun};
     ghost use Rattle.std.specs.Prelude.{List};
 
-    ghost Value = { List Level };
+    ghost Value = { List JsonLevel };
 
     ghost view = { λ json. json_open_levels json.out.tokens };
 
@@ -113,7 +113,7 @@ impl JsonWriter {
         requires { InObject self.old }
         ensures { OnOk result (self.new ≡ self.old) }
     {
-        let text = spaced_text(self.alloc, items)?;
+        let text = spaced_json_text(self.alloc, items)?;
         self.text(key, text.as_str())
     }
 
@@ -231,7 +231,7 @@ impl JsonWriter {
 }
 
 /// Items with a space between each two.
-fn spaced_text<T: fmt::Display>(alloc: Global, items: &[T]) -> Result<String, AllocError> {
+fn spaced_json_text<T: fmt::Display>(alloc: Global, items: &[T]) -> Result<String, AllocError> {
     let mut text = String::with_capacity(alloc, USUAL_JSON_PART)?;
     for (i, item) in items.iter().enumerate() {
         if i > 0 {

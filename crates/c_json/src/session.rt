@@ -11,7 +11,7 @@ use crate::lists::add_list;
 use crate::section::add_section;
 use crate::session_lists::SessionList;
 use crate::transport::Transport;
-use crate::words::line;
+use crate::words::words_after_beginning;
 use std::alloc::{AllocError, Global};
 use str0m_sdp::label;
 use str0m_signal::{Items, MediaLine, Sdp, SessionAttribute, Text};
@@ -135,7 +135,7 @@ pub(crate) fn add_session(alloc: Global, json: &mut JsonWriter, sdp: &Sdp) -> Re
     add_first_of_session(alloc, json, head, attrs, &said)?;
     add_session_media(alloc, json, sdp.media_lines.as_slice())?;
     said.add_semantic(json)?;
-    json.text("name", line(head, "s=").unwrap_or(""))?;
+    json.text("name", words_after_beginning(head, "s=").unwrap_or(""))?;
     add_head_origin(json, head)?;
     said.transport.add_setup(json)?;
     add_head_timing(json, head)?;

@@ -13,7 +13,7 @@ pub(crate) fn words_after_label<'a>(line: &'a str, label: &str) -> Option<&'a st
 }
 
 /// What stands in the first line that begins so.
-pub(crate) fn line<'a>(text: &'a str, beginning: &str) -> Option<&'a str> {
+pub(crate) fn words_after_beginning<'a>(text: &'a str, beginning: &str) -> Option<&'a str> {
     for line in text.lines() {
         if let Some(said) = line.strip_prefix(beginning) {
             return Some(said);

@@ -1,13 +1,13 @@
 -- What the walks of handles cite, under one roof, and the steps that they share. Each has one parameter, which is used up.
---     boxed                 a type and an allocator's type with their laws, as the steps of boxes ask for them
---     takes, hands          what a walk begins with is the parameter and the tokens; the same put back, for a callee with one parameter
---     begins                the parameter owns what a box does: its words are one word, and what it owns is taken apart
---     box_in_one, one_box   what a box owns is owned at one word; that word is of a box's type
---     box_apart             what was taken apart, as an allocator and a pointer with what lies there
---     box_both              an allocator and a pointer in a tuple, and what lies there, are what a box owns
---     asked_triple, answer  a callee's contract; its answer is what is said, the result and the tokens
---     field_of              field k of the word that a local holds
---     told, spent           a fact, and nothing of the parameter, as a walk's end asks for them
+--   boxed                            a type and an allocator's type with their laws, as the steps of boxes ask for them
+--   takes_parts, hands_parts         what a walk begins with is the parameter and the tokens; the same put back for a callee
+--   begins_parts                     the parameter owns what a box does: its words are one word, and what it owns is taken apart
+--   box_in_one, one_box              what a box owns is owned at one word; that word is of a box's type
+--   box_apart                        what was taken apart, as an allocator and a pointer with what lies there
+--   box_both                         an allocator and a pointer in a tuple, and what lies there, are what a box owns
+--   asked_parts_triple, answer_parts a callee's contract; its answer is what is said, the result and the tokens
+--   field_of_parts                   field k of the word that a local holds
+--   told_parts, spent_parts          a fact, and nothing of the parameter, as a walk's end asks for them
 pub use Rattle.core.proofs.alloc.Calls.{α, handle_tells, Goes-blank}
 pub use Rattle.core.proofs.alloc.Shapes.{after}
 pub use Rattle.core.proofs.atomic.Steps.{fm}
@@ -88,12 +88,12 @@ module _ {M : Type 1} {𝓤 : Ura M} (𝓛 : Logic 𝓤) {K : Type 0} {Γ : List
   pub told_parts : (φ : Type 0) → φ → Step K 𝓛 (raw (fact 𝓤 φ) ∷ Γ) G Γ G
   told_parts φ x = use0 𝓛 (raw (fact 𝓤 φ)) (fact_i 𝓤 φ (emp 𝓤) x)
 
-  pub answer : (S : Ended) (c : Clauses 𝓤 S) (y : (asked_parts_triple 𝓛 S c).Ghost) (u : Val) → K → Soaks G
+  pub answer_parts : (S : Ended) (c : Clauses 𝓤 S) (y : (asked_parts_triple 𝓛 S c).Ghost) (u : Val) → K → Soaks G
       → ((r : Res S.signature y.0.0) (ls : Lasts S y.0.0 y.0.3)
       → Seq K 𝓛 (raw ((c y.0.0 y.0.3).ensures y.1 r (at_exit S y.0.0 y.0.3 ls)) ∷ ‵ ((type_at S.signature.result y.0.0).own_val r (u ∷ []))
       ∷ raw (alive 𝓛 S.signature y.0.0 y.0.1) ∷ Γ) G)
       → Seq K 𝓛 (raw ((asked_parts_triple 𝓛 S c).post y u) ∷ Γ) G
-  answer S c y u t soaks k =
+  answer_parts S c y u t soaks k =
       let Result : Res S.signature y.0.0 → Item 𝓤 = λ r. ‵ ((type_at S.signature.result y.0.0).own_val r (u ∷ [])) in
       let Said : Res S.signature y.0.0 → Item 𝓤 =
       λ r. some (λ (ls : Lasts S y.0.0 y.0.3). ‵ (lasts S y.0.0 y.0.3 ls) ⊛ raw
@@ -124,12 +124,12 @@ module _ {M : Type 1} {𝓤 : Ura M} {𝓛 : Logic 𝓤} {K : Type 0} {Γ : List
       (sym holds) (sub t k lies (whole t))))
 
 module _ (E : Bx) {M : Type 1} {𝓤 : Ura M} {𝓛 : Logic 𝓤} {K : Type 0} {Γ : List (Item 𝓤)} {G : Goal 𝓤 𝓛.H} where
-  pub begins : (d : D E) (vs : List Val) (At : List Val → Goal 𝓤 𝓛.H) → K → At vs ≡ G
+  pub begins_parts : (d : D E) (vs : List Val) (At : List Val → Goal 𝓤 𝓛.H) → K → At vs ≡ G
       → ((b o : ℕ) (hv : Val) → d.ptr ≡ block_ptr b o → Fits E.al hv
       → Seq K 𝓛 (‵ (part_at (R E) full_share d.value b o) ∷ ‵ (token E.al d.alloc (bare (τ E)) (block_ptr b o)) ∷ ‵ (handle E d.alloc hv)
       ∷ Γ) (At (word E hv b o ∷ [])))
       → Seq K 𝓛 (‵ ((B E).own_val d vs) ∷ Γ) G
-  begins d vs At t goal k = box_out E t d vs (λ b o hv at is fits. regoal t At is goal $ k b o hv at fits)
+  begins_parts d vs At t goal k = box_out E t d vs (λ b o hv at is fits. regoal t At is goal $ k b o hv at fits)
 
   pub box_in_one : (d : D E) (vs : List Val) → K
       → ((b o : ℕ) (hv : Val) → vs ≡ word E hv b o ∷ [] → Fits E.al hv → Seq K 𝓛 (‵ ((B E).own_val d (word E hv b o ∷ [])) ∷ Γ) G)

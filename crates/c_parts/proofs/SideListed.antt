@@ -1,6 +1,6 @@
 -- Texts that stand in a list, one of which is refused.
-use Rattle.c_parts.specs.Fault.{RefusesBytes}
-use Rattle.c_parts.specs.Side.{RefusesCandidate, RefusesCandidates, RefusesSideList, listed_texts}
+use Rattle.c_parts.specs.Fault.{FaultRefusesBytes}
+use Rattle.c_parts.specs.Side.{RefusesSideCandidate, RefusesSideCandidates, RefusesSideList, listed_texts}
 use Rattle.c_parts.specs.declared.fault.Fault.{Fault}
 use Rattle.c_parts.specs.declared.fault.Fault.TheVariants.{NotUtf8, NoFingerprint, NoCandidate, Refused}
 use Rattle.exchange.specs.declared.state.exchange_error.ExchangeError.TheVariants.{Memory}
@@ -25,7 +25,8 @@ inside_listed texts i lt = grind (arith, lt, length-map texts (λ (text : Bor (L
 
 -- one that isn't UTF-8 isn't in a list of texts that are
 pub list_refused : (texts : List (Bor (List ℕ))) (i : ℕ) (d : Bor (List ℕ)) → i < length texts
-    → (fault : Fault) → RefusesBytes (get_or texts i d).now (λ error. error ≡ Memory) fault → RefusesSideList (listed_texts texts) fault
+    → (fault : Fault) → FaultRefusesBytes (get_or texts i d).now (λ error. error ≡ Memory) fault
+    → RefusesSideList (listed_texts texts) fault
 list_refused texts i d lt NotUtf8 so = λ all. so
     (subst IsUtf8 (listed_text_at texts i d lt) (All-get_or IsUtf8 (listed_texts texts) i d.now (inside_listed texts i lt) all))
 list_refused texts i d lt NoFingerprint so = so
@@ -34,7 +35,7 @@ list_refused texts i d lt (Refused error) so = so
 
 -- one that is no candidate isn't in a list of lines that are
 pub listed_candidates_refused : (lines : List (Bor (List ℕ))) (i : ℕ) (d : Bor (List ℕ)) → i < length lines
-    → (fault : Fault) → RefusesCandidate (get_or lines i d).now fault → RefusesCandidates (listed_texts lines) fault
+    → (fault : Fault) → RefusesSideCandidate (get_or lines i d).now fault → RefusesSideCandidates (listed_texts lines) fault
 listed_candidates_refused lines i d lt NotUtf8 so = λ all. so
     (subst IsUtf8 (listed_text_at lines i d lt) (All-get_or IsUtf8 (listed_texts lines) i d.now (inside_listed lines i lt) all))
 listed_candidates_refused lines i d lt NoFingerprint so = so

@@ -27,13 +27,13 @@ abbrev pub side_kind_numbered : ℕ → MediaKind
 side_kind_numbered n = if nat_eq n 0 then Audio else Video
 
 -- 0 is no, and all else is yes
-abbrev pub is_on : ℕ → Bool
-is_on n = not (nat_eq n 0)
+abbrev pub is_side_flag_on : ℕ → Bool
+is_side_flag_on n = not (nat_eq n 0)
 
 -- where data channels are reached, where there are some
 abbrev pub own_channels_of : OwnNumbers → Option DataChannels
 own_channels_of numbers =
-    if is_on numbers.has_channels then Some (record { port = numbers.sctp_port; max_message_size = numbers.max_message_size }) else None
+    if is_side_flag_on numbers.has_channels then Some (record { port = numbers.sctp_port; max_message_size = numbers.max_message_size }) else None
 
 -- the texts of a list
 abbrev pub listed_texts : List (Bor (List ℕ)) → List (List ℕ)
@@ -64,10 +64,10 @@ pub record SaysOwnSide (numbers : OwnNumbers) (texts : OwnTexts) (own : OwnSide)
   pub extensions : own.extensions ≡ listed_texts texts.extensions.now
   pub candidates : AllZip IsTrickled (listed_texts texts.candidates.now) own.candidates
   pub channels : own.channels ≡ own_channels_of numbers
-  pub receives_simulcast : own.receives_simulcast ≡ is_on numbers.receives_simulcast
+  pub receives_simulcast : own.receives_simulcast ≡ is_side_flag_on numbers.receives_simulcast
 
 -- all of the texts are UTF-8
-pub record AreUtf8 (texts : OwnTexts) : Type 0 where
+pub record AreSideTextsUtf8 (texts : OwnTexts) : Type 0 where
   pub ufrag : IsUtf8 texts.ice_ufrag.now
   pub pwd : IsUtf8 texts.ice_pwd.now
   pub fingerprint : IsUtf8 texts.fingerprint.now
@@ -88,33 +88,33 @@ RefusesSideList texts (Refused error) = error ≡ Memory
 RefusesSideList texts _ = ⊥
 
 -- no candidates are what the lines say
-abbrev pub AreNotTrickled : List (List ℕ) → Type 0
-AreNotTrickled lines = (candidates : List Candidate) → AllZip IsTrickled lines candidates → ⊥
+abbrev pub AreNoSideCandidates : List (List ℕ) → Type 0
+AreNoSideCandidates lines = (candidates : List Candidate) → AllZip IsTrickled lines candidates → ⊥
 
 -- why a candidate isn't
-abbrev pub RefusesCandidate : List ℕ → Fault → Type 0
-RefusesCandidate line NotUtf8 = IsUtf8 line → ⊥
-RefusesCandidate line NoCandidate = (candidate : Candidate) → IsTrickled line candidate → ⊥
-RefusesCandidate line (Refused error) = error ≡ Memory
-RefusesCandidate line NoFingerprint = ⊥
+abbrev pub RefusesSideCandidate : List ℕ → Fault → Type 0
+RefusesSideCandidate line NotUtf8 = IsUtf8 line → ⊥
+RefusesSideCandidate line NoCandidate = (candidate : Candidate) → IsTrickled line candidate → ⊥
+RefusesSideCandidate line (Refused error) = error ≡ Memory
+RefusesSideCandidate line NoFingerprint = ⊥
 
 -- why a list of candidates isn't
-abbrev pub RefusesCandidates : List (List ℕ) → Fault → Type 0
-RefusesCandidates lines NotUtf8 = All IsUtf8 lines → ⊥
-RefusesCandidates lines NoCandidate = AreNotTrickled lines
-RefusesCandidates lines (Refused error) = error ≡ Memory
-RefusesCandidates lines NoFingerprint = ⊥
+abbrev pub RefusesSideCandidates : List (List ℕ) → Fault → Type 0
+RefusesSideCandidates lines NotUtf8 = All IsUtf8 lines → ⊥
+RefusesSideCandidates lines NoCandidate = AreNoSideCandidates lines
+RefusesSideCandidates lines (Refused error) = error ≡ Memory
+RefusesSideCandidates lines NoFingerprint = ⊥
 
 -- why a fingerprint isn't
-abbrev pub RefusesFingerprint : List ℕ → Fault → Type 0
-RefusesFingerprint text NotUtf8 = IsUtf8 text → ⊥
-RefusesFingerprint text NoFingerprint = (fingerprint : Fingerprint) → IsFingerprint text fingerprint → ⊥
-RefusesFingerprint text (Refused error) = error ≡ Memory
-RefusesFingerprint text NoCandidate = ⊥
+abbrev pub RefusesSideFingerprint : List ℕ → Fault → Type 0
+RefusesSideFingerprint text NotUtf8 = IsUtf8 text → ⊥
+RefusesSideFingerprint text NoFingerprint = (fingerprint : Fingerprint) → IsFingerprint text fingerprint → ⊥
+RefusesSideFingerprint text (Refused error) = error ≡ Memory
+RefusesSideFingerprint text NoCandidate = ⊥
 
 -- why what this side says isn't
 abbrev pub RefusesOwnSide : OwnTexts → Fault → Type 0
-RefusesOwnSide texts NotUtf8 = AreUtf8 texts → ⊥
+RefusesOwnSide texts NotUtf8 = AreSideTextsUtf8 texts → ⊥
 RefusesOwnSide texts NoFingerprint = (fingerprint : Fingerprint) → IsFingerprint texts.fingerprint.now fingerprint → ⊥
-RefusesOwnSide texts NoCandidate = AreNotTrickled (listed_texts texts.candidates.now)
+RefusesOwnSide texts NoCandidate = AreNoSideCandidates (listed_texts texts.candidates.now)
 RefusesOwnSide texts (Refused error) = error ≡ Memory

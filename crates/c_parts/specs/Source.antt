@@ -1,5 +1,5 @@
 -- Sources of RTP packets as C holds them.
-use Rattle.c_parts.specs.Row.{bit, number_or}
+use Rattle.c_parts.specs.Row.{bit, row_number_or}
 use Rattle.c_parts.specs.declared.source.SectionSource.{SectionSource}
 use Rattle.std.specs.Prelude.{List, [], ◌∷◌, is_some, map}
 use Rattle.str0m_sdp.specs.declared.section.media_line.MediaLine.{MediaLine}
@@ -10,7 +10,7 @@ use Rattle.str0m_sdp.specs.section.SsrcInfo.{infos}
 abbrev pub c_source : SsrcInfo → SectionSource
 c_source info = record {
   ssrc = info.ssrc;
-  repairs = number_or 0 info.repairs;
+  repairs = row_number_or 0 info.repairs;
   is_repair = bit 1 (is_some info.repairs);
   reserved = 0 ∷ 0 ∷ 0 ∷ [];
 }

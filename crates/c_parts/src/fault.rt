@@ -1,6 +1,6 @@
 //! Why a call of an exchange of offers and answers is refused.
 
-ghost use Rattle.c_parts.specs.Fault.{error_code, error_line, fault_code, line_of_fault};
+ghost use Rattle.c_parts.specs.Fault.{fault_code_of_error, fault_line_of_error, fault_code, line_of_fault};
 ghost use Rattle.c_parts.specs.declared.fault.Fault.TheVariants.{Refused};
 ghost use Rattle.exchange.specs.declared.state.exchange_error.ExchangeError.TheVariants.{Memory};
 ghost use Rattle.std.specs.Prelude.{◌≡◌, IfErr, IfOk, IsUtf8};
@@ -37,8 +37,8 @@ impl From<ExchangeError> for Fault {
     }
 }
 
-fn error_code(error: &ExchangeError) -> u32
-    ensures { result ≡ error_code error.now }
+fn fault_code_of_error(error: &ExchangeError) -> u32
+    ensures { result ≡ fault_code_of_error error.now }
 {
     match error {
         ExchangeError::NotRead(_) => 1,
@@ -53,8 +53,8 @@ fn error_code(error: &ExchangeError) -> u32
     }
 }
 
-fn error_line(error: &ExchangeError) -> usize
-    ensures { result ≡ error_line error.now }
+fn fault_line_of_error(error: &ExchangeError) -> usize
+    ensures { result ≡ fault_line_of_error error.now }
 {
     match error {
         ExchangeError::Unread { line, .. } => *line,
@@ -71,7 +71,7 @@ impl Fault {
             Fault::NotUtf8 => 2,
             Fault::NoFingerprint => 15,
             Fault::NoCandidate => 15,
-            Fault::Refused(error) => error_code(error),
+            Fault::Refused(error) => fault_code_of_error(error),
         }
     }
 
@@ -80,7 +80,7 @@ impl Fault {
         ensures { result ≡ line_of_fault self.now }
     {
         match self {
-            Fault::Refused(error) => error_line(error),
+            Fault::Refused(error) => fault_line_of_error(error),
             _ => 0,
         }
     }

@@ -3,8 +3,8 @@
 ghost use Rattle.c_parts.specs.Reading.{RefusesReading};
 ghost use Rattle.std.specs.Prelude.{◌≡◌, ◌≢◌, IfErr, IfOk, List, length, ℕ, IsUtf8};
 ghost use Rattle.str0m_sdp.specs.declared.session.Sdp.{Sdp};
-ghost use Rattle.str0m_signal.specs.session.Reader.{Described, Reading};
-ghost use Rattle.str0m_signal.specs.session.ReaderAnswers.{Refuses};
+ghost use Rattle.str0m_signal.specs.session.Reader.{DescribesSession, Reading};
+ghost use Rattle.str0m_signal.specs.session.ReaderAnswers.{ReaderRefuses};
 
 use std::alloc::{AllocError, Global};
 use std::str;
@@ -19,7 +19,7 @@ pub enum Refusal {
 
 fn read_text(alloc: Global, text: &str) -> Result<(Sdp, usize), SdpError>
     ensures read { IfOk result (λ read. (rest : List ℕ) × Reading text.now (read.0, rest) × (read.1 ≡ length rest)) }
-    ensures refused { IfErr result (λ error. Refuses error (Described text.now)) }
+    ensures refused { IfErr result (λ error. ReaderRefuses error (DescribesSession text.now)) }
 {
     match sdp_parser(alloc, text) {
         Ok((sdp, rest)) => Ok((sdp, rest.len())),
@@ -45,7 +45,7 @@ impl Refusal {
     /// Its number in C.
     pub fn code(&self) -> u32
         ensures refused { result ≢ 0 }
-        ensures no_session { (text : List ℕ) → RefusesReading self.now text → result ≡ 1 → (sdp : Sdp) → Described text sdp → ⊥ }
+        ensures no_session { (text : List ℕ) → RefusesReading self.now text → result ≡ 1 → (sdp : Sdp) → DescribesSession text sdp → ⊥ }
         ensures no_text { (text : List ℕ) → RefusesReading self.now text → result ≡ 2 → IsUtf8 text → ⊥ }
     {
         match self {

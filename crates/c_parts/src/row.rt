@@ -1,6 +1,6 @@
 //! Rows and outcomes as C holds them.
 
-ghost use Rattle.c_parts.specs.Row.{bit, c_outcome, c_row, c_rows, codec_among, codec_at, codec_number, feedback_bits, number_or, row_number_unless};
+ghost use Rattle.c_parts.specs.Row.{bit, c_outcome, c_row, c_rows, row_codec_among, row_codec_numbered, row_codec_number, row_feedback_bits, row_number_or, row_number_unless};
 ghost use Rattle.std.specs.Prelude.{◌≡◌, ◌≤◌, IfOk, length, map};
 
 use crate::section_item::SectionItem;
@@ -31,7 +31,7 @@ pub struct Outcome {
 }
 
 /// The codecs that have a number in the header.
-static NUMBERED_CODECS: [Codec; 16] = [
+static NUMBERED_ROW_CODECS: [Codec; 16] = [
     Codec::Opus,
     Codec::PCMU,
     Codec::PCMA,
@@ -50,14 +50,14 @@ static NUMBERED_CODECS: [Codec; 16] = [
     Codec::Null,
 ];
 
-fn numbered_codecs() -> &'static [Codec]
-    ensures { result.now ≡ NUMBERED_CODECS }
+fn numbered_row_codecs() -> &'static [Codec]
+    ensures { result.now ≡ NUMBERED_ROW_CODECS }
 {
-    NUMBERED_CODECS.as_slice()
+    NUMBERED_ROW_CODECS.as_slice()
 }
 
 fn row_type_or_none(pt: Option<Pt>) -> u8
-    ensures { result ≡ number_or 255 pt }
+    ensures { result ≡ row_number_or 255 pt }
 {
     match pt {
         Some(pt) => pt.value(),
@@ -66,7 +66,7 @@ fn row_type_or_none(pt: Option<Pt>) -> u8
 }
 
 fn row_channels_or_zero(channels: Option<u8>) -> u8
-    ensures { result ≡ number_or 0 channels }
+    ensures { result ≡ row_number_or 0 channels }
 {
     match channels {
         Some(channels) => channels,
@@ -75,8 +75,8 @@ fn row_channels_or_zero(channels: Option<u8>) -> u8
 }
 
 /// The number that the header has for a codec; 0 where it has none.
-fn codec_code_of(codec: Codec) -> u8
-    ensures { result ≡ codec_number codec }
+fn row_codec_code_of(codec: Codec) -> u8
+    ensures { result ≡ row_codec_number codec }
 {
     match codec {
         Codec::Opus => 1,
@@ -100,20 +100,20 @@ fn codec_code_of(codec: Codec) -> u8
 }
 
 /// The codec of this number among those that are listed.
-fn codec_among(codecs: &[Codec], number: u8) -> Option<Codec>
-    ensures { result ≡ codec_among codecs.now number }
+fn row_codec_among(codecs: &[Codec], number: u8) -> Option<Codec>
+    ensures { result ≡ row_codec_among codecs.now number }
 {
     codecs
         .iter()
         .copied()
-        .find(|codec| codec_code_of(*codec) == number)
+        .find(|codec| row_codec_code_of(*codec) == number)
 }
 
 /// The codec of a number; none has 0.
-pub fn codec_at(number: u8) -> Option<Codec>
-    ensures { result ≡ codec_at number }
+pub fn row_codec_numbered(number: u8) -> Option<Codec>
+    ensures { result ≡ row_codec_numbered number }
 {
-    codec_among(numbered_codecs(), number)
+    row_codec_among(numbered_row_codecs(), number)
 }
 
 /// The number, unless it stands for none.
@@ -130,8 +130,8 @@ pub(crate) fn flag(value: u8, is_on: bool) -> u8
     if is_on { value } else { 0 }
 }
 
-fn feedback(row: &PayloadParams) -> u8
-    ensures { result ≡ feedback_bits row.now }
+fn row_feedback_of(row: &PayloadParams) -> u8
+    ensures { result ≡ row_feedback_bits row.now }
 {
     let lost = flag(2, row.fb_nack())
         + (flag(4, row.fb_pli()) + (flag(8, row.fb_fir()) + flag(16, row.fb_remb())));
@@ -148,8 +148,8 @@ pub fn row_of(row: &PayloadParams) -> Row
         rtx: row_type_or_none(row.resend()),
         red: row_type_or_none(row.red()),
         channels: row_channels_or_zero(spec.channels),
-        codec: codec_code_of(spec.codec),
-        feedback: feedback(row),
+        codec: row_codec_code_of(spec.codec),
+        feedback: row_feedback_of(row),
         locked: flag(1, row.locked()),
         reserved: 0,
     }

@@ -1,7 +1,7 @@
 //! What this side says of itself, as C says it.
 
-ghost use Rattle.c_parts.specs.Fault.{RefusesBytes};
-ghost use Rattle.c_parts.specs.Side.{RefusesCandidate, RefusesCandidates, RefusesFingerprint, RefusesSideList, RefusesOwnSide, SaysOwnSide, own_channels_of, side_direction_numbered, side_kind_numbered, listed_texts};
+ghost use Rattle.c_parts.specs.Fault.{FaultRefusesBytes};
+ghost use Rattle.c_parts.specs.Side.{RefusesSideCandidate, RefusesSideCandidates, RefusesSideFingerprint, RefusesSideList, RefusesOwnSide, SaysOwnSide, own_channels_of, side_direction_numbered, side_kind_numbered, listed_texts};
 ghost use Rattle.exchange.specs.declared.state.exchange_error.ExchangeError.TheVariants.{Memory};
 ghost use Rattle.exchange.specs.section.Trickled.{IsTrickled};
 ghost use Rattle.std.specs.List.{AllZip};
@@ -78,7 +78,7 @@ fn own_channels_of(numbers: &OwnNumbers) -> Option<DataChannels>
 /// The text of bytes.
 pub fn text_of(alloc: Global, bytes: &[u8]) -> Result<Text, Fault>
     ensures read { IfOk result (λ text. text ≡ bytes.now) }
-    ensures refused { IfErr result (RefusesBytes bytes.now (λ error. error ≡ Memory)) }
+    ensures refused { IfErr result (FaultRefusesBytes bytes.now (λ error. error ≡ Memory)) }
 {
     match str::from_utf8(bytes) {
         Ok(text) => Ok(Text::from_str(alloc, text)?),
@@ -98,9 +98,9 @@ fn texts_of(alloc: Global, list: &[&[u8]]) -> Result<Items<Text>, Fault>
     Ok(texts)
 }
 
-fn fingerprint_in(alloc: Global, text: &str) -> Result<Fingerprint, Fault>
+fn side_fingerprint_in(alloc: Global, text: &str) -> Result<Fingerprint, Fault>
     ensures read { IfOk result (IsFingerprint text.now) }
-    ensures refused { IfErr result (RefusesFingerprint text.now) }
+    ensures refused { IfErr result (RefusesSideFingerprint text.now) }
 {
     match Fingerprint::from_str(alloc, text) {
         Ok(fingerprint) => Ok(fingerprint),
@@ -110,19 +110,19 @@ fn fingerprint_in(alloc: Global, text: &str) -> Result<Fingerprint, Fault>
     }
 }
 
-fn fingerprint_of(alloc: Global, bytes: &[u8]) -> Result<Fingerprint, Fault>
+fn side_fingerprint_of(alloc: Global, bytes: &[u8]) -> Result<Fingerprint, Fault>
     ensures read { IfOk result (IsFingerprint bytes.now) }
-    ensures refused { IfErr result (RefusesFingerprint bytes.now) }
+    ensures refused { IfErr result (RefusesSideFingerprint bytes.now) }
 {
     match str::from_utf8(bytes) {
-        Ok(text) => fingerprint_in(alloc, text),
+        Ok(text) => side_fingerprint_in(alloc, text),
         Err(_) => Err(Fault::NotUtf8),
     }
 }
 
-fn candidate_in(alloc: Global, text: &str) -> Result<Candidate, Fault>
+fn side_candidate_in(alloc: Global, text: &str) -> Result<Candidate, Fault>
     ensures read { IfOk result (IsTrickled text.now) }
-    ensures refused { IfErr result (RefusesCandidate text.now) }
+    ensures refused { IfErr result (RefusesSideCandidate text.now) }
 {
     match trickled_candidate(alloc, text) {
         Ok(candidate) => Ok(candidate),
@@ -132,23 +132,23 @@ fn candidate_in(alloc: Global, text: &str) -> Result<Candidate, Fault>
     }
 }
 
-fn candidate_of(alloc: Global, bytes: &[u8]) -> Result<Candidate, Fault>
+fn side_candidate_of(alloc: Global, bytes: &[u8]) -> Result<Candidate, Fault>
     ensures read { IfOk result (IsTrickled bytes.now) }
-    ensures refused { IfErr result (RefusesCandidate bytes.now) }
+    ensures refused { IfErr result (RefusesSideCandidate bytes.now) }
 {
     match str::from_utf8(bytes) {
-        Ok(text) => candidate_in(alloc, text),
+        Ok(text) => side_candidate_in(alloc, text),
         Err(_) => Err(Fault::NotUtf8),
     }
 }
 
-fn candidates_of(alloc: Global, lines: &[&[u8]]) -> Result<Items<Candidate>, Fault>
+fn side_candidates_of(alloc: Global, lines: &[&[u8]]) -> Result<Items<Candidate>, Fault>
     ensures read { IfOk result (λ candidates. AllZip IsTrickled (listed_texts lines.now) candidates) }
-    ensures refused { IfErr result (RefusesCandidates (listed_texts lines.now)) }
+    ensures refused { IfErr result (RefusesSideCandidates (listed_texts lines.now)) }
 {
     let mut candidates = Items::empty(alloc);
     for line in lines {
-        let candidate = candidate_of(alloc, line)?;
+        let candidate = side_candidate_of(alloc, line)?;
         candidates.push(candidate)?;
     }
     Ok(candidates)
@@ -166,13 +166,13 @@ pub fn own_side(alloc: Global, numbers: &OwnNumbers, texts: &OwnTexts<'_>) -> Re
     Ok(OwnSide {
         session_id: SessionId::from(numbers.session_id),
         creds,
-        fingerprint: fingerprint_of(alloc, texts.fingerprint)?,
+        fingerprint: side_fingerprint_of(alloc, texts.fingerprint)?,
         audio: side_direction_numbered(numbers.audio),
         video: side_direction_numbered(numbers.video),
         directions: Items::empty(alloc),
         stream_id: text_of(alloc, texts.stream_id)?,
         extensions: texts_of(alloc, texts.extensions)?,
-        candidates: candidates_of(alloc, texts.candidates)?,
+        candidates: side_candidates_of(alloc, texts.candidates)?,
         channels: own_channels_of(numbers),
         receives_simulcast: numbers.receives_simulcast != 0,
     })

@@ -1,6 +1,6 @@
 //! The beginnings of one text, as offers.
 
-use crate::spoken::push_refused;
+use crate::spoken::push_failure_to_speak;
 use format_cases::Answer;
 use std::str;
 use str0m_signal::{MediaAttribute, MediaLine, SdpError, SdpOffer};
@@ -32,7 +32,7 @@ fn sections_of(answer: &mut Answer, text: &str) {
 fn sections_read(answer: &mut Answer, read: &Result<SdpOffer, SdpError>) {
     match read {
         Ok(offer) => show_sections(answer, offer.media_lines.as_slice()),
-        Err(error) => push_refused(answer, error),
+        Err(error) => push_failure_to_speak(answer, error),
     }
 }
 

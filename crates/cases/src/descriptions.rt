@@ -3,7 +3,7 @@
 use crate::escapes::push_escaped;
 use crate::lines::{push_printed, push_rest_of_line};
 use crate::section_shown::{append_section, append_session};
-use crate::spoken::{push_refused, spoken_behind_header};
+use crate::spoken::{push_failure_to_speak, spoken_behind_header};
 use crate::{copied_parts, cuts, without_memory};
 use format_cases::Answer;
 use std::alloc::AllocError;
@@ -55,7 +55,7 @@ fn description_header_of(answer: &mut Answer, read: &Result<(Session, &str), Sdp
             append_session(answer, session);
             push_rest_of_line(answer, rest);
         }
-        Err(error) => push_refused(answer, error),
+        Err(error) => push_failure_to_speak(answer, error),
     }
 }
 
@@ -68,7 +68,7 @@ fn asked_description(answer: &mut Answer, word: &str, text: &str) {
 fn description_of(answer: &mut Answer, word: &str, read: &Result<(Sdp, &str), SdpError>) {
     match read {
         Ok((sdp, rest)) => show_description(answer, word, sdp, rest),
-        Err(error) => push_refused(answer, error),
+        Err(error) => push_failure_to_speak(answer, error),
     }
 }
 
@@ -127,7 +127,7 @@ fn offer(answer: &mut Answer, text: &str) {
 fn offer_of(answer: &mut Answer, read: &Result<SdpOffer, SdpError>) {
     match read {
         Ok(offer) => push_made_text(answer, &offer.to_sdp_string()),
-        Err(error) => push_refused(answer, error),
+        Err(error) => push_failure_to_speak(answer, error),
     }
 }
 
@@ -140,7 +140,7 @@ fn answer_printed(answer: &mut Answer, text: &str) {
 fn answer_of(answer: &mut Answer, read: &Result<SdpAnswer, SdpError>) {
     match read {
         Ok(read) => push_made_text(answer, &read.to_sdp_string()),
-        Err(error) => push_refused(answer, error),
+        Err(error) => push_failure_to_speak(answer, error),
     }
 }
 

@@ -1,7 +1,7 @@
 //! What fmtp lines say of a codec.
 
 use crate::said_rows::{printed, show_row_format};
-use crate::spoken::section;
+use crate::spoken::spoken_section;
 use format_cases::Answer;
 use std::alloc::{AllocError, Global};
 use str0m_signal::{Codec, FormatParam, FormatParams, Items, MediaAttribute};
@@ -62,7 +62,7 @@ fn lines_of(answer: &mut Answer, text: &str) -> Vec<Items<FormatParam>> {
 fn add_line(answer: &mut Answer, lines: &mut Vec<Items<FormatParam>>, values: &str) {
     let alloc = answer.alloc();
     let line = answer.kept(format!(in alloc; "a=fmtp:96 {values}"), String::new(alloc));
-    let section = section(answer, line.as_str());
+    let section = spoken_section(answer, line.as_str());
     if let Some(MediaAttribute::Fmtp { values, .. }) = section.attrs.as_slice().first() {
         add_fmtp_values(answer, lines, values);
     }

@@ -160,11 +160,11 @@ fn held_rid(
 fn held_in_layer(answer: &mut Answer, field: &str, text: &str) -> MediaAttribute {
     let none = SimulcastGroups(Items::empty(answer.alloc()));
     let (send, recv) = match field {
-        "send" => (layer(answer, text, None), none),
-        "recv" => (none, layer(answer, text, None)),
+        "send" => (held_layer(answer, text, None), none),
+        "recv" => (none, held_layer(answer, text, None)),
         _ => {
             let notes = noted_text(answer, "x", text);
-            (layer(answer, "1", Some(notes)), none)
+            (held_layer(answer, "1", Some(notes)), none)
         }
     };
     MediaAttribute::Simulcast(Simulcast {
@@ -175,7 +175,7 @@ fn held_in_layer(answer: &mut Answer, field: &str, text: &str) -> MediaAttribute
 }
 
 /// One layer, and what is noted of it.
-fn layer(
+fn held_layer(
     answer: &mut Answer,
     name: &str,
     attributes: Option<Items<(Text, Text)>>,

@@ -10,7 +10,7 @@ pub(crate) fn answers(answer: &mut Answer, asked: &str, text: &str) -> bool {
     let alloc = answer.alloc();
     match asked {
         "layer" => copied_layer(answer, &layer_of(alloc, text)),
-        "empty" => empty_values(answer),
+        "empty" => empty_layer_parts(answer),
         "random-msid" => random_names::drawn_name(answer, text),
         _ => return false,
     }
@@ -49,7 +49,7 @@ fn copied_layer(answer: &mut Answer, made: &Result<SimulcastLayer, AllocError>) 
 fn shown_layer(answer: &mut Answer, copy: &Result<SimulcastLayer, AllocError>) {
     match copy {
         Ok(copy) => {
-            id(answer, &copy.restriction_id);
+            show_layer_id(answer, &copy.restriction_id);
             if let Some(notes) = &copy.attributes {
                 with_layer_notes(answer, notes.as_slice());
             }
@@ -58,7 +58,7 @@ fn shown_layer(answer: &mut Answer, copy: &Result<SimulcastLayer, AllocError>) {
     }
 }
 
-fn id(answer: &mut Answer, id: &RestrictionId) {
+fn show_layer_id(answer: &mut Answer, id: &RestrictionId) {
     let alloc = answer.alloc();
     let printed = answer.kept(id.to_sdp(alloc), String::new(alloc));
     answer.push(printed.as_str());
@@ -74,7 +74,7 @@ fn with_layer_notes(answer: &mut Answer, notes: &[(Text, Text)]) {
 }
 
 /// An empty text, the id of no restriction and a list of nothing, which take no memory.
-fn empty_values(answer: &mut Answer) {
+fn empty_layer_parts(answer: &mut Answer) {
     let alloc = answer.alloc();
     let items: Items<u8> = Items::empty(alloc);
     answer.push("text `");

@@ -2,7 +2,7 @@
 
 use crate::attribute_parts::push_attribute_part;
 use crate::escapes::push_escaped;
-use crate::spoken::push_refused;
+use crate::spoken::push_failure_to_speak;
 use format_cases::Answer;
 use std::fmt::{Debug, Display};
 use str0m_signal::{
@@ -31,7 +31,7 @@ fn media_line_read(answer: &mut Answer, word: &str, text: &str) {
 fn media_of_line(answer: &mut Answer, word: &str, read: &Result<(MediaAttribute, &str), SdpError>) {
     match read {
         Ok((attribute, rest)) => media_read(answer, word, attribute, rest),
-        Err(error) => push_refused(answer, error),
+        Err(error) => push_failure_to_speak(answer, error),
     }
 }
 
@@ -56,7 +56,7 @@ fn session_of(answer: &mut Answer, read: &Result<(SessionAttribute, &str), SdpEr
             show_line(answer, attribute);
             push_rest_of_line(answer, rest);
         }
-        Err(error) => push_refused(answer, error),
+        Err(error) => push_failure_to_speak(answer, error),
     }
 }
 
@@ -71,7 +71,7 @@ fn candidate_of_line(answer: &mut Answer, read: &Result<(Candidate, &str), SdpEr
             show_candidate_line(answer, candidate);
             push_rest_of_line(answer, rest);
         }
-        Err(error) => push_refused(answer, error),
+        Err(error) => push_failure_to_speak(answer, error),
     }
 }
 

@@ -1,14 +1,14 @@
 //! Sections that are made of rows in a frame, and the faults of sections.
 
 use crate::escapes::push_escaped;
-use crate::spoken::{description, section};
+use crate::spoken::{spoken_description, spoken_section};
 use format_cases::Answer;
 use str0m_signal::{MediaLine, PayloadParams, Pt, section_of};
 
 /// Answers what the word asks of the text; whether it is one of these words.
 pub(crate) fn answers(answer: &mut Answer, word: &str, text: &str) -> bool {
     match word {
-        "made" => made(answer, text),
+        "made" => made_section_of_text(answer, text),
         "fault" => section_fault(answer, text),
         _ => return false,
     }
@@ -16,8 +16,8 @@ pub(crate) fn answers(answer: &mut Answer, word: &str, text: &str) -> bool {
 }
 
 /// The rows of the second section of a description in the frame of its first, printed.
-fn made(answer: &mut Answer, text: &str) {
-    if let Some(sdp) = &description(answer, text) {
+fn made_section_of_text(answer: &mut Answer, text: &str) {
+    if let Some(sdp) = &spoken_description(answer, text) {
         section_made_of_two(answer, sdp.media_lines.as_slice());
     }
 }
@@ -48,7 +48,7 @@ pub(crate) fn push_made_section(answer: &mut Answer, frame: &MediaLine, rows: &[
 /// What is said of an audio section with a payload type, or `-` for none, and these lines.
 fn section_fault(answer: &mut Answer, text: &str) {
     let (pt, lines) = text.split_once(' ').unwrap_or((text, ""));
-    let mut section = section(answer, lines);
+    let mut section = spoken_section(answer, lines);
     if let Ok(pt) = pt.parse::<u8>() {
         answer.note(section.pts.push(Pt::from(pt)));
     }

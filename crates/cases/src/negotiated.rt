@@ -1,12 +1,12 @@
 //! Rounds of negotiation with a whole text.
 
-use crate::spoken::{fail_to_speak, push_refused, spoken_behind_header};
-use format_cases::{Answer, configuration, is_same, show_rows};
+use crate::spoken::{fail_to_speak, push_failure_to_speak, spoken_behind_header};
+use format_cases::{Answer, configuration, is_same_configuration, show_rows};
 use str0m_signal::{
     CodecConfig, MediaKind, NegotiationError, SdpError, locked_rows, negotiate_text,
 };
 
-type Outcome = Result<(), NegotiationError>;
+type NegotiatedOutcome = Result<(), NegotiationError>;
 
 /// Answers what the word asks of the text; whether it is one of these words.
 pub(crate) fn answers(answer: &mut Answer, word: &str, text: &str) -> bool {
@@ -29,8 +29,8 @@ fn negotiated(answer: &mut Answer, own: &str, text: &str) {
     let mut config = configuration(answer, own);
     let before = copy_of_negotiated(answer, &config);
     let outcomes = negotiate_text(&mut config, text);
-    if is_any_round_accepted(&outcomes) || is_same(&config, &before) {
-        show_outcomes_or_error(answer, &outcomes);
+    if is_any_round_accepted(&outcomes) || is_same_configuration(&config, &before) {
+        show_negotiated_or_error(answer, &outcomes);
         answer.item("\n");
         show_rows(answer, config.params());
     } else {
@@ -43,11 +43,14 @@ fn copy_of_negotiated(answer: &mut Answer, config: &CodecConfig) -> CodecConfig 
     answer.kept(config.clone(), none)
 }
 
-fn show_outcomes_or_error(answer: &mut Answer, outcomes: &Result<Vec<Outcome>, SdpError>) {
+fn show_negotiated_or_error(
+    answer: &mut Answer,
+    outcomes: &Result<Vec<NegotiatedOutcome>, SdpError>,
+) {
     match outcomes {
-        Ok(outcomes) => show_outcomes(answer, outcomes.as_slice()),
+        Ok(outcomes) => show_negotiated_outcomes(answer, outcomes.as_slice()),
         Err(SdpError::Memory) => answer.refuse(),
-        Err(error) => push_refused(answer, error),
+        Err(error) => push_failure_to_speak(answer, error),
     }
 }
 
@@ -56,7 +59,7 @@ fn show_outcomes_or_error(answer: &mut Answer, outcomes: &Result<Vec<Outcome>, S
 fn locked_by_rounds(answer: &mut Answer, own: &str, text: &str) {
     let mut config = configuration(answer, own);
     match &negotiate_text(&mut config, text) {
-        Ok(outcomes) => show_outcomes(answer, outcomes.as_slice()),
+        Ok(outcomes) => show_negotiated_outcomes(answer, outcomes.as_slice()),
         Err(error) => fail_to_speak(answer, error),
     }
     show_locked_by_rounds(answer, &config, "audio ", MediaKind::Audio);
@@ -73,7 +76,7 @@ fn show_locked_by_rounds(answer: &mut Answer, config: &CodecConfig, name: &str, 
     }
 }
 
-fn is_any_round_accepted(outcomes: &Result<Vec<Outcome>, SdpError>) -> bool {
+fn is_any_round_accepted(outcomes: &Result<Vec<NegotiatedOutcome>, SdpError>) -> bool {
     match outcomes {
         Ok(outcomes) => outcomes.iter().any(|outcome| outcome.is_ok()),
         Err(_) => false,
@@ -81,7 +84,7 @@ fn is_any_round_accepted(outcomes: &Result<Vec<Outcome>, SdpError>) -> bool {
 }
 
 /// `ok`, or the text of the cause, of each round. A round that is refused memory is no answer.
-pub(crate) fn show_outcomes(answer: &mut Answer, outcomes: &[Outcome]) {
+pub(crate) fn show_negotiated_outcomes(answer: &mut Answer, outcomes: &[NegotiatedOutcome]) {
     for outcome in outcomes {
         answer.item("\n");
         match outcome {

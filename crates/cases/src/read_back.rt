@@ -1,8 +1,8 @@
 //! Rows that are put into a section of a description, printed with it and read again.
 
 use crate::made_sections::push_made_section;
-use crate::negotiated::show_outcomes;
-use crate::spoken::{description, fail_to_speak};
+use crate::negotiated::show_negotiated_outcomes;
+use crate::spoken::{fail_to_speak, spoken_description};
 use crate::writable::changed_attribute;
 use format_cases::{Answer, configuration, show_rows};
 use str0m_signal::{
@@ -30,7 +30,7 @@ pub(crate) fn answers(answer: &mut Answer, word: &str, text: &str) -> bool {
 
 /// The rows in the frame of a description's first section, printed.
 fn section_printed(answer: &mut Answer, rows: &[PayloadParams], lines: &str) {
-    if let Some(sdp) = &description(answer, lines) {
+    if let Some(sdp) = &spoken_description(answer, lines) {
         push_first_to_read_back(answer, sdp, rows);
     }
 }
@@ -67,7 +67,7 @@ fn negotiated_back(answer: &mut Answer, config: &mut CodecConfig, text: &str) {
 
 fn negotiated_and_back(answer: &mut Answer, config: &mut CodecConfig, text: &str) {
     match &negotiate_text(config, text) {
-        Ok(outcomes) => show_outcomes(answer, outcomes.as_slice()),
+        Ok(outcomes) => show_negotiated_outcomes(answer, outcomes.as_slice()),
         Err(error) => fail_to_speak(answer, error),
     }
 }
@@ -77,7 +77,10 @@ fn negotiated_and_back(answer: &mut Answer, config: &mut CodecConfig, text: &str
 fn first_back(answer: &mut Answer, config: &mut CodecConfig, text: &str) {
     let (lines, text) = text.split_once(" | ").unwrap_or((text, ""));
     negotiated_and_back(answer, config, text);
-    if let (Some(sdp), Some(first)) = (&description(answer, lines), config.params().first()) {
+    if let (Some(sdp), Some(first)) = (
+        &spoken_description(answer, lines),
+        config.params().first(),
+    ) {
         answer.item("\n");
         push_first_to_read_back(answer, sdp, &[*first]);
         answer.item("\n");

@@ -4,7 +4,7 @@ use format_cases::Answer;
 use std::alloc::AllocError;
 use str0m_signal::{Candidates, Fingerprint, IceCreds, Setup};
 
-pub(crate) fn add_setup(answer: &mut Answer, setup: Option<Setup>) {
+pub(crate) fn add_said_setup(answer: &mut Answer, setup: Option<Setup>) {
     if let Some(setup) = setup {
         answer.line("setup");
         answer.push(setup.setup_line());
@@ -12,13 +12,16 @@ pub(crate) fn add_setup(answer: &mut Answer, setup: Option<Setup>) {
 }
 
 /// What a copy of the credentials says.
-pub(crate) fn add_credentials(answer: &mut Answer, found: &Result<Option<IceCreds>, AllocError>) {
+pub(crate) fn add_said_credentials(
+    answer: &mut Answer,
+    found: &Result<Option<IceCreds>, AllocError>,
+) {
     if let Some(creds) = answer.found(found) {
-        add_credentials_copy(answer, creds);
+        add_said_credentials_copy(answer, creds);
     }
 }
 
-fn add_credentials_copy(answer: &mut Answer, creds: &IceCreds) {
+fn add_said_credentials_copy(answer: &mut Answer, creds: &IceCreds) {
     let copy = creds.clone();
     if let Some(creds) = answer.made(&copy) {
         answer.line("credentials");
@@ -28,7 +31,7 @@ fn add_credentials_copy(answer: &mut Answer, creds: &IceCreds) {
     }
 }
 
-pub(crate) fn add_fingerprint(
+pub(crate) fn add_said_fingerprint(
     answer: &mut Answer,
     found: &Result<Option<Fingerprint>, AllocError>,
 ) {
@@ -47,7 +50,7 @@ pub(crate) fn add_said_flag(answer: &mut Answer, words: &str, is_said: bool) {
 }
 
 /// The foundations of the candidates, in order.
-pub(crate) fn add_foundations(answer: &mut Answer, all: Candidates<'_>) {
+pub(crate) fn add_said_foundations(answer: &mut Answer, all: Candidates<'_>) {
     let mut index = 0_usize;
     for candidate in all {
         answer.item_of_line("candidates", index);

@@ -2,9 +2,9 @@
 
 use crate::escapes::push_escaped;
 use crate::said_by_both::{
-    add_credentials, add_fingerprint, add_foundations, add_said_flag, add_setup,
+    add_said_credentials, add_said_fingerprint, add_said_flag, add_said_foundations, add_said_setup,
 };
-use crate::spoken::section;
+use crate::spoken::spoken_section;
 use format_cases::Answer;
 use str0m_signal::{Direction, MediaLine, Simulcast};
 
@@ -20,7 +20,7 @@ pub(crate) fn answers(answer: &mut Answer, word: &str, text: &str) -> bool {
 
 /// All that a section says, a line each.
 fn section_says(answer: &mut Answer, text: &str) {
-    let section = section(answer, text);
+    let section = spoken_section(answer, text);
     add_section_role(answer, &section);
     add_section_transport(answer, &section);
     add_section_data(answer, &section);
@@ -36,7 +36,7 @@ fn add_section_role(answer: &mut Answer, section: &MediaLine) {
     answer.line("direction");
     answer.push(section_direction_word(section.direction()));
     answer.push_if(!section.has_direction(), ", as none is said");
-    add_setup(answer, section.setup());
+    add_said_setup(answer, section.setup());
 }
 
 fn section_direction_word(direction: Direction) -> &'static str {
@@ -49,9 +49,9 @@ fn section_direction_word(direction: Direction) -> &'static str {
 }
 
 fn add_section_transport(answer: &mut Answer, section: &MediaLine) {
-    add_credentials(answer, &section.ice_creds());
-    add_fingerprint(answer, &section.fingerprint());
-    add_foundations(answer, section.ice_candidates());
+    add_said_credentials(answer, &section.ice_creds());
+    add_said_fingerprint(answer, &section.fingerprint());
+    add_said_foundations(answer, section.ice_candidates());
     add_said_flag(answer, "end of candidates", section.end_of_candidates());
 }
 
@@ -123,7 +123,7 @@ fn add_section_ways(answer: &mut Answer, label: &str, simulcast: &Simulcast) {
 /// The word's direction is set in a section of the lines after it: the direction then, and the section.
 fn section_with_direction(answer: &mut Answer, text: &str) {
     let (word, lines) = text.split_once(' ').unwrap_or((text, ""));
-    let mut section = section(answer, lines);
+    let mut section = spoken_section(answer, lines);
     if section.has_direction() {
         section.set_direction(direction_of_section(word));
         show_turned_section(answer, &section);

@@ -1,9 +1,9 @@
 //! What sessions say, and what descriptions say in their session or their sections.
 
 use crate::said_by_both::{
-    add_credentials, add_fingerprint, add_foundations, add_said_flag, add_setup,
+    add_said_credentials, add_said_fingerprint, add_said_flag, add_said_foundations, add_said_setup,
 };
-use crate::spoken::{description, fail_to_speak, session};
+use crate::spoken::{fail_to_speak, spoken_description, spoken_session};
 use format_cases::Answer;
 use str0m_signal::{DistinctCandidates, Sdp, SdpError, Session};
 
@@ -19,13 +19,13 @@ pub(crate) fn answers(answer: &mut Answer, word: &str, text: &str) -> bool {
 }
 
 fn of_session(answer: &mut Answer, text: &str) {
-    if let Some(session) = &session(answer, text) {
+    if let Some(session) = &spoken_session(answer, text) {
         session_says(answer, session);
     }
 }
 
 fn said_by_session(answer: &mut Answer, word: &str, text: &str) {
-    if let Some(sdp) = &mut description(answer, text) {
+    if let Some(sdp) = &mut spoken_description(answer, text) {
         asked_of_session(answer, word, sdp);
     }
 }
@@ -39,19 +39,19 @@ fn asked_of_session(answer: &mut Answer, word: &str, sdp: &mut Sdp) {
 }
 
 fn session_says(answer: &mut Answer, session: &Session) {
-    add_setup(answer, session.setup());
-    add_credentials(answer, &session.ice_creds());
-    add_fingerprint(answer, &session.fingerprint());
+    add_said_setup(answer, session.setup());
+    add_said_credentials(answer, &session.ice_creds());
+    add_said_fingerprint(answer, &session.fingerprint());
     add_said_flag(answer, "ice-lite", session.ice_lite());
-    add_foundations(answer, session.ice_candidates());
+    add_said_foundations(answer, session.ice_candidates());
     add_said_flag(answer, "end of candidates", session.end_of_candidates());
     answer.or_word("nothing");
 }
 
 fn description_says(answer: &mut Answer, sdp: &Sdp) {
-    add_setup(answer, sdp.setup());
-    add_credentials(answer, &sdp.ice_creds());
-    add_fingerprint(answer, &sdp.fingerprint());
+    add_said_setup(answer, sdp.setup());
+    add_said_credentials(answer, &sdp.ice_creds());
+    add_said_fingerprint(answer, &sdp.fingerprint());
     add_session_candidates(answer, sdp);
     add_session_bundle(answer, sdp);
     answer.or_word("nothing");
@@ -116,7 +116,7 @@ fn numbered_session(answer: &mut Answer, text: &str) {
     add_numbered_to_session(&mut lines, count);
     if lines.is_refused() {
         answer.refuse();
-    } else if let Some(sdp) = &description(answer, lines.text()) {
+    } else if let Some(sdp) = &spoken_description(answer, lines.text()) {
         show_session_count(answer, sdp);
     }
 }

@@ -1,6 +1,6 @@
 //! Roles in setting up the transport (RFC 8842, section 5.2), and what m-lines carry.
 
-use crate::spoken::{description, session};
+use crate::spoken::{spoken_description, spoken_session};
 use format_cases::Answer;
 use str0m_signal::{MediaLine, Setup};
 
@@ -33,7 +33,7 @@ fn answering_role(answer: &mut Answer, word: &str) {
 fn role(answer: &mut Answer, word: &str) -> Option<Setup> {
     let alloc = answer.alloc();
     let line = answer.kept(format!(in alloc; "a=setup:{word}\r\n"), String::new(alloc));
-    match &session(answer, line.as_str()) {
+    match &spoken_session(answer, line.as_str()) {
         Some(session) => session.setup(),
         None => None,
     }
@@ -61,19 +61,19 @@ fn carries_role(answer: &mut Answer, head: &str) {
     let alloc = answer.alloc();
     let lines = format!(in alloc; "{head}\r\na=mid:0\r\na=inactive\r\n");
     let lines = answer.kept(lines, String::new(alloc));
-    if let Some(sdp) = &description(answer, lines.as_str()) {
-        show_kind_of_first(answer, sdp.media_lines.as_slice());
+    if let Some(sdp) = &spoken_description(answer, lines.as_str()) {
+        show_said_kind_of_first(answer, sdp.media_lines.as_slice());
     }
 }
 
-fn show_kind_of_first(answer: &mut Answer, sections: &[MediaLine]) {
+fn show_said_kind_of_first(answer: &mut Answer, sections: &[MediaLine]) {
     match sections.first() {
         None => answer.push("no section"),
-        Some(section) => show_kind(answer, section),
+        Some(section) => show_said_kind(answer, section),
     }
 }
 
-fn show_kind(answer: &mut Answer, section: &MediaLine) {
+fn show_said_kind(answer: &mut Answer, section: &MediaLine) {
     answer.push(match (section.typ.is_media(), section.typ.is_channel()) {
         (true, true) => "media and channels",
         (true, false) => "media",

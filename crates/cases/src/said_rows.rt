@@ -1,6 +1,6 @@
 //! The rows that sections describe, as `sdpshow rows` prints them without the mid.
 
-use crate::spoken::{fail_to_speak, section, spoken_behind_header};
+use crate::spoken::{fail_to_speak, spoken_behind_header, spoken_section};
 use format_cases::Answer;
 use std::fmt::Display;
 use str0m_signal::{
@@ -48,7 +48,7 @@ fn show_section_rows(answer: &mut Answer, sdp: &Sdp, rest: &str) {
 
 /// The rows of a section of these attributes.
 fn rows_alone(answer: &mut Answer, text: &str) {
-    let section = section(answer, text);
+    let section = spoken_section(answer, text);
     show_rows(answer, &section);
 }
 
@@ -102,7 +102,7 @@ pub(crate) fn printed<T: Display>(answer: &mut Answer, value: &T) -> String {
 
 /// The feedback of the first row of a section.
 fn first_row_feedback(answer: &mut Answer, text: &str) {
-    let section = section(answer, text);
+    let section = spoken_section(answer, text);
     let rows = section.rtp_params();
     if let Some(rows) = answer.made(&rows) {
         show_first_row_feedback(answer, rows.as_slice());
@@ -137,7 +137,7 @@ fn add_row_feedback_if(answer: &mut Answer, feedback: &str, is_on: bool) {
 fn row_spec_and_back(answer: &mut Answer, text: &str) {
     let alloc = answer.alloc();
     let line = answer.kept(format!(in alloc; "a=rtpmap:96 {text}"), String::new(alloc));
-    let section = section(answer, line.as_str());
+    let section = spoken_section(answer, line.as_str());
     row_mapping_both_ways(answer, section.attrs.as_slice());
 }
 

@@ -1,6 +1,6 @@
 //! What sections say of their sources (RFC 5576), and ids that say that there is no stream.
 
-use crate::spoken::section;
+use crate::spoken::spoken_section;
 use format_cases::Answer;
 use str0m_signal::{SsrcInfo, Text, is_no_stream};
 
@@ -20,7 +20,7 @@ pub(crate) fn answers(answer: &mut Answer, word: &str, text: &str) -> bool {
 
 /// Copies of the sources of an audio section with these lines, a line each.
 fn sources(answer: &mut Answer, lines: &str) {
-    let section = section(answer, lines);
+    let section = spoken_section(answer, lines);
     let found = section.ssrc_info();
     if let Some(found) = answer.made(&found) {
         show_sources(answer, found.as_slice());

@@ -11,7 +11,7 @@ const SECTION_PART: &str = "\n  ";
 pub(crate) fn append_session(answer: &mut Answer, session: &Session) {
     answer.push("session ");
     answer.show(&*session.id);
-    append_bandwidth(answer, &session.bw);
+    append_shown_bandwidth(answer, &session.bw);
     for attribute in session.attrs.as_slice() {
         answer.push(SECTION_PART);
         show_line(answer, attribute);
@@ -21,7 +21,7 @@ pub(crate) fn append_session(answer: &mut Answer, session: &Session) {
 /// Appends what the section's m-line says, its bandwidth and its attributes.
 pub(crate) fn append_section(answer: &mut Answer, section: &MediaLine) {
     append_section_head(answer, section);
-    append_bandwidth(answer, &section.bw);
+    append_shown_bandwidth(answer, &section.bw);
     for attribute in section.attrs.as_slice() {
         answer.push(SECTION_PART);
         show_line(answer, attribute);
@@ -56,7 +56,7 @@ fn append_section_types(answer: &mut Answer, pts: &[Pt]) {
     }
 }
 
-fn append_bandwidth(answer: &mut Answer, bandwidth: &Option<Bandwidth>) {
+fn append_shown_bandwidth(answer: &mut Answer, bandwidth: &Option<Bandwidth>) {
     if let Some(bandwidth) = bandwidth {
         answer.push(SECTION_PART);
         push_printed(answer, bandwidth);

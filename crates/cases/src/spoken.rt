@@ -26,7 +26,7 @@ pub(crate) fn fail_to_speak(answer: &mut Answer, error: &SdpError) {
 }
 
 /// What the header and these lines describe; a line that fits nowhere ends it.
-pub(crate) fn description(answer: &mut Answer, lines: &str) -> Option<Sdp> {
+pub(crate) fn spoken_description(answer: &mut Answer, lines: &str) -> Option<Sdp> {
     let text = spoken_behind_header(answer, lines);
     match sdp_parser(answer.alloc(), text.as_str()) {
         Ok((sdp, _)) => Some(sdp),
@@ -38,7 +38,7 @@ pub(crate) fn description(answer: &mut Answer, lines: &str) -> Option<Sdp> {
 }
 
 /// A session with these attribute lines.
-pub(crate) fn session(answer: &mut Answer, lines: &str) -> Option<Session> {
+pub(crate) fn spoken_session(answer: &mut Answer, lines: &str) -> Option<Session> {
     let text = spoken_behind_header(answer, lines);
     match session_parser(answer.alloc(), text.as_str()) {
         Ok((session, _)) => Some(session),
@@ -58,7 +58,7 @@ pub(crate) fn add_attribute(answer: &mut Answer, section: &mut MediaLine, line: 
 }
 
 /// An audio section with these attribute lines alone, consistent or not.
-pub(crate) fn section(answer: &mut Answer, lines: &str) -> MediaLine {
+pub(crate) fn spoken_section(answer: &mut Answer, lines: &str) -> MediaLine {
     let mut section = MediaLine::new(answer.alloc());
     for line in lines.split("\r\n") {
         if !line.is_empty() {
@@ -69,7 +69,7 @@ pub(crate) fn section(answer: &mut Answer, lines: &str) -> MediaLine {
 }
 
 /// Why a text is refused, as a part of the answer.
-pub(crate) fn push_refused(answer: &mut Answer, error: &SdpError) {
+pub(crate) fn push_failure_to_speak(answer: &mut Answer, error: &SdpError) {
     answer.push("refused, ");
     answer.show(error);
 }

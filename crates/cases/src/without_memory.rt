@@ -12,12 +12,12 @@ const HELD: usize = 54_321;
 /// What reading these lines after a header comes to.
 pub(crate) fn read(answer: &mut Answer, lines: &str) {
     let text = spoken_behind_header(answer, lines);
-    let outcome = outcome(answer.alloc(), text.as_str());
+    let outcome = outcome_without_memory(answer.alloc(), text.as_str());
     let outcome = answer.kept(outcome, "");
     answer.push(outcome);
 }
 
-fn outcome(alloc: Global, text: &str) -> Result<&'static str, AllocError> {
+fn outcome_without_memory(alloc: Global, text: &str) -> Result<&'static str, AllocError> {
     let mut held = String::with_capacity(alloc, HELD)?;
     held.push_str(text)?;
     Ok(match sdp_parser(alloc, held.as_str()) {

@@ -2,7 +2,7 @@
 
 use crate::escapes::push_escaped;
 use crate::held_texts::{in_section, in_session, one_held_item, text_of};
-use crate::spoken::description;
+use crate::spoken::spoken_description;
 use format_cases::Answer;
 use str0m_signal::{
     Bandwidth, FormatParam, Items, MediaAttribute, MediaLine, MediaType, Mid, Proto, Pt, Sdp,
@@ -48,7 +48,7 @@ fn push_writable(answer: &mut Answer, sdp: &Sdp, index: usize) {
 /// `printed-with CHANGE`: what the change adds to the printed text of two sections, and whether the first and the second
 /// are writable then.
 fn printed_with(answer: &mut Answer, change: &str) {
-    if let Some(mut sdp) = description(answer, WRITABLE_SECTIONS) {
+    if let Some(mut sdp) = spoken_description(answer, WRITABLE_SECTIONS) {
         change_writable_description(answer, &mut sdp, change);
         show_offer(answer, &SdpOffer::from(sdp));
     }
@@ -67,15 +67,15 @@ fn show_offer(answer: &mut Answer, offer: &SdpOffer) {
 
 /// What stands in the printed text beside what the two sections print.
 fn push_added_to_writable(answer: &mut Answer, printed: &str) {
-    if let Some(sdp) = &description(answer, WRITABLE_SECTIONS) {
+    if let Some(sdp) = &spoken_description(answer, WRITABLE_SECTIONS) {
         let (session, before) = (answer.printed(&sdp.session), answer.printed(sdp));
-        let added = added(printed, before.as_str(), session.as_str());
+        let added = added_to_writable(printed, before.as_str(), session.as_str());
         push_escaped(answer, added);
     }
 }
 
 /// What stands in the printed text after the one before, or else between its session and its sections.
-fn added<'a>(printed: &'a str, before: &str, session: &str) -> &'a str {
+fn added_to_writable<'a>(printed: &'a str, before: &str, session: &str) -> &'a str {
     if let Some(added) = printed.strip_prefix(before) {
         return added;
     }
@@ -88,7 +88,7 @@ fn added<'a>(printed: &'a str, before: &str, session: &str) -> &'a str {
 /// `LINES | CHANGE`: the description of the lines, changed.
 pub(crate) fn changed_attribute(answer: &mut Answer, text: &str) -> Option<Sdp> {
     let (lines, change) = text.split_once(" | ").unwrap_or((text, ""));
-    let mut sdp = description(answer, lines);
+    let mut sdp = spoken_description(answer, lines);
     if let Some(sdp) = &mut sdp {
         change_writable_description(answer, sdp, change);
     }

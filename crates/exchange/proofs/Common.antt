@@ -1,11 +1,11 @@
 -- The names that proofs cite from elsewhere, passed on from one place. Declares nothing.
-pub use Rattle.exchange.specs.Prelude.{Alike, AllTypesDistinct, Answers, AnswersDirection, AreMidsDistinct, AtMostOne, Candidate}
+pub use Rattle.exchange.specs.Prelude.{Alike, AllTypesDistinct, Answers, AnswersDirection, AreMidsDistinct, AtMostOneAnswer, Candidate}
 pub use Rattle.exchange.specs.Prelude.{Consistent}
 pub use Rattle.exchange.specs.Prelude.{Direction, Fingerprint, FirstLine, HasBoundedRows, HasVideoFeedback, HoldsMids, IceCreds}
 pub use Rattle.exchange.specs.Prelude.{IsCandidateLine, IsFromLine, IsPlain, IsPreferred, IsReading, Line, Lines, LockedStay}
-pub use Rattle.exchange.specs.Prelude.{MediaAttribute, MediaKind, MediaLine, MediaType, Negotiated, Outcome, PayloadParams, Proto}
+pub use Rattle.exchange.specs.Prelude.{MediaAttribute, MediaKind, MediaLine, MediaType, Negotiated, OutcomeOfRound, PayloadParams, Proto}
 pub use Rattle.exchange.specs.Prelude.{RunReached}
-pub use Rattle.exchange.specs.Prelude.{Reading, Refuses, Sdp, Session, SessionAttribute, Setup, SimulcastLayer, bundled_of, creds}
+pub use Rattle.exchange.specs.Prelude.{Reading, ReaderRefuses, Sdp, Session, SessionAttribute, Setup, SimulcastLayer, bundled_of, creds}
 pub use Rattle.exchange.specs.Prelude.{direction_attribute, distinct, first, first_filled_fingerprints, has, is_mid_held, is_group_listed}
 pub use Rattle.exchange.specs.Prelude.{is_media}
 pub use Rattle.exchange.specs.Prelude.{is_mid}

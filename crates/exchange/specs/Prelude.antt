@@ -2,7 +2,7 @@
 pub use Rattle.str0m_formats.specs.declared.row.payload_params.PayloadParams.{PayloadParams}
 pub use Rattle.str0m_formats.specs.round.Claimed.{AllTypesDistinct, has}
 pub use Rattle.str0m_formats.specs.round.RoundsPromises.{LockedStay, RoundsRunPromises}
-pub use Rattle.str0m_formats.specs.round.RoundsRuns.{Outcome, RunReached}
+pub use Rattle.str0m_formats.specs.round.RoundsRuns.{OutcomeOfRound, RunReached}
 pub use Rattle.str0m_formats.specs.row.KindRows.{kind_rows}
 pub use Rattle.str0m_formats.specs.row.PayloadParams.{locked_types, types, types_of}
 pub use Rattle.str0m_formats.specs.row.PlainRow.{HasVideoFeedback, IsPlain}
@@ -37,7 +37,7 @@ pub use Rattle.str0m_signal.specs.line.Lines.{FirstLine, Line, Lines}
 pub use Rattle.str0m_signal.specs.session.Locked.{is_carried_by_section}
 pub use Rattle.str0m_signal.specs.session.Negotiation.{Negotiated}
 pub use Rattle.str0m_signal.specs.session.Reader.{IsFromLine, IsReading, Reading}
-pub use Rattle.str0m_signal.specs.session.ReaderAnswers.{Answers, AtMostOne, IsReaderRefusal, Refuses}
+pub use Rattle.str0m_signal.specs.session.ReaderAnswers.{Answers, AtMostOneAnswer, IsReaderRefusal, ReaderRefuses}
 pub use Rattle.str0m_values.specs.Cuts.{strip, ◌>>=◌}
 pub use Rattle.str0m_values.specs.Direction.{AnswersDirection, receives, sends}
 pub use Rattle.str0m_values.specs.declared.candidate.Candidate.{Candidate}

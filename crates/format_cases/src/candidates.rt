@@ -30,15 +30,15 @@ fn of_candidate_read(
 fn of_candidate(answer: &mut Answer, word: &str, found: &Candidate) {
     match word {
         "candidate-parts" => candidate_parts(answer, found),
-        "candidate-again" => again(answer, found),
+        "candidate-again" => candidate_read_again(answer, found),
         _ => {
-            let printed = printed(answer, found);
+            let printed = candidate_as_printed(answer, found);
             answer.push(printed.as_str());
         }
     }
 }
 
-fn printed(answer: &mut Answer, found: &Candidate) -> String {
+fn candidate_as_printed(answer: &mut Answer, found: &Candidate) -> String {
     let alloc = answer.alloc();
     answer.kept(found.to_sdp_string(alloc), String::new(alloc))
 }
@@ -85,8 +85,8 @@ fn candidate_socket(answer: &mut Answer, socket: Option<SocketAddr>) {
 }
 
 /// Whether the printed candidate is read as the same candidate again.
-fn again(answer: &mut Answer, found: &Candidate) {
-    let printed = printed(answer, found);
+fn candidate_read_again(answer: &mut Answer, found: &Candidate) {
+    let printed = candidate_as_printed(answer, found);
     let read = candidate(answer.alloc(), printed.as_str());
     compared_candidates(answer, found, &read);
 }

@@ -3,7 +3,7 @@
 
 use crate::answer::Answer;
 use crate::row_texts::row_type_of;
-use crate::row_words::sides;
+use crate::row_words::word_sides;
 use str0m_formats::{ClaimMask, Claimed};
 use str0m_values::Pt;
 
@@ -76,7 +76,7 @@ fn unclaimed_in<C: Claimed>(answer: &mut Answer, claimed: &str, unlocked: &str) 
 
 /// `unclaimed SET | SET`: the first type that is in neither set, of which the second has the types of open rows.
 pub(crate) fn unclaimed_types(answer: &mut Answer, text: &str) {
-    let (claimed, unlocked) = sides(answer, text);
+    let (claimed, unlocked) = word_sides(answer, text);
     let table = unclaimed_in::<[bool; 128]>(answer, claimed, unlocked);
     let mask = unclaimed_in::<ClaimMask>(answer, claimed, unlocked);
     if mask == table {

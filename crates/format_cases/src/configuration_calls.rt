@@ -1,7 +1,7 @@
 //! Configurations by the calls that make them, parted by `, `, as `defaults, disable opus`.
 
 use crate::answer::Answer;
-use crate::lists::word;
+use crate::lists::listed_word;
 use crate::row_texts::{codec_of, row_byte_of, row_of, row_type_of, row_type_or_dash, rows_of};
 use std::alloc::AllocError;
 use str0m_formats::{Codec, CodecConfig};
@@ -48,7 +48,7 @@ fn enable_codec(
     text: &str,
     is_on: bool,
 ) -> Result<(), AllocError> {
-    let (name, red) = word(text);
+    let (name, red) = listed_word(text);
     let codec = codec_of(answer, name);
     let enabled = match red {
         "red" => enable_audio(config, codec, is_on, true),
@@ -86,9 +86,9 @@ fn configure_h264(
     config: &mut CodecConfig,
     text: &str,
 ) -> Result<(), AllocError> {
-    let (pt, rest) = word(text);
-    let (resend, rest) = word(rest);
-    let (mode, id) = word(rest);
+    let (pt, rest) = listed_word(text);
+    let (resend, rest) = listed_word(rest);
+    let (mode, id) = listed_word(rest);
     let id = u32::from_str_radix(id, 16);
     if id.is_err() || !matches!(mode, "0" | "1") {
         answer.no_such("call");
@@ -104,10 +104,10 @@ fn configure_triple(
     text: &str,
     is_h266: bool,
 ) -> Result<(), AllocError> {
-    let (pt, rest) = word(text);
-    let (resend, rest) = word(rest);
-    let (profile, rest) = word(rest);
-    let (tier, level) = word(rest);
+    let (pt, rest) = listed_word(text);
+    let (resend, rest) = listed_word(rest);
+    let (profile, rest) = listed_word(rest);
+    let (tier, level) = listed_word(rest);
     let (pt, resend) = (row_type_of(answer, pt), row_type_or_dash(answer, resend));
     let profile = row_byte_of(answer, profile, "call");
     let tier = row_byte_of(answer, tier, "call");
@@ -128,7 +128,7 @@ fn set_configuration_defaults(
 }
 
 fn call(answer: &mut Answer, config: &mut CodecConfig, text: &str) -> Result<(), AllocError> {
-    let (name, rest) = word(text);
+    let (name, rest) = listed_word(text);
     match name {
         "defaults" => set_configuration_defaults(answer, config),
         "enable" => enable_codec(answer, config, rest, true),
@@ -153,7 +153,7 @@ fn clear_configuration(answer: &mut Answer, config: &mut CodecConfig, name: &str
 }
 
 /// Whether two configurations have the same rows, locked in the same places, and distances.
-pub fn is_same(one: &CodecConfig, other: &CodecConfig) -> bool {
+pub fn is_same_configuration(one: &CodecConfig, other: &CodecConfig) -> bool {
     let is_locked_alike = one
         .params()
         .iter()
@@ -182,7 +182,7 @@ pub(crate) fn made_configuration(answer: &mut Answer, calls: &str) -> CodecConfi
 fn call_unless_refused(answer: &mut Answer, config: &mut CodecConfig, text: &str) {
     let before = copy_of_configuration(answer, config);
     if !answer.is_refused() && call(answer, config, text).is_err() {
-        answer.refuse_if(is_same(config, &before));
+        answer.refuse_if(is_same_configuration(config, &before));
     }
 }
 

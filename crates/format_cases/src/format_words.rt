@@ -1,8 +1,8 @@
 //! Codecs, parameters and formats: what is read and what is printed. `-` stands for what prints nothing.
 
 use crate::answer::Answer;
-use crate::lists::word;
-use crate::row_answers::{push_or_dash, show_codec};
+use crate::lists::listed_word;
+use crate::row_answers::{push_answer_or_dash, show_codec};
 use crate::row_texts::{format_of, row_type_of};
 use std::alloc::AllocError;
 use std::fmt::Display;
@@ -12,7 +12,7 @@ use str0m_values::MediaKind;
 /// What the value prints, and `-` for nothing.
 fn show_format_or_dash<T: Display>(answer: &mut Answer, value: &T) {
     let printed = answer.printed(value);
-    push_or_dash(answer, printed.as_str());
+    push_answer_or_dash(answer, printed.as_str());
 }
 
 /// What packets of the codec carry.
@@ -40,7 +40,7 @@ pub(crate) fn codec(answer: &mut Answer, name: &str) {
 }
 
 /// `static TYPE`: what a payload type stands for without a mapping.
-pub(crate) fn static_type(answer: &mut Answer, text: &str) {
+pub(crate) fn static_format(answer: &mut Answer, text: &str) {
     match CodecSpec::from_static_pt(row_type_of(answer, text)) {
         Some(spec) => show_codec_spec(answer, &spec),
         None => answer.push("none"),
@@ -54,7 +54,7 @@ fn show_codec_spec(answer: &mut Answer, spec: &CodecSpec) {
 }
 
 /// What stands before and after the first `=`.
-fn pair<'a>(answer: &mut Answer, text: &'a str) -> (&'a str, &'a str) {
+fn format_pair<'a>(answer: &mut Answer, text: &'a str) -> (&'a str, &'a str) {
     match text.split_once('=') {
         Some(pair) => pair,
         None => {
@@ -66,7 +66,7 @@ fn pair<'a>(answer: &mut Answer, text: &'a str) -> (&'a str, &'a str) {
 
 /// `param KEY=VALUE`: the parameter that the value reads as after the key.
 pub(crate) fn param(answer: &mut Answer, text: &str) {
-    let (key, value) = pair(answer, text);
+    let (key, value) = format_pair(answer, text);
     show_format_or_dash(answer, &FormatParam::parse(key, value));
 }
 
@@ -78,7 +78,7 @@ pub(crate) fn telephone_events(answer: &mut Answer, value: &str) {
 fn format_pairs_of<'a>(answer: &mut Answer, text: &'a str) -> Vec<(&'a str, &'a str)> {
     let mut pairs = Vec::new(answer.alloc());
     for piece in text.split(';') {
-        let pair = pair(answer, piece);
+        let pair = format_pair(answer, piece);
         answer.note(pairs.extend_from_slice(&[pair]));
     }
     pairs
@@ -102,34 +102,34 @@ fn show_params(answer: &mut Answer, params: &[FormatParam]) {
 }
 
 /// `pairs KEY=VALUE;KEY=VALUE`: the parameters that pairs read as together.
-pub(crate) fn pairs(answer: &mut Answer, text: &str) {
+pub(crate) fn format_of_pairs(answer: &mut Answer, text: &str) {
     let pairs = format_pairs_of(answer, text);
     let read = FormatParam::parse_pairs(answer.alloc(), pairs.as_slice());
     joined_words(answer, &read);
 }
 
 /// The format that the line says.
-fn said(answer: &mut Answer, line: &str) -> FormatParams {
+fn said_format(answer: &mut Answer, line: &str) -> FormatParams {
     let read = FormatParams::parse_line(answer.alloc(), line);
     answer.kept(read, FormatParams::default())
 }
 
 /// `line LINE`: the format that the line says.
-pub(crate) fn line(answer: &mut Answer, text: &str) {
-    let format = said(answer, text);
+pub(crate) fn format_of_line(answer: &mut Answer, text: &str) {
+    let format = said_format(answer, text);
     show_format_or_dash(answer, &format);
 }
 
 /// `parameters LINE`: the parameters of the format that the line says.
 pub(crate) fn parameters_of_format(answer: &mut Answer, text: &str) {
-    let format = said(answer, text);
+    let format = said_format(answer, text);
     let params = format.to_format_param(answer.alloc());
     joined_words(answer, &params);
 }
 
 /// `triple LINE`: whose profile, tier and level the format of the line has.
 pub(crate) fn format_triple(answer: &mut Answer, text: &str) {
-    let format = said(answer, text);
+    let format = said_format(answer, text);
     let (h265, h266) = (
         format.h265_profile_tier_level.is_some(),
         format.h266_profile_tier_level.is_some(),
@@ -144,9 +144,9 @@ pub(crate) fn format_triple(answer: &mut Answer, text: &str) {
 
 /// `set FORMAT KEY=VALUE`: the format once the parameter is set.
 pub(crate) fn set_format(answer: &mut Answer, text: &str) {
-    let (line, said) = word(text);
+    let (line, said) = listed_word(text);
     let mut format = format_of(answer, line);
-    let (key, value) = pair(answer, said);
+    let (key, value) = format_pair(answer, said);
     format.set_param(&FormatParam::parse(key, value));
     show_format_or_dash(answer, &format);
 }

@@ -14,13 +14,13 @@ pub(crate) fn answers(answer: &mut Answer, word: &str, text: &str) -> bool {
 /// What is asked of codecs and formats.
 fn of_formats(answer: &mut Answer, word: &str, text: &str) -> bool {
     match word {
-        "static" => format_words::static_type(answer, text),
+        "static" => format_words::static_format(answer, text),
         "param" => format_words::param(answer, text),
-        "pairs" => format_words::pairs(answer, text),
+        "pairs" => format_words::format_of_pairs(answer, text),
         "set" => format_words::set_format(answer, text),
         "codec" => format_words::codec(answer, text),
         "events" => format_words::telephone_events(answer, text),
-        "line" => format_words::line(answer, text),
+        "line" => format_words::format_of_line(answer, text),
         "parameters" => format_words::parameters_of_format(answer, text),
         "triple" => format_words::format_triple(answer, text),
         _ => return false,
@@ -34,8 +34,8 @@ fn of_configurations(answer: &mut Answer, word: &str, text: &str) -> bool {
         "configuration" => row_words::configuration_rows(answer, text),
         "match" => row_words::best_row(answer, text),
         "meet" => row_words::met_row(answer, text),
-        "kind" => row_words::kind(answer, text, false),
-        "offer" => row_words::kind(answer, text, true),
+        "kind" => row_words::rows_of_kind(answer, text, false),
+        "offer" => row_words::rows_of_kind(answer, text, true),
         "maximum" => row_words::row_maximum_event(answer, text),
         "has" => row_words::has_row(answer, text),
         _ => return false,

@@ -1,7 +1,7 @@
 //! Profiles and levels of H264.
 
 use crate::answer::Answer;
-use crate::lists::word;
+use crate::lists::listed_word;
 use str0m_values::cuts::hex_u32;
 use str0m_values::{H264ProfileLevel, NoProfileLevel, lower_level};
 
@@ -10,7 +10,7 @@ pub(crate) fn answers(answer: &mut Answer, asked: &str, text: &str) -> bool {
     match asked {
         "h264" => named_profile(answer, text),
         "h264-fallback" => h264_shown(answer, H264ProfileLevel::FALLBACK),
-        "h264-levels-of-high" => levels_of_high(answer),
+        "h264-levels-of-high" => levels_of_high_profile(answer),
         "h264-lower" => lower_profile(answer, text),
         _ => return false,
     }
@@ -41,7 +41,7 @@ fn h264_shown(answer: &mut Answer, found: H264ProfileLevel) {
 }
 
 /// Each last byte that names a level of the profile High, with its level.
-fn levels_of_high(answer: &mut Answer) {
+fn levels_of_high_profile(answer: &mut Answer) {
     let mut is_any = false;
     for level_idc in 0..=255 {
         if let Ok(found) = H264ProfileLevel::try_from(0x640000 | level_idc) {
@@ -56,7 +56,7 @@ fn levels_of_high(answer: &mut Answer) {
 
 /// The id of the lower of two levels, `OWN OTHER`, each in hexadecimal or `-` for none.
 fn lower_profile(answer: &mut Answer, text: &str) {
-    let (own, other) = word(text);
+    let (own, other) = listed_word(text);
     match (profile_id_or_dash(own), profile_id_or_dash(other)) {
         (Some(own), Some(other)) => lower_profile_of(answer, own, other),
         _ => answer.push("no two numbers"),

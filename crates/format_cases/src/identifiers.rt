@@ -12,20 +12,20 @@ pub(crate) fn answers(answer: &mut Answer, word: &str, text: &str) -> bool {
         "mid-printed" => answer.show(&Mid::from(text)),
         "rid" => answer.push(Rid::from(text).as_str()),
         "rid-printed" => answer.show(&Rid::from(text)),
-        "same-text" => answer.push(same_text(text)),
+        "same-text" => answer.push(same_identifier(text)),
         "receiving" => answer.push(receiving_direction(text)),
         "direction" => direction_ways(answer, direction(text)),
         "direction-answered" => answered_direction(answer, text),
-        _ => return of_held_texts(answer, word, text),
+        _ => return of_identifier_texts(answer, word, text),
     }
     true
 }
 
 /// Of values that hold a text.
-fn of_held_texts(answer: &mut Answer, word: &str, text: &str) -> bool {
+fn of_identifier_texts(answer: &mut Answer, word: &str, text: &str) -> bool {
     let alloc = answer.alloc();
     match word {
-        "text" => kept(answer, text),
+        "text" => kept_identifier_text(answer, text),
         "extension" => extension_listing(answer, &Extension::from_sdp_uri(alloc, text)),
         "own-extension" => extension_listing(answer, &Extension::new(alloc, text, false)),
         _ => return false,
@@ -33,7 +33,7 @@ fn of_held_texts(answer: &mut Answer, word: &str, text: &str) -> bool {
     true
 }
 
-fn kept(answer: &mut Answer, text: &str) {
+fn kept_identifier_text(answer: &mut Answer, text: &str) {
     let alloc = answer.alloc();
     let kept = answer.kept(Text::from_str(alloc, text), Text::empty());
     let string = answer.kept(kept.into_string(alloc), String::new(alloc));
@@ -41,7 +41,7 @@ fn kept(answer: &mut Answer, text: &str) {
 }
 
 /// Whether two words are one text without regard to the case of ASCII letters.
-fn same_text(text: &str) -> &'static str {
+fn same_identifier(text: &str) -> &'static str {
     match text.split_once(' ') {
         Some((one, other)) if is_same_text(one, other) => "yes",
         Some(_) => "no",

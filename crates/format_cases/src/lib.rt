@@ -42,7 +42,7 @@ mod tiered_profiles;
 mod value_words;
 
 pub use crate::answer::Answer;
-pub use crate::configuration_calls::{configuration, is_same};
+pub use crate::configuration_calls::{configuration, is_same_configuration};
 pub use crate::row_answers::show_rows;
 pub use crate::row_texts::rows_of;
 

@@ -1,7 +1,7 @@
 //! Words and numbers in a text.
 
 /// The first word of a text, and what stands after the space.
-pub(crate) fn word(text: &str) -> (&str, &str) {
+pub(crate) fn listed_word(text: &str) -> (&str, &str) {
     text.split_once(' ').unwrap_or((text, ""))
 }
 
@@ -18,8 +18,8 @@ pub(crate) fn value_of<'a>(text: &'a str, name: &str) -> Option<&'a str> {
 
 /// Three numbers of 8 bits, which spaces part.
 pub(crate) fn three_listed_bytes(text: &str) -> Option<(u8, u8, u8)> {
-    let (first, rest) = word(text);
-    let (second, third) = word(rest);
+    let (first, rest) = listed_word(text);
+    let (second, third) = listed_word(rest);
     match (
         first.parse::<u8>(),
         second.parse::<u8>(),

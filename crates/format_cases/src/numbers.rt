@@ -22,10 +22,10 @@ pub(crate) fn answers(answer: &mut Answer, word: &str, text: &str) -> bool {
 /// Of clock rates, in Hz.
 fn of_clock_rates(answer: &mut Answer, word: &str, text: &str) -> bool {
     match word {
-        "clock-rate" => answer.show_or(&hertz(text), "none"),
+        "clock-rate" => answer.show_or(&rate_number_in_hertz(text), "none"),
         "clock-rate-printed" => answer.show_or(&Frequency::from_str(text), "none"),
         "clock-rate-of" => answer.show_or(&rate_of_number(text), "none"),
-        "clock-rate-names" => rate_names(answer),
+        "clock-rate-names" => named_rate_numbers(answer),
         _ => return false,
     }
     true
@@ -37,7 +37,7 @@ fn number_unless_dash(text: &str) -> Option<&str> {
 }
 
 /// The clock rate that a text names, in Hz.
-fn hertz(text: &str) -> Option<u32> {
+fn rate_number_in_hertz(text: &str) -> Option<u32> {
     Some(Frequency::from_str(text)?.get())
 }
 
@@ -47,7 +47,7 @@ fn rate_of_number(text: &str) -> Option<Frequency> {
 }
 
 /// The clock rates that have names.
-fn rate_names(answer: &mut Answer) {
+fn named_rate_numbers(answer: &mut Answer) {
     answer.push("EIGHT_KHZ ");
     answer.show(&Frequency::EIGHT_KHZ.get());
     answer.push(", SIXTEEN_KHZ ");

@@ -2,14 +2,14 @@
 
 use crate::answer::Answer;
 use crate::configuration_calls::config_of;
-use crate::lists::word;
+use crate::lists::listed_word;
 use crate::row_texts::{row_of, row_type_of};
 use str0m_formats::{FormatParams, PayloadParams};
 use str0m_values::{H265ProfileTierLevel, H266ProfileTierLevel};
 
 /// Sets one field of a format: `modes MASK`, `distance N`, `profile-id N`, or the fallback of `h265` or `h266`.
 fn set_row_field(answer: &mut Answer, format: &mut FormatParams, text: &str) {
-    let (name, rest) = word(text);
+    let (name, rest) = listed_word(text);
     match name {
         "h265" => format.h265_profile_tier_level = Some(H265ProfileTierLevel::FALLBACK),
         "h266" => format.h266_profile_tier_level = Some(H266ProfileTierLevel::FALLBACK),

@@ -3,17 +3,17 @@
 
 use crate::answer::Answer;
 use crate::claim_words::CLAIMS_DIFFER;
-use crate::configuration_calls::{config_of, copy_of_configuration, is_same};
-use crate::lists::word;
+use crate::configuration_calls::{config_of, copy_of_configuration, is_same_configuration};
+use crate::lists::listed_word;
 use crate::row_answers::show_rows;
 use crate::row_texts::rows_of;
-use crate::row_words::{direction_of_rows, sides};
+use crate::row_words::{direction_of_rows, word_sides};
 use str0m_formats::{ClaimMask, Claimed, CodecConfig, NegotiationError, Round};
 
-type Outcome = Result<(), NegotiationError>;
+type OutcomeOfRound = Result<(), NegotiationError>;
 
 fn round_of(answer: &mut Answer, text: &str) -> Round {
-    let (direction, remote) = word(text);
+    let (direction, remote) = listed_word(text);
     let direction = direction_of_rows(answer, direction);
     let remote = rows_of(answer, remote);
     Round { remote, direction }
@@ -31,7 +31,7 @@ fn rounds_of(answer: &mut Answer, text: &str) -> Vec<Round> {
 }
 
 /// `ok`, or the text of the cause.
-fn show_outcome(answer: &mut Answer, outcome: Outcome) {
+fn show_round_outcome(answer: &mut Answer, outcome: OutcomeOfRound) {
     match outcome {
         Ok(()) => answer.push("ok"),
         Err(cause) => answer.show(&cause),
@@ -43,21 +43,21 @@ fn run_round_in<C: Claimed>(
     answer: &mut Answer,
     config: &mut CodecConfig,
     round: &Round,
-) -> Outcome {
+) -> OutcomeOfRound {
     let before = copy_of_configuration(answer, config);
     let outcome = config.update_params_in::<C>(round.remote.as_slice(), round.direction);
     if outcome == Err(NegotiationError::Memory) {
-        answer.refuse_if(is_same(config, &before));
+        answer.refuse_if(is_same_configuration(config, &before));
     }
     outcome
 }
 
 /// Runs one round with every table of claims; all have to come to the same.
-fn run_one_round(answer: &mut Answer, config: &mut CodecConfig, round: &Round) -> Outcome {
+fn run_one_round(answer: &mut Answer, config: &mut CodecConfig, round: &Round) -> OutcomeOfRound {
     let mut other = copy_of_configuration(answer, config);
     let outcome = run_round_in::<ClaimMask>(answer, config, round);
     let in_table = run_round_in::<[bool; 128]>(answer, &mut other, round);
-    if in_table != outcome || !is_same(config, &other) {
+    if in_table != outcome || !is_same_configuration(config, &other) {
         answer.settle(CLAIMS_DIFFER);
     }
     outcome
@@ -65,7 +65,7 @@ fn run_one_round(answer: &mut Answer, config: &mut CodecConfig, round: &Round) -
 
 /// `rounds ROWS | ROUND | ROUND`: rounds one after another, each on a line: its outcome, and the rows that it leaves.
 pub(crate) fn rounds(answer: &mut Answer, text: &str) {
-    let (own, said) = sides(answer, text);
+    let (own, said) = word_sides(answer, text);
     let mut config = config_of(answer, own);
     let rounds = rounds_of(answer, said);
     rounds_one_by_one(answer, &mut config, rounds.as_slice());
@@ -76,7 +76,7 @@ fn rounds_one_by_one(answer: &mut Answer, config: &mut CodecConfig, rounds: &[Ro
     for round in rounds {
         let outcome = run_one_round(answer, config, round);
         answer.push(separator);
-        show_outcome(answer, outcome);
+        show_round_outcome(answer, outcome);
         answer.push(": ");
         show_rows(answer, config.params());
         separator = "\n";
@@ -89,13 +89,13 @@ fn run_all_rounds(answer: &mut Answer, config: &mut CodecConfig, rounds: &[Round
     let mut alone = copy_of_configuration(answer, config);
     match &config.update_all(rounds) {
         Ok(outcomes) => {
-            show_outcomes(answer, outcomes.as_slice());
+            show_round_outcomes(answer, outcomes.as_slice());
             let wants_memory = run_rounds_again(answer, &mut alone, rounds, outcomes.as_slice());
-            if wants_memory || !is_same(config, &alone) {
-                answer.refuse_if(is_same(config, &alone));
+            if wants_memory || !is_same_configuration(config, &alone) {
+                answer.refuse_if(is_same_configuration(config, &alone));
             }
         }
-        Err(_) => answer.refuse_if(is_same(config, &alone)),
+        Err(_) => answer.refuse_if(is_same_configuration(config, &alone)),
     }
 }
 
@@ -104,7 +104,7 @@ fn run_rounds_again(
     answer: &mut Answer,
     config: &mut CodecConfig,
     rounds: &[Round],
-    outcomes: &[Outcome],
+    outcomes: &[OutcomeOfRound],
 ) -> bool {
     let mut wants_memory = false;
     for (round, outcome) in rounds.iter().zip(outcomes.iter()) {
@@ -119,7 +119,7 @@ fn run_rounds_again(
 
 /// `together ROWS | ROUND | ROUND`: rounds in one call, their outcomes and the rows that the last one leaves.
 pub(crate) fn run_rounds_together(answer: &mut Answer, text: &str) {
-    let (own, said) = sides(answer, text);
+    let (own, said) = word_sides(answer, text);
     let mut config = config_of(answer, own);
     let rounds = rounds_of(answer, said);
     run_all_rounds(answer, &mut config, rounds.as_slice());
@@ -127,9 +127,9 @@ pub(crate) fn run_rounds_together(answer: &mut Answer, text: &str) {
 }
 
 /// Each outcome, with a colon after it.
-fn show_outcomes(answer: &mut Answer, outcomes: &[Outcome]) {
+fn show_round_outcomes(answer: &mut Answer, outcomes: &[OutcomeOfRound]) {
     for outcome in outcomes {
-        show_outcome(answer, *outcome);
+        show_round_outcome(answer, *outcome);
         answer.push(": ");
     }
 }

@@ -4,7 +4,7 @@ use crate::answer::Answer;
 use str0m_formats::{CodecSpec, PayloadParams};
 
 /// The text, and `-` for an empty one.
-pub(crate) fn push_or_dash(answer: &mut Answer, text: &str) {
+pub(crate) fn push_answer_or_dash(answer: &mut Answer, text: &str) {
     answer.push(if text.is_empty() { "-" } else { text });
 }
 
@@ -26,7 +26,7 @@ pub(crate) fn show_row(answer: &mut Answer, row: &PayloadParams) {
     show_codec(answer, &spec);
     answer.push(" ");
     let format = answer.printed(&spec.format);
-    push_or_dash(answer, format.as_str());
+    push_answer_or_dash(answer, format.as_str());
     answer.push_if(!row.fb_transport_cc(), " no-transport-cc");
 }
 

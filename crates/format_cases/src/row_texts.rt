@@ -4,7 +4,7 @@
 //! Of a text that names no such thing the answer says so, and anything stands for it.
 
 use crate::answer::Answer;
-use crate::lists::word;
+use crate::lists::listed_word;
 use str0m_formats::{Codec, CodecSpec, FormatParams, PayloadParams};
 use str0m_values::{Frequency, Pt};
 
@@ -61,7 +61,7 @@ fn format_said(answer: &mut Answer, line: &str) -> FormatParams {
 
 /// A codec with its rates and its format, as `opus/48000/2 minptime=10`.
 pub(crate) fn row_spec_of(answer: &mut Answer, map: &str, format: &str) -> CodecSpec {
-    let (name, rates) = split_at_slash(answer, map);
+    let (name, rates) = split_row_at_slash(answer, map);
     let (rate, channels) = row_rate_and_channels(rates);
     CodecSpec {
         codec: codec_of(answer, name),
@@ -83,7 +83,7 @@ fn row_channels_of(answer: &mut Answer, text: Option<&str>) -> Option<u8> {
     Some(row_byte_of(answer, text?, "row"))
 }
 
-fn split_at_slash<'a>(answer: &mut Answer, map: &'a str) -> (&'a str, &'a str) {
+fn split_row_at_slash<'a>(answer: &mut Answer, map: &'a str) -> (&'a str, &'a str) {
     match map.split_once('/') {
         Some(parts) => parts,
         None => {
@@ -117,16 +117,16 @@ fn turn_row_feedback_off(answer: &mut Answer, row: &mut PayloadParams, word: &st
 
 /// A codec with its rates and its format, and the text after them.
 fn row_spec_and_rest<'a>(answer: &mut Answer, text: &'a str) -> (CodecSpec, &'a str) {
-    let (map, rest) = word(text);
-    let (format, rest) = word(rest);
+    let (map, rest) = listed_word(text);
+    let (format, rest) = listed_word(rest);
     (row_spec_of(answer, map, format), rest)
 }
 
 /// The row, without the feedback that is turned off in it, a word each.
 pub(crate) fn row_of(answer: &mut Answer, text: &str) -> PayloadParams {
-    let (pt, rest) = word(text);
-    let (resend, rest) = word(rest);
-    let (red, rest) = word(rest);
+    let (pt, rest) = listed_word(text);
+    let (resend, rest) = listed_word(rest);
+    let (red, rest) = listed_word(rest);
     let (spec, feedback) = row_spec_and_rest(answer, rest);
     let (pt, resend) = (row_type_of(answer, pt), row_type_or_dash(answer, resend));
     let mut row = PayloadParams::new(pt, resend, spec).with_red(row_type_or_dash(answer, red));

@@ -3,14 +3,14 @@
 use crate::answer::Answer;
 use crate::configuration_calls::{config_of, made_configuration};
 use crate::identifiers::direction;
-use crate::lists::word;
+use crate::lists::listed_word;
 use crate::row_answers::{show_row, show_rows};
 use crate::row_texts::{row_of, row_spec_of, row_type_of, rows_of};
 use str0m_formats::{CodecConfig, PayloadParams};
 use str0m_values::{Direction, MediaKind, Pt};
 
 /// What stands on both sides of the first bar.
-pub(crate) fn sides<'a>(answer: &mut Answer, text: &'a str) -> (&'a str, &'a str) {
+pub(crate) fn word_sides<'a>(answer: &mut Answer, text: &'a str) -> (&'a str, &'a str) {
     match text.split_once(" | ") {
         Some(sides) => sides,
         None => {
@@ -43,13 +43,13 @@ fn kind_of_rows(answer: &mut Answer, text: &str) -> MediaKind {
 
 /// A row of a codec alone, as `opus/48000/2 minptime=10`, at this type.
 fn row_of_spec(answer: &mut Answer, pt: u8, text: &str) -> PayloadParams {
-    let (map, format) = word(text);
+    let (map, format) = listed_word(text);
     PayloadParams::new(Pt::from(pt), None, row_spec_of(answer, map, format))
 }
 
 /// `score SPEC | SPEC`: how well two rows match.
 pub(crate) fn row_score(answer: &mut Answer, text: &str) {
-    let (own, other) = sides(answer, text);
+    let (own, other) = word_sides(answer, text);
     let own = row_of_spec(answer, 96, own);
     let other = row_of_spec(answer, 97, other);
     answer.show_or(&own.match_score(&other), "none");
@@ -70,7 +70,7 @@ fn show_row_or_none(answer: &mut Answer, row: Option<&PayloadParams>) {
 
 /// `match ROWS | ROW`: the row that matches best.
 pub(crate) fn best_row(answer: &mut Answer, text: &str) {
-    let (own, asked) = sides(answer, text);
+    let (own, asked) = word_sides(answer, text);
     let config = config_of(answer, own);
     let rows = rows_of(answer, asked);
     match rows.first() {
@@ -81,8 +81,8 @@ pub(crate) fn best_row(answer: &mut Answer, text: &str) {
 
 /// `meet DIRECTION ROWS | ROW`: the type under which the remote row of the direction is met.
 pub(crate) fn met_row(answer: &mut Answer, text: &str) {
-    let (own, remote) = sides(answer, text);
-    let (direction, own) = word(own);
+    let (own, remote) = word_sides(answer, text);
+    let (direction, own) = listed_word(own);
     let direction = direction_of_rows(answer, direction);
     let config = config_of(answer, own);
     let remote = row_of(answer, remote);
@@ -105,8 +105,8 @@ fn show_rows_of_kind(
 }
 
 /// `kind KIND ROWS`: the rows of the kind, and by `offer KIND ROWS` those for a new offer.
-pub(crate) fn kind(answer: &mut Answer, text: &str, for_new_offer: bool) {
-    let (kind, rows) = word(text);
+pub(crate) fn rows_of_kind(answer: &mut Answer, text: &str, for_new_offer: bool) {
+    let (kind, rows) = listed_word(text);
     let kind = kind_of_rows(answer, kind);
     let config = config_of(answer, rows);
     show_rows_of_kind(answer, &config, kind, for_new_offer);
@@ -114,7 +114,7 @@ pub(crate) fn kind(answer: &mut Answer, text: &str, for_new_offer: bool) {
 
 /// `maximum TYPE ROWS`: the highest telephone event of the row of the type.
 pub(crate) fn row_maximum_event(answer: &mut Answer, text: &str) {
-    let (pt, rows) = word(text);
+    let (pt, rows) = listed_word(text);
     let pt = row_type_of(answer, pt);
     let config = config_of(answer, rows);
     answer.show_or(&config.tele_event_max(pt), "none");
@@ -122,7 +122,7 @@ pub(crate) fn row_maximum_event(answer: &mut Answer, text: &str) {
 
 /// `has TYPE ROWS`: whether a row has the type as its primary one.
 pub(crate) fn has_row(answer: &mut Answer, text: &str) {
-    let (pt, rows) = word(text);
+    let (pt, rows) = listed_word(text);
     let pt = row_type_of(answer, pt);
     let config = config_of(answer, rows);
     answer.push(if config.has_pt(pt) { "yes" } else { "no" });

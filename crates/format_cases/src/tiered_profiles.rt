@@ -79,7 +79,7 @@ fn profile_part<A: Debug + Copy>(answer: &mut Answer, found: A, id: u8) {
 }
 
 /// The part that the word asks for, with its number.
-fn asked<P: Numbered + Debug, T: Numbered + Debug, L: Leveled + Debug>(
+fn asked_profile_part<P: Numbered + Debug, T: Numbered + Debug, L: Leveled + Debug>(
     answer: &mut Answer,
     word: &str,
     found: ProfileTierLevel<P, T, L>,
@@ -101,7 +101,7 @@ fn listed_profiles<P: Numbered + Debug, T: Numbered + Debug, L: Leveled + Debug>
     for number in 0..=255 {
         if let Some(found) = numbered_profile(word, number, fallback) {
             answer.push(separator);
-            asked(answer, word, found);
+            asked_profile_part(answer, word, found);
             separator = ", ";
         }
     }

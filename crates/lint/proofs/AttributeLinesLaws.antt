@@ -114,12 +114,14 @@ one_line_further old before text said now next passed rest left more content aft
     }
 
 -- a line stands there, so its number is that of a line
-pub here : (old : Notes) (before : ℕ) (text : List ℕ) (said : List Mark) (now : Notes) (passed : ℕ) (rest : List ℕ) (left : List Mark)
+pub attribute_line_has_number : (old : Notes) (before : ℕ) (text : List ℕ) (said : List Mark) (now : Notes) (passed : ℕ) (rest : List ℕ)
+    (left : List Mark)
     (content after : List ℕ)
     → before + length (lines_of text) ≤ old.last → AttributesSoFar old before text said now passed rest left
     → BeginsWithLine rest content after
     → IsLineNumber now.last (passed + 1)
-here old before text said now passed rest left content after fits h (ending, e) = omega (arith, h.lines, ap length e, h.last_stays)
+attribute_line_has_number old before text said now passed rest left content after fits h (ending, e) =
+    omega (arith, h.lines, ap length e, h.last_stays)
 
 -- no line is left
 pub without_lines : (old : Notes) (before : ℕ) (text : List ℕ) (said : List Mark) (now : Notes) (passed : ℕ) (rest : List ℕ)

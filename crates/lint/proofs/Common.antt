@@ -1,5 +1,6 @@
 -- The names that proofs cite from elsewhere, passed on from one place. Declares nothing.
-pub use Rattle.lint.specs.Prelude.{AtMostOne, Line, MediaLine, Outcome, PayloadParams, Reading, Sdp, cut, is_media, lines_of, receives}
+pub use Rattle.lint.specs.Prelude.{AtMostOneAnswer, Line, MediaLine, OutcomeOfRound, PayloadParams, Reading, Sdp, cut, is_media, lines_of}
+pub use Rattle.lint.specs.Prelude.{receives}
 pub use Rattle.lint.specs.Prelude.{rows, sdp_text, section_direction, strip}
 pub use Rattle.std.proofs.Common.{Bool, Bor, Err, List, MatchOption, None, Ok, Option, Some, [], ap, append-nil, append_assoc, arith, codes}
 pub use Rattle.std.proofs.Common.{cond, eqb, eqb-true, false, filter_map, flat_map, get_or, inl, inr, is_some, length, length-take-le, lit<}

@@ -3,7 +3,7 @@ use Rattle.lint.proofs.Common.{◌≡◌, ◌+◌, ◌<◌, ℕ, Bool, true, fal
 use Rattle.lint.proofs.Common.{map, take, get_or, refl, sym, ap, subst, ◌∙◌, arith, append_assoc, append-nil, length-take-le, map-append}
 use Rattle.lint.proofs.Common.{filter_map-append, on_err_weaker, cons_option, take_more, rounds_ran_from, CodecConfig, PayloadParams}
 use Rattle.lint.proofs.Common.{Negotiates}
-use Rattle.lint.proofs.Common.{Outcome, is_media, MediaLine, Sdp, section_direction, rows, Reading, AtMostOne, receives}
+use Rattle.lint.proofs.Common.{OutcomeOfRound, is_media, MediaLine, Sdp, section_direction, rows, Reading, AtMostOneAnswer, receives}
 use Rattle.lint.specs.Fates.{AddsFates, AreRowPartners, IsRowPartner, RoundSays, RoundsSay, SaysRounds, RoundWhereTrue, codes, fate}
 use Rattle.lint.specs.Fates.{refusal_fate}
 use Rattle.lint.specs.Fates.{fate_as_list}
@@ -146,14 +146,14 @@ round_step all i m old mid new before now after inside is one (fates, adds, say)
     )
 
 -- a round leaves as many rows as there were
-pub fate_rounds_same_count : (remote : List PayloadParams) (receives : Bool) (old new : CodecConfig) (result : Outcome)
+pub fate_rounds_same_count : (remote : List PayloadParams) (receives : Bool) (old new : CodecConfig) (result : OutcomeOfRound)
     → Negotiates remote receives old new result
     → length old.params.items ≡ length new.params.items
 fate_rounds_same_count remote receives old new (Ok done) n = sym n.promises.rows
 fate_rounds_same_count remote receives old new (Err cause) n = ap (λ (config : CodecConfig). length config.params.items) (sym n.err)
 
 -- what is said of a round that was run
-pub round_says : (m : MediaLine) (old new : CodecConfig) (outcome : Outcome) (partners : List (Option ℕ))
+pub round_says : (m : MediaLine) (old new : CodecConfig) (outcome : OutcomeOfRound) (partners : List (Option ℕ))
     → Negotiates (rows m) (receives (section_direction m.attrs)) old new outcome
     → AreRowPartners (rows m) (receives (section_direction m.attrs)) old.params.items new.params.items partners
     → RoundSays m old.params.items
@@ -170,7 +170,8 @@ round_says m old new outcome partners n are =
     }
 
 -- the same, by the names that code has for each
-pub round_said : (m : MediaLine) (old new : CodecConfig) (outcome : Outcome) (partners shown : List (Option ℕ)) (first mid last : Notes)
+pub round_said : (m : MediaLine) (old new : CodecConfig) (outcome : OutcomeOfRound) (partners shown : List (Option ℕ))
+    (first mid last : Notes)
     (remote told before after : List PayloadParams) (dir flag : Bool)
     → remote ≡ rows m → told ≡ rows m → dir ≡ receives (section_direction m.attrs) → flag ≡ receives (section_direction m.attrs)
     → before ≡ old.params.items → after ≡ new.params.items → shown ≡ partners → Negotiates remote dir old new outcome
@@ -217,7 +218,7 @@ described_fates sections lines config ours after old new is_lines is_ours (fates
 
 -- a text is read so, and nothing is said before
 pub says_read : (text : List ℕ) (ours : List PayloadParams) (sdp : Sdp) (rest : List ℕ) (old new : Notes) → Reading text (sdp, rest)
-    → AtMostOne (Reading text)
+    → AtMostOneAnswer (Reading text)
     → old.findings ≡ [] → ((fates : List Fate) × (after : List PayloadParams) × AddsFates fates old new
     × RoundsSay sdp.media_lines ours fates after)
     → SaysRounds text ours new.findings

@@ -1,6 +1,6 @@
 -- What the findings of a text come to.
 use Rattle.lint.proofs.Common.{◌≡◌, ◌↔◌, ◌+◌, ◌-◌, ◌≤◌, ℕ, true, false, true≢false, cond, eqb, List, [], ◌∷◌, ◌++◌, length, refl, sym, ap}
-use Rattle.lint.proofs.Common.{subst, ◌∙◌, arith, eqb-true, append-nil, Sdp, sdp_text, Line, Reading, AtMostOne}
+use Rattle.lint.proofs.Common.{subst, ◌∙◌, arith, eqb-true, append-nil, Sdp, sdp_text, Line, Reading, AtMostOneAnswer}
 use Rattle.lint.specs.Findings.{AreFindingsOf, AreFindingsSilent, EndsReading, IsNotOutOfMemory, KeepsUnread, OnlyChanges}
 use Rattle.lint.specs.Findings.{AddsOtherFindings}
 use Rattle.lint.specs.Findings.{TellsUnread}
@@ -14,7 +14,7 @@ use Rattle.std.proofs.lemmas.Bool.{false≢true}
 use Rattle.str0m_sdp.specs.declared.session.error.SdpError.{SdpError}
 use Rattle.str0m_sdp.specs.declared.session.error.SdpError.TheVariants.{ParseError, Inconsistent, Memory}
 use Rattle.str0m_signal.specs.line.LinesReading.{line_behind_first, is_crlf, lines_of, longer_line_first}
-use Rattle.str0m_signal.specs.session.ReaderAnswers.{Refuses}
+use Rattle.str0m_signal.specs.session.ReaderAnswers.{ReaderRefuses}
 
 some_longer_line : (x : ℕ) (lines : List Line) → 1 ≤ length (longer_line_first x lines)
 some_longer_line x [] = omega arith
@@ -107,7 +107,7 @@ tells_else text sdp rest old mid new t s last = record {
 }
 
 -- what is refused, and not for memory, has no reading
-pub no_reading : (error : SdpError) (text : List ℕ) → Refuses error (Reading text) → IsNotOutOfMemory error → (v : Sdp × List ℕ)
+pub no_reading : (error : SdpError) (text : List ℕ) → ReaderRefuses error (Reading text) → IsNotOutOfMemory error → (v : Sdp × List ℕ)
     → Reading text v
     → ⊥
 no_reading (ParseError message) text h is = h
@@ -129,7 +129,8 @@ nothing_lost text sdp rest old new reading none t s =
     (sdp, subst (λ (r : List ℕ). Reading text (sdp, r)) whole reading, (t.changed whole (ap is_changed none)).0 s.not_changed)
 
 -- where nothing is lost, nothing is said to be
-finding_are_silent : (text : List ℕ) (sdp : Sdp) (rest : List ℕ) (old new : Notes) → Reading text (sdp, rest) → AtMostOne (Reading text)
+finding_are_silent : (text : List ℕ) (sdp : Sdp) (rest : List ℕ) (old new : Notes) → Reading text (sdp, rest)
+    → AtMostOneAnswer (Reading text)
     → old.findings ≡ []
     → TellsUnread text sdp rest old new → NothingLost text → AreFindingsSilent new.findings
 finding_are_silent text sdp rest old new reading one none t (s, r, same) =
@@ -142,7 +143,7 @@ finding_are_silent text sdp rest old new reading one none t (s, r, same) =
       not_changed = (t.changed whole (ap is_changed none)).1 own;
     }
 
-pub said_read : (text : List ℕ) (sdp : Sdp) (rest : List ℕ) (old new : Notes) → Reading text (sdp, rest) → AtMostOne (Reading text)
+pub said_read : (text : List ℕ) (sdp : Sdp) (rest : List ℕ) (old new : Notes) → Reading text (sdp, rest) → AtMostOneAnswer (Reading text)
     → old.findings ≡ [] → TellsUnread text sdp rest old new → AreFindingsOf text new.findings
 said_read text sdp rest old new reading one none t =
     let refused : is_refused new.findings ≡ false = t.refused_stays ∙ ap is_refused none in

@@ -1,24 +1,24 @@
 -- The first line of a text, by where its line feed stands.
 use Rattle.lint.proofs.Common.{◌≡◌, ◌<◌, ◌-◌, ◌+◌, ℕ, List, [], ◌∷◌, ◌++◌, Option, Some, None, length, take, MatchOption, unwrap_or, refl}
 use Rattle.lint.proofs.Common.{sym, ap, ◌∙◌, inl, inr, arith, lit<, append_assoc, append-nil, Bor, cut}
-use Rattle.lint.specs.Lines.{IsWithoutReturn}
+use Rattle.lint.specs.Lines.{IsLineWithoutReturn}
 use Rattle.std.specs.Str.Pattern.{FindsCharSuffix}
 use Rattle.str0m_signal.proofs.{line_here, line_without_suffix}
 use Rattle.str0m_signal.specs.line.LinesReading.{lines_of}
 use Rattle.str0m_values.proofs.CutLaws.{cut_found, cut_none_lacks, LacksCut-append}
 use Rattle.str0m_values.specs.CutsParts.{Lacks}
 
-pub without_return : (line : Bor (List ℕ)) (r : Option (Bor (List ℕ))) (result : Bor (List ℕ))
+pub line_without_return : (line : Bor (List ℕ)) (r : Option (Bor (List ℕ))) (result : Bor (List ℕ))
     → MatchOption r (FindsCharSuffix 13 line.now None) (λ x. (n : ℕ) × FindsCharSuffix 13 line.now (Some n)
     × (x.now ≡ take (length line.now - n) line.now) × (length x.now + n ≡ length line.now))
-    → result ≡ unwrap_or r line → IsWithoutReturn line.now result.now
-without_return line r result cases is = rw is (line_without_suffix 13 (lit< tt) line r cases)
+    → result ≡ unwrap_or r line → IsLineWithoutReturn line.now result.now
+line_without_return line r result cases is = rw is (line_without_suffix 13 (lit< tt) line r cases)
 
 -- some end after the content, and the rest of the lines
 abbrev pub BeginsWithLine : List ℕ → List ℕ → List ℕ → Type 0
 BeginsWithLine text content rest = (ending : List ℕ) × (lines_of text ≡ record { content = content; ending = ending } ∷ lines_of rest)
 
-pub line_at_feed : (text front rest content : List ℕ) → Some (front, rest) ≡ cut 10 text → IsWithoutReturn front content
+pub line_at_feed : (text front rest content : List ℕ) → Some (front, rest) ≡ cut 10 text → IsLineWithoutReturn front content
     → BeginsWithLine text content rest
 line_at_feed text front rest content found (inl returned) =
     let at = cut_found 10 text front rest (sym found) in

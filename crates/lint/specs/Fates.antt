@@ -1,5 +1,5 @@
 -- What comes of rounds with the sections of a text.
-use Rattle.lint.specs.Prelude.{Codec, IsChoice, MediaLine, Outcome, PayloadParams, RoundRan, Reading, Sdp, is_media, choice_points_with, receives, rows, same_codec, score, section_direction}
+use Rattle.lint.specs.Prelude.{Codec, IsChoice, MediaLine, OutcomeOfRound, PayloadParams, RoundRan, Reading, Sdp, is_media, choice_points_with, receives, rows, same_codec, score, section_direction}
 use Rattle.lint.specs.declared.code.Code.{Code}
 use Rattle.lint.specs.declared.code.Code.TheVariants.{Round}
 use Rattle.lint.specs.declared.code.Fate.{Fate}
@@ -59,7 +59,7 @@ accepted_fate receives after partners theirs =
     else OtherRow
 
 -- of a row that fits; nothing where the round is refused for something else
-abbrev pub fitting_fate : Bool → List PayloadParams → Outcome → List (Option ℕ) → PayloadParams → Option Fate
+abbrev pub fitting_fate : Bool → List PayloadParams → OutcomeOfRound → List (Option ℕ) → PayloadParams → Option Fate
 fitting_fate receives after (Ok done) partners theirs = Some (accepted_fate receives after partners theirs)
 fitting_fate receives after (Err (ClaimedTwice pt)) partners theirs = if row_has_type theirs pt then Some TakenType else None
 fitting_fate receives after (Err (TypeTooLarge pt)) partners theirs = None
@@ -67,7 +67,7 @@ fitting_fate receives after (Err Exhausted) partners theirs = None
 fitting_fate receives after (Err Memory) partners theirs = None
 
 -- what comes of a remote row
-abbrev pub fate : List PayloadParams → Bool → List PayloadParams → Outcome → List (Option ℕ) → PayloadParams → Option Fate
+abbrev pub fate : List PayloadParams → Bool → List PayloadParams → OutcomeOfRound → List (Option ℕ) → PayloadParams → Option Fate
 fate before receives after outcome partners theirs =
     if fits_some_row before theirs then fitting_fate receives after outcome partners theirs
     else if has_row_of_codec before theirs.spec.codec then Some OtherFormat
@@ -77,19 +77,19 @@ abbrev pub fate_as_list : Option Fate → List Fate
 fate_as_list None = []
 fate_as_list (Some it) = it ∷ []
 
-abbrev pub refusal_fate : Outcome → List Fate
+abbrev pub refusal_fate : OutcomeOfRound → List Fate
 refusal_fate (Ok done) = []
 refusal_fate (Err cause) = RefusedRound ∷ []
 
 -- what is said of a round, in order: of the round, where it is refused, and of each row of the remote
-pub record AreFatesOf (before remote : List PayloadParams) (receives : Bool) (outcome : Outcome) (after : List PayloadParams) (fates : List Fate) : Type 0 where
+pub record AreFatesOf (before remote : List PayloadParams) (receives : Bool) (outcome : OutcomeOfRound) (after : List PayloadParams) (fates : List Fate) : Type 0 where
   pub partners : List (Option ℕ)
   pub partners_are : AreRowPartners remote receives before after partners
   pub fates_are : fates ≡ refusal_fate outcome ++ filter_map (fate before receives after outcome partners) remote
 
 -- a round with what is said of it
 pub record RoundSays (m : MediaLine) (before : List PayloadParams) (fates : List Fate) (after : List PayloadParams) : Type 0 where
-  pub outcome : Outcome
+  pub outcome : OutcomeOfRound
   pub ran : RoundRan before (rows m) (receives (section_direction m.attrs)) outcome after
   pub said : AreFatesOf before (rows m) (receives (section_direction m.attrs)) outcome after fates
 

@@ -5,8 +5,8 @@ use Rattle.std.specs.Borrow.{Bor}
 use Rattle.std.specs.Prelude.{◌≡◌, ◌⊎◌, ◌+◌, ◌-◌, ◌≤◌, ℕ, Bool, List, [], ◌∷◌, ◌++◌, Option, Some, None, codes, length, max, if◌then◌else◌, is_some}
 
 -- the line without the carriage return that ends it, if one does
-abbrev pub IsWithoutReturn : List ℕ → List ℕ → Type 0
-IsWithoutReturn line text = (line ≡ text ++ (13 ∷ [])) ⊎ ((text ≡ line) × (EndsIn 13 line → ⊥))
+abbrev pub IsLineWithoutReturn : List ℕ → List ℕ → Type 0
+IsLineWithoutReturn line text = (line ≡ text ++ (13 ∷ [])) ⊎ ((text ≡ line) × (EndsIn 13 line → ⊥))
 
 -- the text has no line; or its first line has this content, and the rest follow
 abbrev pub NextLine : List ℕ → Option (Bor (List ℕ) × Bor (List ℕ)) → Type 0

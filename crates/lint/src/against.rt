@@ -2,7 +2,7 @@
 ghost use Rattle.lint.specs.Fates.{AddsFates, RoundsSay, SaysRounds, codes};
 ghost use Rattle.lint.specs.Findings.{ReadsAs};
 ghost use Rattle.lint.specs.Lines.{IsWithinLines, last_line};
-ghost use Rattle.lint.specs.Prelude.{AtMostOne, PayloadParams, Reading, Sdp};
+ghost use Rattle.lint.specs.Prelude.{AtMostOneAnswer, PayloadParams, Reading, Sdp};
 ghost use Rattle.lint.specs.declared.code.Code.TheVariants.{Round};
 ghost use Rattle.lint.specs.declared.code.Fate.{Fate};
 ghost use Rattle.std.specs.Prelude.{◌≡◌, ℕ, List, [], All, IfOk, OnOk, map};
@@ -38,7 +38,7 @@ fn note_reading(
     found: Option<(Sdp, &str)>,
     ours: &CodecConfig,
 ) -> Result<(), AllocError>
-    ensures said { notes.old.findings ≡ [] → AtMostOne (Reading text.now) → ReadsAs text.now found.entry
+    ensures said { notes.old.findings ≡ [] → AtMostOneAnswer (Reading text.now) → ReadsAs text.now found.entry
         → OnOk result (SaysRounds text.now ours.now.params.items notes.new.findings) }
     ensures last { notes.new.last ≡ notes.old.last }
 {

@@ -7,7 +7,7 @@ ghost use Rattle.std.specs.Prelude.{◌≡◌, ◌+◌, ◌≤◌, IfOk, OnOk, [
 
 use crate::code::Code;
 use crate::kept::why_kept;
-use crate::lines::{behind_space, next_line};
+use crate::lines::{line_behind_space, next_line};
 use crate::mark::Mark;
 use crate::notes::Notes;
 use crate::part::Part;
@@ -32,7 +32,7 @@ fn note_attribute(
             notes.add_part(number, line, found.code, found.part)
         }
         Mark::Unseen(unseen) => {
-            let part = Part::to_end(behind_space(line));
+            let part = Part::to_end(line_behind_space(line));
             notes.add_part(number, line, Code::Unseen(unseen), part)
         }
         Mark::Read(_) | Mark::Unprinted => Ok(()),

@@ -4,8 +4,8 @@ ghost use Rattle.lint.specs.Told.{told_of};
 ghost use Rattle.std.specs.Prelude.{◌≡◌, ◌↔◌, OnOk, false, true};
 
 use crate::code::{Change, Code};
-use crate::fork::{fork, is_respelled};
-use crate::lines::{behind_space, line_column, next_line};
+use crate::fork::{fork, is_fork_of_spelling};
+use crate::lines::{line_behind_space, line_column, next_line};
 use crate::mark::Mark;
 use crate::notes::Notes;
 use crate::part::{Part, Place};
@@ -77,14 +77,20 @@ fn note_lost_attribute<'a>(
     };
     let printed = left.printed;
     if let Mark::Unprinted = mark {
-        note_change(notes, number, line, (behind_space(line), ""), mark.change())?;
+        note_change(
+            notes,
+            number,
+            line,
+            (line_behind_space(line), ""),
+            mark.change(),
+        )?;
         return Ok(LeftForChanges { marks, printed });
     }
     let Some((written, printed)) = next_printed(printed, "a=") else {
         return Ok(left);
     };
     if line != written {
-        let change = if is_respelled(line, written) {
+        let change = if is_fork_of_spelling(line, written) {
             Change::Spelling
         } else {
             mark.change()
@@ -96,7 +102,7 @@ fn note_lost_attribute<'a>(
 
 /// What is lost of an m-line, by what stands after its port and what is printed there.
 fn media_change(rest: &str, written: &str) -> Change {
-    if behind_space(rest) == behind_space(written) {
+    if line_behind_space(rest) == line_behind_space(written) {
         Change::Protocol
     } else {
         Change::Formats

@@ -102,7 +102,7 @@ impl ContradictionLines {
 }
 
 /// The first two mappings of each payload type.
-fn mappings(attributes: &[MediaAttribute], before: usize) -> [FirstTwoLines; 256] {
+fn contradiction_mappings(attributes: &[MediaAttribute], before: usize) -> [FirstTwoLines; 256] {
     let mut mappings = [FirstTwoLines::NONE; 256];
     let mut line = before;
     for attribute in attributes {
@@ -117,7 +117,7 @@ fn mappings(attributes: &[MediaAttribute], before: usize) -> [FirstTwoLines; 256
 
 /// The first payload type without a mapping or with two, and the lines.
 fn mapping_fault(section: &MediaLine, before: usize) -> Option<(Refusal, Pt, FirstTwoLines)> {
-    let mappings = mappings(section.attrs.as_slice(), before);
+    let mappings = contradiction_mappings(section.attrs.as_slice(), before);
     for pt in section.pts.as_slice() {
         let pair = mappings[usize::from(pt.value())];
         if pair.second != 0 {

@@ -19,7 +19,7 @@ impl DifferenceParameter {
 }
 
 /// The parameters of a format, in the order in which they print.
-fn format_parameters(
+fn difference_parameters(
     alloc: Global,
     format: FormatParams,
 ) -> Result<Vec<DifferenceParameter>, AllocError> {
@@ -34,7 +34,7 @@ fn format_parameters(
 }
 
 /// The parameter of a key.
-fn parameter_of_key<'a>(
+fn difference_parameter_of_key<'a>(
     all: &'a [DifferenceParameter],
     key: &str,
 ) -> Option<&'a DifferenceParameter> {
@@ -42,12 +42,12 @@ fn parameter_of_key<'a>(
 }
 
 /// What a format says of a key, in quotes.
-fn said_of_key(
+fn difference_said_of_key(
     alloc: Global,
     all: &[DifferenceParameter],
     key: &str,
 ) -> Result<String, AllocError> {
-    match parameter_of_key(all, key) {
+    match difference_parameter_of_key(all, key) {
         Some(it) => {
             let text = it.text.as_str();
             format!(in alloc; "`{text}`")
@@ -83,8 +83,8 @@ impl<'a> RowDifference<'a> {
         Ok(RowDifference {
             ours,
             theirs,
-            own: format_parameters(alloc, ours.spec().format)?,
-            other: format_parameters(alloc, theirs.spec().format)?,
+            own: difference_parameters(alloc, ours.spec().format)?,
+            other: difference_parameters(alloc, theirs.spec().format)?,
         })
     }
 
@@ -113,7 +113,7 @@ impl<'a> RowDifference<'a> {
                 format.set_param(&it.param);
             }
         }
-        if let Some(it) = parameter_of_key(self.other.as_slice(), key) {
+        if let Some(it) = difference_parameter_of_key(self.other.as_slice(), key) {
             format.set_param(&it.param);
         }
         format
@@ -189,8 +189,8 @@ impl<'a> RowDifference<'a> {
         }
         let key = self.key().unwrap_or("");
         Ok((
-            said_of_key(alloc, self.own.as_slice(), key)?,
-            said_of_key(alloc, self.other.as_slice(), key)?,
+            difference_said_of_key(alloc, self.own.as_slice(), key)?,
+            difference_said_of_key(alloc, self.other.as_slice(), key)?,
         ))
     }
 

@@ -35,7 +35,7 @@ pub(crate) fn fork<'a, 'b>(line: &'a str, printed: &'b str) -> (&'a str, &'b str
 }
 
 /// The first byte that isn't blank, in lower case, and the text after it.
-fn next_letter(text: &[u8]) -> Option<(u8, &[u8])>
+fn next_fork_letter(text: &[u8]) -> Option<(u8, &[u8])>
     ensures { IfSome result (λ found. length found.1.now < length text.now) }
 {
     let mut rest = text;
@@ -49,14 +49,14 @@ fn next_letter(text: &[u8]) -> Option<(u8, &[u8])>
 }
 
 /// Whether two lines differ in blanks and in the case of letters alone.
-pub(crate) fn is_respelled(line: &str, printed: &str) -> bool {
+pub(crate) fn is_fork_of_spelling(line: &str, printed: &str) -> bool {
     let (mut left, mut right) = (line.as_bytes(), printed.as_bytes());
-    while let Some((byte, rest)) = next_letter(left) {
-        match next_letter(right) {
+    while let Some((byte, rest)) = next_fork_letter(left) {
+        match next_fork_letter(right) {
             Some((other, more)) if other == byte => right = more,
             _ => return false,
         }
         left = rest;
     }
-    next_letter(right).is_none()
+    next_fork_letter(right).is_none()
 }

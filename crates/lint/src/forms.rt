@@ -16,7 +16,7 @@ pub(crate) enum FormLevel {
 
 /// What a part of an attribute is.
 #[derive(Clone, Copy)]
-enum Kind {
+enum FormPartKind {
     Text,
     PayloadType,
     Extension,
@@ -35,61 +35,61 @@ enum Kind {
 
 /// A part, what ends it, and whether the line may end after it.
 #[derive(Clone, Copy)]
-struct Step(Kind, Separator, bool);
+struct FormStep(FormPartKind, Separator, bool);
 
 // (a line holds no line feed: what one ends goes to the line's end)
-const TYPE: Step = Step(Kind::PayloadType, Separator::Space, false);
+const TYPE: FormStep = FormStep(FormPartKind::PayloadType, Separator::Space, false);
 
-const TYPE_OR_END: Step = Step(Kind::PayloadType, Separator::Space, true);
+const TYPE_OR_END: FormStep = FormStep(FormPartKind::PayloadType, Separator::Space, true);
 
-const WORD: Step = Step(Kind::Text, Separator::Space, false);
+const WORD: FormStep = FormStep(FormPartKind::Text, Separator::Space, false);
 
-const NAME_OF_CODEC: Step = Step(Kind::Text, Separator::Slash, false);
+const NAME_OF_CODEC: FormStep = FormStep(FormPartKind::Text, Separator::Slash, false);
 
-const RATE: Step = Step(Kind::Rate, Separator::Slash, true);
+const RATE: FormStep = FormStep(FormPartKind::Rate, Separator::Slash, true);
 
-const CHANNELS: Step = Step(Kind::Channels, Separator::LineFeed, true);
+const CHANNELS: FormStep = FormStep(FormPartKind::Channels, Separator::LineFeed, true);
 
-const EXTENSION: Step = Step(Kind::Extension, Separator::Space, false);
+const EXTENSION: FormStep = FormStep(FormPartKind::Extension, Separator::Space, false);
 
-const NUMBER: Step = Step(Kind::Number, Separator::Space, false);
+const NUMBER: FormStep = FormStep(FormPartKind::Number, Separator::Space, false);
 
-const NUMBER_OR_END: Step = Step(Kind::Number, Separator::Space, true);
+const NUMBER_OR_END: FormStep = FormStep(FormPartKind::Number, Separator::Space, true);
 
-const PORT: Step = Step(Kind::Port, Separator::Space, false);
+const PORT: FormStep = FormStep(FormPartKind::Port, Separator::Space, false);
 
-const LAST_PORT: Step = Step(Kind::Port, Separator::LineFeed, true);
+const LAST_PORT: FormStep = FormStep(FormPartKind::Port, Separator::LineFeed, true);
 
-const LAST_SIZE: Step = Step(Kind::Size, Separator::LineFeed, true);
+const LAST_SIZE: FormStep = FormStep(FormPartKind::Size, Separator::LineFeed, true);
 
-const ADDRESS: Step = Step(Kind::Address, Separator::Space, false);
+const ADDRESS: FormStep = FormStep(FormPartKind::Address, Separator::Space, false);
 
-const LAST_ROLE: Step = Step(Kind::Role, Separator::LineFeed, true);
+const LAST_ROLE: FormStep = FormStep(FormPartKind::Role, Separator::LineFeed, true);
 
-const NAME: Step = Step(Kind::Name, Separator::Space, false);
+const NAME: FormStep = FormStep(FormPartKind::Name, Separator::Space, false);
 
-const DIRECTION: Step = Step(Kind::Direction, Separator::Space, true);
+const DIRECTION: FormStep = FormStep(FormPartKind::Direction, Separator::Space, true);
 
-const HEX_PAIR: Step = Step(Kind::HexPair, Separator::Colon, true);
+const HEX_PAIR: FormStep = FormStep(FormPartKind::HexPair, Separator::Colon, true);
 
-const KEY: Step = Step(Kind::Text, Separator::Colon, false);
+const KEY: FormStep = FormStep(FormPartKind::Text, Separator::Colon, false);
 
-const LAST: Step = Step(Kind::Text, Separator::LineFeed, true);
+const LAST: FormStep = FormStep(FormPartKind::Text, Separator::LineFeed, true);
 
-const MORE: Step = Step(Kind::Any, Separator::LineFeed, true);
+const MORE: FormStep = FormStep(FormPartKind::Any, Separator::LineFeed, true);
 
 /// How many parts of a form are told apart.
-const PARTS: usize = 6;
+const FORM_PARTS: usize = 6;
 
 /// An attribute: its label, where it is read, and its parts after the label. A word alone has none.
 #[derive(Clone, Copy)]
-pub(crate) struct Form(&'static str, FormLevel, [Step; PARTS]);
+pub(crate) struct Form(&'static str, FormLevel, [FormStep; FORM_PARTS]);
 
-const WORD_ALONE: [Step; PARTS] = [MORE; PARTS];
+const WORD_ALONE: [FormStep; FORM_PARTS] = [MORE; FORM_PARTS];
 
-const ONE_TEXT: [Step; PARTS] = [LAST, MORE, MORE, MORE, MORE, MORE];
+const ONE_TEXT: [FormStep; FORM_PARTS] = [LAST, MORE, MORE, MORE, MORE, MORE];
 
-const WORDS: [Step; PARTS] = [WORD, LAST, MORE, MORE, MORE, MORE];
+const WORDS: [FormStep; FORM_PARTS] = [WORD, LAST, MORE, MORE, MORE, MORE];
 
 static FORMS: [Form; 32] = [
     Form(
@@ -211,44 +211,50 @@ fn form_misfit_unless(is: bool, misfit: Misfit) -> Option<Misfit> {
     if is { None } else { Some(misfit) }
 }
 
-impl Kind {
+impl FormPartKind {
     /// Why the text isn't of this kind.
     fn misfit(self, text: &str) -> Option<Misfit> {
-        if let Kind::Any = self {
+        if let FormPartKind::Any = self {
             return None;
         }
         if text.is_empty() {
             return Some(Misfit::Missing);
         }
         match self {
-            Kind::Text | Kind::Any => None,
-            Kind::PayloadType => match text {
+            FormPartKind::Text | FormPartKind::Any => None,
+            FormPartKind::PayloadType => match text {
                 "*" => Some(Misfit::AllTypes),
                 _ => form_misfit_unless(num_u8(text, 127).is_some(), Misfit::PayloadType),
             },
-            Kind::Extension => form_misfit_unless(
+            FormPartKind::Extension => form_misfit_unless(
                 num_u8(before(text, Separator::Slash), 255).is_some(),
                 Misfit::Number,
             ),
-            Kind::Channels => form_misfit_unless(num_u8(text, 255).is_some(), Misfit::Number),
-            Kind::Port => form_misfit_unless(num_u16(text).is_some(), Misfit::Number),
-            Kind::Number => form_misfit_unless(num_u32(text).is_some(), Misfit::Number),
-            Kind::Size => form_misfit_unless(text.parse::<u64>().is_ok(), Misfit::Number),
-            Kind::Rate => match num_u32(text) {
+            FormPartKind::Channels => form_misfit_unless(
+                num_u8(text, 255).is_some(),
+                Misfit::Number,
+            ),
+            FormPartKind::Port => form_misfit_unless(num_u16(text).is_some(), Misfit::Number),
+            FormPartKind::Number => form_misfit_unless(num_u32(text).is_some(), Misfit::Number),
+            FormPartKind::Size => form_misfit_unless(text.parse::<u64>().is_ok(), Misfit::Number),
+            FormPartKind::Rate => match num_u32(text) {
                 Some(rate) => form_misfit_unless(rate > 0, Misfit::ClockRate),
                 None => Some(Misfit::ClockRate),
             },
-            Kind::Address => form_misfit_unless(
+            FormPartKind::Address => form_misfit_unless(
                 IpAddr::from_text(text).is_some(),
                 Misfit::HostName,
             ),
-            Kind::Role => form_misfit_unless(case_of(&SETUPS, text).is_some(), Misfit::Role),
-            Kind::Name => form_misfit_unless(is_form_name(text), Misfit::StreamName),
-            Kind::Direction => form_misfit_unless(
+            FormPartKind::Role => form_misfit_unless(
+                case_of(&SETUPS, text).is_some(),
+                Misfit::Role,
+            ),
+            FormPartKind::Name => form_misfit_unless(is_form_name(text), Misfit::StreamName),
+            FormPartKind::Direction => form_misfit_unless(
                 text == "send" || text == "recv",
                 Misfit::StreamDirection,
             ),
-            Kind::HexPair => form_misfit_unless(
+            FormPartKind::HexPair => form_misfit_unless(
                 text.len() == 2 && hex_u8(text).is_some(),
                 Misfit::Hash,
             ),
@@ -281,7 +287,7 @@ impl Form {
     pub(crate) fn misfit<'a>(self, value: &'a str) -> Option<(Misfit, Part<'a>)> {
         let mut rest = value;
         for step in self.2 {
-            let Step(kind, end, may_be_last) = step;
+            let FormStep(kind, end, may_be_last) = step;
             let (shown, more) = match cut(rest, end) {
                 Some((front, more)) => (front, Some(more)),
                 None => (rest, None),

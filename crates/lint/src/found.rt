@@ -2,7 +2,7 @@
 ghost use Rattle.lint.specs.Findings.{AreFindingsOf, AreFindingsSilent, IsNotOutOfMemory, ReadsAs, TellsUnread, end_lines, lines_kept, is_refused};
 ghost use Rattle.lint.specs.Kept.{kept_at, kept_flags};
 ghost use Rattle.lint.specs.Lines.{IsWithinLines, attribute_numbers, last_line, unread_lines};
-ghost use Rattle.lint.specs.Prelude.{AtMostOne, Reading, Sdp, lines_of};
+ghost use Rattle.lint.specs.Prelude.{AtMostOneAnswer, Reading, Sdp, lines_of};
 ghost use Rattle.lint.specs.Told.{NothingLost};
 ghost use Rattle.std.specs.Prelude.{◌≡◌, ◌↔◌, ℕ, List, [], true, All, IfOk, OnOk};
 
@@ -63,7 +63,7 @@ fn found_unless_memory(error: SdpError) -> Result<(), AllocError>
 /// The description that a text begins with, and the rest; none where the text is refused.
 pub(crate) fn read(alloc: Global, text: &str) -> Result<Option<(Sdp, &str)>, AllocError>
     ensures read { IfOk result (ReadsAs text.now) }
-    ensures one { AtMostOne (Reading text.now) }
+    ensures one { AtMostOneAnswer (Reading text.now) }
 {
     match sdp_parser(alloc, text) {
         Ok(found) => Ok(Some(found)),
@@ -76,7 +76,7 @@ pub(crate) fn read(alloc: Global, text: &str) -> Result<Option<(Sdp, &str)>, All
 
 /// Says what there is to be said of a text by what was read of it.
 fn note_found(notes: &mut Notes, text: &str, found: Option<(Sdp, &str)>) -> Result<(), AllocError>
-    ensures said { notes.old.findings ≡ [] → notes.old.last ≡ last_line text.now → AtMostOne (Reading text.now) → ReadsAs text.now found.entry
+    ensures said { notes.old.findings ≡ [] → notes.old.last ≡ last_line text.now → AtMostOneAnswer (Reading text.now) → ReadsAs text.now found.entry
         → OnOk result (AreFindingsOf text.now notes.new.findings) }
     ensures last { notes.new.last ≡ notes.old.last }
 {

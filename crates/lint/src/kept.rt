@@ -15,7 +15,7 @@ pub(crate) struct KeptReason<'a> {
 }
 
 /// Why the text after `a=` isn't read on a level where its attribute is.
-fn misfit<'a>(form: Form, text: &'a str) -> (Misfit, Part<'a>) {
+fn kept_misfit<'a>(form: Form, text: &'a str) -> (Misfit, Part<'a>) {
     let whole = Part::to_end(text);
     let Some(value) = strip(text, form.label()) else {
         return (Misfit::Form, whole);
@@ -51,7 +51,7 @@ pub(crate) fn why_kept<'a>(level: FormLevel, text: &'a str) -> KeptReason<'a>
             part: named,
         };
     }
-    let (misfit, part) = misfit(form, text);
+    let (misfit, part) = kept_misfit(form, text);
     KeptReason {
         code: Code::Malformed(misfit),
         part,

@@ -1,5 +1,5 @@
 //! The lines of a text, and how many there are.
-ghost use Rattle.lint.specs.Lines.{IsWithoutReturn, NextLine};
+ghost use Rattle.lint.specs.Lines.{IsLineWithoutReturn, NextLine};
 ghost use Rattle.lint.specs.Prelude.{lines_of};
 ghost use Rattle.std.specs.Prelude.{◌≡◌, ◌<◌, IfSome, [], length};
 
@@ -7,8 +7,8 @@ use str0m_values::Separator;
 use str0m_values::cuts::cut;
 
 /// The text without the carriage return that ends it.
-fn without_return(line: &str) -> &str
-    ensures { IsWithoutReturn line.now result.now }
+fn line_without_return(line: &str) -> &str
+    ensures { IsLineWithoutReturn line.now result.now }
 {
     line.strip_suffix('\r').unwrap_or(line)
 }
@@ -23,7 +23,7 @@ pub(crate) fn next_line(text: &str) -> Option<(&str, &str)>
         return None;
     }
     match cut(text, Separator::LineFeed) {
-        Some((line, rest)) => Some((without_return(line), rest)),
+        Some((line, rest)) => Some((line_without_return(line), rest)),
         None => Some((text, "")),
     }
 }
@@ -48,7 +48,7 @@ pub(crate) fn line_column(line: &str, behind: &str) -> usize {
 }
 
 /// What stands after the first space of a line, or the line.
-pub(crate) fn behind_space(line: &str) -> &str {
+pub(crate) fn line_behind_space(line: &str) -> &str {
     match cut(line, Separator::Space) {
         Some((_, value)) => value,
         None => line,

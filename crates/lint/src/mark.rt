@@ -4,7 +4,7 @@ ghost use Rattle.std.specs.Prelude.{◌≡◌, ◌++◌, IfOk, OnOk, map};
 
 use crate::code::{Change, Unseen};
 use crate::forms::FormLevel;
-use crate::unseen::{change, is_unprinted, unseen};
+use crate::unseen::{change, is_unprinted_as_unseen, unseen};
 use std::alloc::{AllocError, Global};
 use str0m_sdp::{MediaAttribute, MediaLine, Sdp, SessionAttribute};
 
@@ -39,7 +39,7 @@ impl Mark {
         if let MediaAttribute::Unused(_) = attribute {
             return Ok(Mark::Kept(FormLevel::Section));
         }
-        if is_unprinted(alloc, attribute)? {
+        if is_unprinted_as_unseen(alloc, attribute)? {
             return Ok(Mark::Unprinted);
         }
         match unseen(attribute) {

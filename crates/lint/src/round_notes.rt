@@ -77,7 +77,7 @@ fn round_taken_detail(
 }
 
 /// What stands there, by what comes of a row.
-fn detail<'a>(
+fn round_detail<'a>(
     alloc: Global,
     ran: &RanRound<'a>,
     partners: &[Option<Pt>],
@@ -111,7 +111,7 @@ fn note_fate<'a>(
     ensures said { OnOk result (AddsFates (fate_as_list (Some fate)) notes.old notes.new) }
     ensures last { notes.new.last ≡ notes.old.last }
 {
-    let detail = detail(notes.alloc(), ran, partners, theirs, fate)?;
+    let detail = round_detail(notes.alloc(), ran, partners, theirs, fate)?;
     let place = Place { line, column: 1 };
     notes.add(place, Code::Round(fate), detail.as_str())
 }

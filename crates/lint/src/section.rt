@@ -20,7 +20,7 @@ pub(crate) struct Section<'a> {
     pub(crate) rest: &'a str,
 }
 
-fn media_type(alloc: Global, text: &str) -> Result<MediaType, AllocError> {
+fn section_media_type(alloc: Global, text: &str) -> Result<MediaType, AllocError> {
     match text {
         AUDIO => Ok(MediaType::Audio),
         VIDEO => Ok(MediaType::Video),
@@ -30,7 +30,7 @@ fn media_type(alloc: Global, text: &str) -> Result<MediaType, AllocError> {
 }
 
 /// The payload types of an m-line; none where the text isn't numbers with a space between each two.
-fn types(alloc: Global, text: &str) -> Result<Items<Pt>, AllocError> {
+fn section_types(alloc: Global, text: &str) -> Result<Items<Pt>, AllocError> {
     let mut types = Items::empty(alloc);
     for word in text.split(' ') {
         match num_u8(word, 255) {
@@ -44,12 +44,12 @@ fn types(alloc: Global, text: &str) -> Result<Items<Pt>, AllocError> {
 /// The section of an m-line, without attributes.
 fn head(alloc: Global, parts: MediaLineParts<'_>) -> Result<MediaLine, AllocError> {
     let mut section = MediaLine::new(alloc);
-    section.typ = media_type(alloc, parts.kind)?;
+    section.typ = section_media_type(alloc, parts.kind)?;
     section.disabled = parts.port == "0";
     if parts.protocol != SRTP {
         section.proto = Proto::Sctp;
     }
-    section.pts = types(alloc, parts.formats)?;
+    section.pts = section_types(alloc, parts.formats)?;
     Ok(section)
 }
 

@@ -1,5 +1,5 @@
 //! What the lines of a text say, but for what printing fixes.
-ghost use Rattle.lint.specs.Told.{NextTold, line_told, ported, shown_told, told_of, whole};
+ghost use Rattle.lint.specs.Told.{NextTold, line_told, shown_told, told_of, told_ported, told_whole};
 ghost use Rattle.std.specs.Prelude.{◌≡◌, ◌<◌, ◌↔◌, IsTrue, IfSome, MatchOption, length, option_map};
 
 use crate::lines::next_line;
@@ -16,7 +16,7 @@ pub(crate) struct Told<'a> {
 
 impl<'a> Told<'a> {
     fn whole(line: &'a str) -> Told<'a>
-        ensures { shown_told result ≡ whole line.now }
+        ensures { shown_told result ≡ told_whole line.now }
     {
         Told {
             kind: "",
@@ -27,7 +27,7 @@ impl<'a> Told<'a> {
 
     /// An m-line by its parts, where a space stands before and after its port.
     fn ported(line: &'a str) -> Option<Told<'a>>
-        ensures { option_map shown_told result ≡ ported line.now }
+        ensures { option_map shown_told result ≡ told_ported line.now }
     {
         let (kind, behind) = cut(line, Separator::Space)?;
         let (port, rest) = cut(behind, Separator::Space)?;
@@ -68,14 +68,14 @@ impl<'a> Told<'a> {
 
 /// A line that is told, how many lines stand before the text after it, and that text.
 #[derive(Clone, Copy)]
-pub(crate) struct Next<'a> {
+pub(crate) struct NextToldLine<'a> {
     pub(crate) line: Told<'a>,
     pub(crate) lines: usize,
     pub(crate) rest: &'a str,
 }
 
 /// The first line of a text but for `c=` lines, which printing fixes.
-fn next_told(text: &str) -> Option<Next<'_>>
+fn next_told(text: &str) -> Option<NextToldLine<'_>>
     ensures told { NextTold text.now result }
     ensures shorter { IfSome result (λ next. length next.rest.now < length text.now) }
 {
@@ -84,7 +84,7 @@ fn next_told(text: &str) -> Option<Next<'_>>
     while let Some((line, after)) = next_line(rest) {
         lines = lines.saturating_add(1);
         if strip(line, "c=").is_none() {
-            return Some(Next {
+            return Some(NextToldLine {
                 line: Told::of(line),
                 lines,
                 rest: after,

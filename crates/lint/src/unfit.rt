@@ -123,7 +123,7 @@ fn lost(text: &str) -> (usize, usize) {
 }
 
 /// A count with its noun, which takes an `s` where it isn't one.
-fn counted_noun(alloc: Global, count: usize, noun: &str) -> Result<String, AllocError> {
+fn unfit_counted_noun(alloc: Global, count: usize, noun: &str) -> Result<String, AllocError> {
     let ending = if count == 1 { "" } else { "s" };
     format!(in alloc; "{count} {noun}{ending}")
 }
@@ -140,11 +140,11 @@ fn unfit_line(alloc: Global, part: Part<'_>, rest: &str) -> Result<String, Alloc
     } else {
         shown.as_str()
     };
-    let lines = counted_noun(alloc, lines, "line")?;
+    let lines = unfit_counted_noun(alloc, lines, "line")?;
     if sections == 0 {
         return format!(in alloc; "{subject} hides {lines} after it");
     }
-    let sections = counted_noun(alloc, sections, "m-line")?;
+    let sections = unfit_counted_noun(alloc, sections, "m-line")?;
     format!(in alloc; "{subject} hides {lines} after it, {sections} among them")
 }
 

@@ -7,13 +7,13 @@ use str0m_sdp::MediaAttribute;
 use str0m_sdp::label::{FIR, NACK, PLI, REMB, TRANSPORT_CC};
 
 /// The feedback that rows know.
-static FEEDBACK: [&str; 5] = [TRANSPORT_CC, REMB, FIR, NACK, PLI];
+static SEEN_FEEDBACK: [&str; 5] = [TRANSPORT_CC, REMB, FIR, NACK, PLI];
 
-fn known_feedback() -> &'static [&'static str] {
-    FEEDBACK.as_slice()
+fn seen_feedback() -> &'static [&'static str] {
+    SEEN_FEEDBACK.as_slice()
 }
 
-fn is_among_feedback(listed: &[&str], value: &str) -> bool {
+fn is_seen_feedback(listed: &[&str], value: &str) -> bool {
     listed.iter().any(|it| *it == value)
 }
 
@@ -21,7 +21,7 @@ fn is_among_feedback(listed: &[&str], value: &str) -> bool {
 pub(crate) fn unseen(attribute: &MediaAttribute) -> Option<Unseen> {
     match attribute {
         MediaAttribute::RtcpFb { value, .. }
-            if !is_among_feedback(known_feedback(), value.as_str()) => Some(Unseen::Feedback),
+            if !is_seen_feedback(seen_feedback(), value.as_str()) => Some(Unseen::Feedback),
         _ => None,
     }
 }
@@ -49,7 +49,10 @@ pub(crate) fn change(attribute: &MediaAttribute) -> Change {
 }
 
 /// Whether no line is printed of an attribute: of a format of which nothing is known.
-pub(crate) fn is_unprinted(alloc: Global, attribute: &MediaAttribute) -> Result<bool, AllocError> {
+pub(crate) fn is_unprinted_as_unseen(
+    alloc: Global,
+    attribute: &MediaAttribute,
+) -> Result<bool, AllocError> {
     match attribute {
         MediaAttribute::Fmtp { values, .. } if holds_unseen_parameter(values.as_slice()) => {
             Ok(attribute.to_string(alloc)?.is_empty())

@@ -17,7 +17,7 @@ pub(crate) static COMMAND_CODECS: [&str; 12] = [
 
 /// What an option takes.
 #[derive(Clone, Copy)]
-enum ArgumentTakes {
+enum CommandOptionTakes {
     /// A text, and the option has to be given.
     Required,
     /// A text, which is this one where the option isn't given.
@@ -37,121 +37,125 @@ enum ArgumentTakes {
 }
 
 /// The options in the order of `--help`: the name, how its value is called, what it takes, and what it says.
-static OPTIONS: [(&str, &str, ArgumentTakes, &str); 15] = [
+static OPTIONS: [(&str, &str, CommandOptionTakes, &str); 15] = [
     (
         "offer",
         "",
-        ArgumentTakes::Nothing,
+        CommandOptionTakes::Nothing,
         "end with an offer of this side",
     ),
     (
         "ufrag",
         "TEXT",
-        ArgumentTakes::Required,
+        CommandOptionTakes::Required,
         "ICE user fragment of this side",
     ),
     (
         "pwd",
         "TEXT",
-        ArgumentTakes::Required,
+        CommandOptionTakes::Required,
         "ICE password of this side",
     ),
     (
         "fingerprint",
         "HASH",
-        ArgumentTakes::Required,
+        CommandOptionTakes::Required,
         "hash of this side's certificate, as 'sha-256 AB:CD:..'",
     ),
     (
         "candidate",
         "LINE",
-        ArgumentTakes::Texts,
+        CommandOptionTakes::Texts,
         "where this side is reached, a candidate with or without 'a='",
     ),
     (
         "session-id",
         "NUMBER",
-        ArgumentTakes::Long("1"),
+        CommandOptionTakes::Long("1"),
         "number of the session in the 'o=' line",
     ),
     (
         "audio",
         "DIRECTION",
-        ArgumentTakes::Direction,
+        CommandOptionTakes::Direction,
         "what this side is ready for in audio",
     ),
     (
         "video",
         "DIRECTION",
-        ArgumentTakes::Direction,
+        CommandOptionTakes::Direction,
         "what this side is ready for in video",
     ),
     (
         "stream",
         "ID",
-        ArgumentTakes::Text("-"),
+        CommandOptionTakes::Text("-"),
         "id of the stream that this side sends",
     ),
     (
         "codec",
         "NAME",
-        ArgumentTakes::Codecs,
+        CommandOptionTakes::Codecs,
         "a codec of this side, in order of preference; the default rows where none is named",
     ),
     (
         "extension",
         "URI",
-        ArgumentTakes::Texts,
+        CommandOptionTakes::Texts,
         "a header extension that this side knows",
     ),
     (
         "no-simulcast",
         "",
-        ArgumentTakes::Nothing,
+        CommandOptionTakes::Nothing,
         "receive no layers of simulcast",
     ),
     (
         "sctp-port",
         "PORT",
-        ArgumentTakes::Short("5000"),
+        CommandOptionTakes::Short("5000"),
         "port of SCTP for data channels",
     ),
     (
         "max-message-size",
         "BYTES",
-        ArgumentTakes::Long("262144"),
+        CommandOptionTakes::Long("262144"),
         "longest message of a data channel; 0 for any",
     ),
     (
         "no-channels",
         "",
-        ArgumentTakes::Nothing,
+        CommandOptionTakes::Nothing,
         "take no data channels",
     ),
 ];
 
 /// The option as `clap` has it, where it takes a value.
-fn valued_argument<'a>(arg: Arg<'a>, value: &'a str, takes: ArgumentTakes) -> Arg<'a> {
+fn command_option_with_value<'a>(
+    arg: Arg<'a>,
+    value: &'a str,
+    takes: CommandOptionTakes,
+) -> Arg<'a> {
     let arg = arg.value_name(value);
     match takes {
-        ArgumentTakes::Required => arg.action(ArgAction::Set).required(true),
-        ArgumentTakes::Text(default) => arg.action(ArgAction::Set).default_value(default),
-        ArgumentTakes::Direction => arg
+        CommandOptionTakes::Required => arg.action(ArgAction::Set).required(true),
+        CommandOptionTakes::Text(default) => arg.action(ArgAction::Set).default_value(default),
+        CommandOptionTakes::Direction => arg
             .action(ArgAction::Set)
             .default_value("sendrecv")
             .value_parser(COMMAND_DIRECTIONS.as_slice()),
-        ArgumentTakes::Short(default) => arg
+        CommandOptionTakes::Short(default) => arg
             .action(ArgAction::Set)
             .default_value(default)
             .value_parser(value_parser!(u16)),
-        ArgumentTakes::Long(default) => arg
+        CommandOptionTakes::Long(default) => arg
             .action(ArgAction::Set)
             .default_value(default)
             .value_parser(value_parser!(u64)),
-        ArgumentTakes::Codecs => arg
+        CommandOptionTakes::Codecs => arg
             .action(ArgAction::Append)
             .value_parser(COMMAND_CODECS.as_slice()),
-        ArgumentTakes::Texts | ArgumentTakes::Nothing => arg.action(ArgAction::Append),
+        CommandOptionTakes::Texts | CommandOptionTakes::Nothing => arg.action(ArgAction::Append),
     }
 }
 
@@ -168,8 +172,8 @@ pub(crate) fn command<'a>(alloc: Global) -> Result<Command<'a>, AllocError> {
     for &(name, value, takes, help) in &OPTIONS {
         let arg = Arg::new(alloc, name).long(name).help(help);
         let arg = match takes {
-            ArgumentTakes::Nothing => arg.action(ArgAction::SetTrue),
-            _ => valued_argument(arg, value, takes),
+            CommandOptionTakes::Nothing => arg.action(ArgAction::SetTrue),
+            _ => command_option_with_value(arg, value, takes),
         };
         command = command.arg(arg)?;
     }
@@ -177,6 +181,6 @@ pub(crate) fn command<'a>(alloc: Global) -> Result<Command<'a>, AllocError> {
 }
 
 /// The value of an option; empty where it isn't given.
-pub(crate) fn value<'a>(matches: &ArgMatches<'a>, name: &str) -> &'a str {
+pub(crate) fn command_value<'a>(matches: &ArgMatches<'a>, name: &str) -> &'a str {
     matches.get_str(name).unwrap_or("")
 }

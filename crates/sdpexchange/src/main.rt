@@ -20,7 +20,7 @@ use std::process::ExitCode;
 use std::{env, io};
 
 /// Takes the steps, in order; what this side has said last, as text.
-fn said_by(
+fn exchange_said_by(
     rt: &HostRuntime,
     matches: &ArgMatches<'_>,
     exchange: &mut Exchange,
@@ -36,25 +36,25 @@ fn said_by(
 }
 
 /// Takes the steps that are named; an offer is read from standard input where none is, and no offer of this side is asked for.
-fn steps_taken(
+fn exchange_steps_taken(
     rt: &HostRuntime,
     matches: &ArgMatches<'_>,
     exchange: &mut Exchange,
 ) -> Result<String, Fault> {
     match matches.get_strs("step") {
-        Some(steps) => said_by(rt, matches, exchange, steps),
+        Some(steps) => exchange_said_by(rt, matches, exchange, steps),
         None if matches.get_flag("offer") => Ok(String::new(rt.alloc())),
-        None => said_by(rt, matches, exchange, &["-"]),
+        None => exchange_said_by(rt, matches, exchange, &["-"]),
     }
 }
 
 /// What this side says in the end, as text.
-fn said_last(
+fn exchange_said_last(
     rt: &HostRuntime,
     matches: &ArgMatches<'_>,
     exchange: &mut Exchange,
 ) -> Result<String, Fault> {
-    let said = steps_taken(rt, matches, exchange)?;
+    let said = exchange_steps_taken(rt, matches, exchange)?;
     if matches.get_flag("offer") {
         return offer(rt.alloc(), exchange);
     }
@@ -62,10 +62,10 @@ fn said_last(
 }
 
 /// What a session of this side comes to, as text.
-fn text_of_session(rt: &HostRuntime, matches: &ArgMatches<'_>) -> Result<String, Fault> {
+fn exchange_session_text(rt: &HostRuntime, matches: &ArgMatches<'_>) -> Result<String, Fault> {
     let own = own_side(rt.alloc(), matches)?;
     let mut exchange = Exchange::new(own, configured_codecs(rt.alloc(), matches)?);
-    said_last(rt, matches, &mut exchange)
+    exchange_said_last(rt, matches, &mut exchange)
 }
 
 fn arguments(rt: &HostRuntime) -> io::Result<Vec<String>> {
@@ -91,7 +91,7 @@ fn run(rt: &HostRuntime) -> Result<u8, Fault> {
             return Ok(if error.use_stderr() { 2 } else { 0 });
         }
     };
-    let said = text_of_session(rt, &matches)?;
+    let said = exchange_session_text(rt, &matches)?;
     let mut output = rt.stdout();
     output.write_all(said.as_bytes())?;
     output.flush()?;

@@ -1,6 +1,6 @@
 //! What the options say of this side.
 
-use crate::command::value;
+use crate::command::command_value;
 use crate::fault::Fault;
 use clap::ArgMatches;
 use exchange::{DataChannels, OwnSide, trickled_candidate};
@@ -21,20 +21,26 @@ pub(crate) fn own_direction_named(word: &str) -> Option<Direction> {
 }
 
 fn own_media_direction(matches: &ArgMatches<'_>, name: &str) -> Direction {
-    own_direction_named(value(matches, name)).unwrap_or(Direction::SendRecv)
+    own_direction_named(command_value(matches, name)).unwrap_or(Direction::SendRecv)
 }
 
-fn fingerprint(alloc: Global, matches: &ArgMatches<'_>) -> Result<Fingerprint, Fault> {
-    Fingerprint::from_str(alloc, value(matches, "fingerprint")).map_err(|error| match error {
-        FingerprintError::Memory => Fault::Memory,
-        _ => Fault::Option {
-            option: "fingerprint",
-            why: "write the name of the hash, a space and its bytes in hex, parted by colons",
+fn own_fingerprint(alloc: Global, matches: &ArgMatches<'_>) -> Result<Fingerprint, Fault> {
+    Fingerprint::from_str(alloc, command_value(matches, "fingerprint")).map_err(
+        |error| match error {
+            FingerprintError::Memory => Fault::Memory,
+            _ => Fault::Option {
+                option: "fingerprint",
+                why: "write the name of the hash, a space and its bytes in hex, parted by colons",
+            },
         },
-    })
+    )
 }
 
-fn texts(alloc: Global, matches: &ArgMatches<'_>, name: &str) -> Result<Items<Text>, AllocError> {
+fn own_option_texts(
+    alloc: Global,
+    matches: &ArgMatches<'_>,
+    name: &str,
+) -> Result<Items<Text>, AllocError> {
     let mut texts = Items::empty(alloc);
     if let Some(values) = matches.get_strs(name) {
         for text in values {
@@ -56,7 +62,7 @@ fn own_candidate(alloc: Global, line: &str) -> Result<Candidate, Fault> {
     }
 }
 
-fn candidates(alloc: Global, matches: &ArgMatches<'_>) -> Result<Items<Candidate>, Fault> {
+fn own_candidates(alloc: Global, matches: &ArgMatches<'_>) -> Result<Items<Candidate>, Fault> {
     let mut candidates = Items::empty(alloc);
     if let Some(lines) = matches.get_strs("candidate") {
         for line in lines {
@@ -66,7 +72,7 @@ fn candidates(alloc: Global, matches: &ArgMatches<'_>) -> Result<Items<Candidate
     Ok(candidates)
 }
 
-fn channels(matches: &ArgMatches<'_>) -> Option<DataChannels> {
+fn own_channels(matches: &ArgMatches<'_>) -> Option<DataChannels> {
     if matches.get_flag("no-channels") {
         return None;
     }
@@ -78,10 +84,10 @@ fn channels(matches: &ArgMatches<'_>) -> Option<DataChannels> {
     })
 }
 
-fn creds(alloc: Global, matches: &ArgMatches<'_>) -> Result<IceCreds, AllocError> {
+fn own_creds(alloc: Global, matches: &ArgMatches<'_>) -> Result<IceCreds, AllocError> {
     Ok(IceCreds {
-        ufrag: Text::from_str(alloc, value(matches, "ufrag"))?,
-        pass: Text::from_str(alloc, value(matches, "pwd"))?,
+        ufrag: Text::from_str(alloc, command_value(matches, "ufrag"))?,
+        pass: Text::from_str(alloc, command_value(matches, "pwd"))?,
     })
 }
 
@@ -91,7 +97,10 @@ pub(crate) fn restarted_answer(
     matches: &ArgMatches<'_>,
     number: usize,
 ) -> Result<IceCreds, AllocError> {
-    let (ufrag, pass) = (value(matches, "ufrag"), value(matches, "pwd"));
+    let (ufrag, pass) = (
+        command_value(matches, "ufrag"),
+        command_value(matches, "pwd"),
+    );
     Ok(IceCreds {
         ufrag: Text::from(format!(in alloc; "{ufrag}{number}")?),
         pass: Text::from(format!(in alloc; "{pass}{number}")?),
@@ -102,14 +111,14 @@ pub(crate) fn restarted_answer(
 pub(crate) fn own_side(alloc: Global, matches: &ArgMatches<'_>) -> Result<OwnSide, Fault> {
     Ok(OwnSide {
         session_id: SessionId::from(matches.get_one::<u64>("session-id").unwrap_or(1)),
-        creds: creds(alloc, matches)?,
-        fingerprint: fingerprint(alloc, matches)?,
+        creds: own_creds(alloc, matches)?,
+        fingerprint: own_fingerprint(alloc, matches)?,
         audio: own_media_direction(matches, "audio"),
         video: own_media_direction(matches, "video"),
-        stream_id: Text::from_str(alloc, value(matches, "stream"))?,
-        extensions: texts(alloc, matches, "extension")?,
-        candidates: candidates(alloc, matches)?,
-        channels: channels(matches),
+        stream_id: Text::from_str(alloc, command_value(matches, "stream"))?,
+        extensions: own_option_texts(alloc, matches, "extension")?,
+        candidates: own_candidates(alloc, matches)?,
+        channels: own_channels(matches),
         directions: Items::empty(alloc),
         receives_simulcast: !matches.get_flag("no-simulcast"),
     })

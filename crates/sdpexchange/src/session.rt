@@ -30,7 +30,7 @@ fn read_session_file(rt: &HostRuntime, file: &str) -> Result<String, Fault> {
 }
 
 /// Whether the offer restarts ICE. A text that is no offer restarts nothing: it is refused later.
-fn is_restart(alloc: Global, exchange: &Exchange, offer: &str) -> Result<bool, Fault> {
+fn session_restarts_ice(alloc: Global, exchange: &Exchange, offer: &str) -> Result<bool, Fault> {
     let Some(before) = exchange.remote() else {
         return Ok(false);
     };
@@ -52,7 +52,7 @@ fn answer_to(
     let alloc = rt.alloc();
     let text = read_session_file(rt, file)?;
     // An answer to a restart says credentials of its own (RFC 8839, section 4.4.3.1).
-    if is_restart(alloc, exchange, text.as_str())? {
+    if session_restarts_ice(alloc, exchange, text.as_str())? {
         exchange.restart_ice(restarted_answer(alloc, matches, number)?);
     }
     match exchange.accept_offer(text.as_str()) {

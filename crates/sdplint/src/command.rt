@@ -26,7 +26,7 @@ fn bare_option<'a>(alloc: Global, name: &'a str, value: &'a str, help: &'a str) 
 }
 
 /// The option that has rounds run against the default rows.
-fn against_default<'a>(alloc: Global) -> Result<Arg<'a>, AllocError> {
+fn command_against_default<'a>(alloc: Global) -> Result<Arg<'a>, AllocError> {
     Arg::new(alloc, "against-default")
         .long("against-default")
         .action(ArgAction::SetTrue)
@@ -49,7 +49,7 @@ fn bare_command<'a>(alloc: Global) -> Result<Command<'a>, AllocError> {
 
 /// The program's arguments. Each option is made where no other waits: what waits is dropped on each way out, and proved there.
 pub(crate) fn command<'a>(alloc: Global) -> Result<Command<'a>, AllocError> {
-    let against_default = against_default(alloc)?;
+    let against_default = command_against_default(alloc)?;
     bare_command(alloc)?
         .arg(option(alloc, "format", "text", "how findings are written").value_parser(
             COMMAND_FORMATS.as_slice(),
@@ -77,6 +77,6 @@ pub(crate) fn command<'a>(alloc: Global) -> Result<Command<'a>, AllocError> {
 }
 
 /// The value of an option; empty where it isn't given.
-pub(crate) fn value<'a>(matches: &ArgMatches<'a>, name: &str) -> &'a str {
+pub(crate) fn command_value<'a>(matches: &ArgMatches<'a>, name: &str) -> &'a str {
     matches.get_str(name).unwrap_or("")
 }

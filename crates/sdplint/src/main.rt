@@ -9,7 +9,7 @@ mod output;
 mod records;
 
 use crate::against::side_against;
-use crate::command::{command, value};
+use crate::command::{command, command_value};
 use crate::explain::explanation;
 use crate::fault::Fault;
 use crate::output::{Output, OutputFormat};
@@ -36,7 +36,7 @@ fn text_of(rt: &HostRuntime, file: &str) -> io::Result<String> {
 }
 
 /// The rows of this side, where rounds are asked for.
-fn side(rt: &HostRuntime, matches: &ArgMatches<'_>) -> Result<Option<CodecConfig>, Fault> {
+fn lint_side(rt: &HostRuntime, matches: &ArgMatches<'_>) -> Result<Option<CodecConfig>, Fault> {
     if matches.get_flag("against-default") {
         return Ok(Some(CodecConfig::new_with_defaults(rt.alloc())?));
     }
@@ -50,7 +50,7 @@ fn side(rt: &HostRuntime, matches: &ArgMatches<'_>) -> Result<Option<CodecConfig
 }
 
 /// What is found in a text, and then what would come of rounds with it.
-fn report_of(
+fn lint_report_of(
     rt: &HostRuntime,
     text: &str,
     side: &Option<CodecConfig>,
@@ -66,7 +66,7 @@ fn report_of(
 }
 
 /// Adds the findings of a file.
-fn add_file(
+fn lint_file(
     rt: &HostRuntime,
     output: &mut Output,
     file: &str,
@@ -76,12 +76,12 @@ fn add_file(
         Ok(text) => text,
         Err(error) => return Err(Fault::of_reading(rt.alloc(), file, error)),
     };
-    let report = report_of(rt, text.as_str(), side)?;
+    let report = lint_report_of(rt, text.as_str(), side)?;
     output.add_report(file, report)?;
     Ok(())
 }
 
-fn write(rt: &HostRuntime, text: &str) -> io::Result<()> {
+fn write_lint_text(rt: &HostRuntime, text: &str) -> io::Result<()> {
     let mut output = rt.stdout();
     output.write_all(text.as_bytes())?;
     output.flush()
@@ -89,7 +89,7 @@ fn write(rt: &HostRuntime, text: &str) -> io::Result<()> {
 
 /// Whether severities are coloured: the output is a terminal, and the environment doesn't ask for none (https://no-color.org: by
 /// `NO_COLOR`, where it isn't empty).
-fn are_coloured(rt: &HostRuntime) -> bool {
+fn is_lint_coloured(rt: &HostRuntime) -> bool {
     if !rt.stdout().is_terminal() {
         return false;
     }
@@ -102,16 +102,16 @@ fn are_coloured(rt: &HostRuntime) -> bool {
 
 /// Says what is found in all files; answers the exit status.
 fn lint(rt: &HostRuntime, matches: &ArgMatches<'_>) -> Result<u8, Fault> {
-    let format = OutputFormat::named(value(matches, "format"), are_coloured(rt));
-    let mut output = Output::new(rt.alloc(), format, value(matches, "level"));
-    let side = side(rt, matches)?;
+    let format = OutputFormat::named(command_value(matches, "format"), is_lint_coloured(rt));
+    let mut output = Output::new(rt.alloc(), format, command_value(matches, "level"));
+    let side = lint_side(rt, matches)?;
     if let Some(files) = matches.get_strs("file") {
         for file in files {
-            add_file(rt, &mut output, file, &side)?;
+            lint_file(rt, &mut output, file, &side)?;
         }
     }
     let status = if output.is_silent() { 0 } else { 1 };
-    write(rt, output.into_text()?.as_str())?;
+    write_lint_text(rt, output.into_text()?.as_str())?;
     Ok(status)
 }
 
@@ -139,8 +139,8 @@ fn run(rt: &HostRuntime) -> Result<u8, Fault> {
         }
     };
     if matches.contains_id("explain") {
-        let text = explanation(rt.alloc(), value(&matches, "explain"))?;
-        write(rt, text.as_str())?;
+        let text = explanation(rt.alloc(), command_value(&matches, "explain"))?;
+        write_lint_text(rt, text.as_str())?;
         return Ok(0);
     }
     lint(rt, &matches)

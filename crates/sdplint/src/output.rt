@@ -1,6 +1,6 @@
 //! What is written of all files.
 
-use crate::records::{log, sarif_result};
+use crate::records::{sarif_log, sarif_result};
 use c_json::record;
 use lint::{Finding, Report, Severity};
 use serde_json::Value;
@@ -32,7 +32,7 @@ impl OutputFormat {
 
 /// How many findings of each severity are shown.
 #[derive(Clone, Copy)]
-struct SeverityCounts {
+struct OutputCounts {
     errors: usize,
     warnings: usize,
     notes: usize,
@@ -44,13 +44,13 @@ pub(crate) struct Output {
     alloc: Global,
     format: OutputFormat,
     level: Severity,
-    counts: SeverityCounts,
+    counts: OutputCounts,
     text: String,
     values: Vec<Value>,
 }
 
 /// The severity of a word of `--level`.
-fn severity(word: &str) -> Severity {
+fn output_level(word: &str) -> Severity {
     match word {
         "error" => Severity::Error,
         "warning" => Severity::Warning,
@@ -59,7 +59,10 @@ fn severity(word: &str) -> Severity {
 }
 
 /// The colour of a severity on a terminal, and what ends it (ECMA-48, section 8.3.117): red, magenta and cyan.
-fn severity_colour(format: OutputFormat, severity: Severity) -> (&'static str, &'static str) {
+fn output_severity_colour(
+    format: OutputFormat,
+    severity: Severity,
+) -> (&'static str, &'static str) {
     match format {
         OutputFormat::Coloured => match severity {
             Severity::Error => ("\x1b[31m", "\x1b[0m"),
@@ -71,7 +74,7 @@ fn severity_colour(format: OutputFormat, severity: Severity) -> (&'static str, &
 }
 
 /// Whether a finding of this severity is shown at a level.
-fn is_severity_shown(severity: Severity, level: Severity) -> bool {
+fn is_severity_in_output(severity: Severity, level: Severity) -> bool {
     match level {
         Severity::Error => matches!(severity, Severity::Error),
         Severity::Warning => !matches!(severity, Severity::Note),
@@ -87,7 +90,7 @@ fn output_count(alloc: Global, count: usize, noun: &str) -> Result<String, Alloc
 
 impl Output {
     pub(crate) fn new(alloc: Global, format: OutputFormat, level: &str) -> Output {
-        let counts = SeverityCounts {
+        let counts = OutputCounts {
             errors: 0,
             warnings: 0,
             notes: 0,
@@ -95,7 +98,7 @@ impl Output {
         Output {
             alloc,
             format,
-            level: severity(level),
+            level: output_level(level),
             counts,
             text: String::new(alloc),
             values: Vec::new(alloc),
@@ -113,7 +116,7 @@ impl Output {
     fn add_line(&mut self, file: &str, finding: &Finding) -> Result<(), AllocError> {
         let (line, column) = (finding.line, finding.column);
         let severity = finding.code.severity();
-        let (begin, end) = severity_colour(self.format, severity);
+        let (begin, end) = output_severity_colour(self.format, severity);
         let (severity, code) = (severity.word(), finding.code.entry().name);
         writeln!(
             self.text,
@@ -137,7 +140,7 @@ impl Output {
         findings.sort_by_key(|finding| (finding.line, finding.column))?;
         for finding in &findings {
             let severity = finding.code.severity();
-            if is_severity_shown(severity, self.level) {
+            if is_severity_in_output(severity, self.level) {
                 self.count(severity);
                 self.add(file, finding)?;
             }
@@ -173,7 +176,7 @@ impl Output {
                 writeln!(text, "{list}")?;
             }
             OutputFormat::Sarif => {
-                let log = log(alloc, values)?.to_string(alloc)?;
+                let log = sarif_log(alloc, values)?.to_string(alloc)?;
                 writeln!(text, "{log}")?;
             }
         }

@@ -16,7 +16,7 @@ fn sarif_uri_escapes() -> AsciiSet {
 }
 
 /// The file as a URI, relative to where the program runs.
-fn uri(alloc: Global, file: &str) -> Result<String, AllocError> {
+fn sarif_uri(alloc: Global, file: &str) -> Result<String, AllocError> {
     let mut uri = String::new(alloc);
     utf8_percent_encode(file, sarif_uri_escapes()).append_to(&mut uri)?;
     Ok(uri)
@@ -31,7 +31,7 @@ pub(crate) fn sarif_result(
     let (line, column) = (finding.line as u64, finding.column as u64);
     let level = finding.code.severity().word();
     let (code, message) = (finding.code.entry().name, finding.sentence.as_str());
-    let uri = uri(alloc, file)?;
+    let uri = sarif_uri(alloc, file)?;
     json!(in alloc; {
         "ruleId": code,
         "level": level,
@@ -77,14 +77,14 @@ fn rules(alloc: Global) -> Result<Value, AllocError> {
 }
 
 /// The program as the driver of a run of SARIF (section 3.19).
-fn driver(alloc: Global) -> Result<Value, AllocError> {
+fn sarif_driver(alloc: Global) -> Result<Value, AllocError> {
     let rules = rules(alloc)?;
     json!(in alloc; {"name": "sdplint", "version": "0.25.0", "rules": rules})
 }
 
 /// A run of SARIF (section 3.14).
 fn sarif_run(alloc: Global, results: Vec<Value>) -> Result<Value, AllocError> {
-    let (driver, results) = (driver(alloc)?, Value::Array(results));
+    let (driver, results) = (sarif_driver(alloc)?, Value::Array(results));
     json!(in alloc; {
         "tool": {"driver": driver},
         "columnKind": "unicodeCodePoints",
@@ -93,7 +93,7 @@ fn sarif_run(alloc: Global, results: Vec<Value>) -> Result<Value, AllocError> {
 }
 
 /// A log of SARIF with one run (section 3.13).
-pub(crate) fn log(alloc: Global, results: Vec<Value>) -> Result<Value, AllocError> {
+pub(crate) fn sarif_log(alloc: Global, results: Vec<Value>) -> Result<Value, AllocError> {
     let run = sarif_run(alloc, results)?;
     json!(in alloc; {
         "$schema": "https://json.schemastore.org/sarif-2.1.0.json",

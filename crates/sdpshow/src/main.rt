@@ -4,7 +4,7 @@
 #![tactic(auto)]
 
 use show::fault::Fault;
-use show::run::{refuse_run, run, usage};
+use show::run::{refuse_run, run, run_usage};
 use std::io::ErrorKind;
 use std::process::ExitCode;
 use std::{env, io};
@@ -29,7 +29,7 @@ fn main(rt: HostRuntime) -> ExitCode {
         ),
         Err(error) => match error.kind() {
             ErrorKind::OutOfMemory => refuse_run(&mut rt.stderr(), &Fault::OUT_OF_MEMORY),
-            _ => usage(&mut rt.stderr()),
+            _ => run_usage(&mut rt.stderr()),
         },
     };
     ExitCode::from(ending.status)

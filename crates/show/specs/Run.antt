@@ -6,7 +6,7 @@ use Rattle.show.specs.declared.run.Shown.TheVariants.{Text, Rows, Negotiation}
 use Rattle.std.specs.Prelude.{◌≡◌, ℕ, List, [], ◌∷◌, Option, Some, None, IfSome, codes, if◌then◌else◌, bytes_eq}
 use Rattle.str0m_sdp.specs.declared.session.Sdp.{Sdp}
 use Rattle.str0m_sdp.specs.session.Session.{sdp_text}
-use Rattle.str0m_signal.specs.session.Reader.{Described}
+use Rattle.str0m_signal.specs.session.Reader.{DescribesSession}
 
 -- what the arguments ask for: one word alone, exactly so written
 abbrev pub run_asked_by : List ℕ → Option Shown
@@ -16,13 +16,13 @@ run_asked_by word =
     else if bytes_eq word (codes "negotiate") then Some Negotiation
     else None
 
-abbrev pub asked : List (List ℕ) → Option Shown
-asked (word ∷ []) = run_asked_by word
-asked _ = None
+abbrev pub run_asked : List (List ℕ) → Option Shown
+run_asked (word ∷ []) = run_asked_by word
+run_asked _ = None
 
 -- the bytes describe a session, of which this is the text
 abbrev pub PrintsBy : (Sdp → List ℕ) → List ℕ → List ℕ → Type 0
-PrintsBy text bytes printed = (sdp : Sdp) × Described bytes sdp × (printed ≡ text sdp)
+PrintsBy text bytes printed = (sdp : Sdp) × DescribesSession bytes sdp × (printed ≡ text sdp)
 
 -- the bytes describe a session, and this is shown of it
 abbrev pub Prints : Shown → List ℕ → List ℕ → Type 0
@@ -39,5 +39,5 @@ abbrev pub ShowsAsked : Option Shown → Option (List ℕ) → List ℕ → Type
 ShowsAsked asked held printed = (shown : Shown) × (asked ≡ Some shown) × Shows shown held printed
 
 -- what a reader holds, where that is known, describes a session
-abbrev pub Describes : Option (List ℕ) → Type 0
-Describes held = (bytes : List ℕ) × IfSome held (λ known. bytes ≡ known) × ((sdp : Sdp) × Described bytes sdp)
+abbrev pub RunInputDescribes : Option (List ℕ) → Type 0
+RunInputDescribes held = (bytes : List ℕ) × IfSome held (λ known. bytes ≡ known) × ((sdp : Sdp) × DescribesSession bytes sdp)

@@ -1,8 +1,8 @@
 //! The lines of `sdpshow negotiate`.
-ghost use Rattle.show.specs.NegotiationLines.{PrintsRounds, outcome_line, outcome_lines, state_line, lock_text};
+ghost use Rattle.show.specs.NegotiationLines.{PrintsRounds, outcome_line, outcome_lines, state_line, negotiation_lock_text};
 ghost use Rattle.std.specs.Prelude.{◌≡◌, ◌++◌, IfErr, IfOk, OnOk, Some, flat_map, string_bytes};
-ghost use Rattle.str0m_signal.specs.session.Reader.{Described};
-ghost use Rattle.str0m_signal.specs.session.ReaderAnswers.{Refuses};
+ghost use Rattle.str0m_signal.specs.session.Reader.{DescribesSession};
+ghost use Rattle.str0m_signal.specs.session.ReaderAnswers.{ReaderRefuses};
 
 use crate::row_lines::row_line;
 use std::alloc::{AllocError, Global};
@@ -47,18 +47,22 @@ fn outcome_lines(
     Ok(text)
 }
 
-fn lock_text(is_locked: bool) -> &'static str
-    ensures { result.now ≡ lock_text is_locked }
+fn negotiation_lock_text(is_locked: bool) -> &'static str
+    ensures { result.now ≡ negotiation_lock_text is_locked }
 {
     if is_locked { "locked" } else { "open" }
 }
 
 /// Appends the rows of a configuration, a line each.
-fn append_states(alloc: Global, text: &mut String, rows: &[PayloadParams]) -> Result<(), AllocError>
+fn append_negotiation_states(
+    alloc: Global,
+    text: &mut String,
+    rows: &[PayloadParams],
+) -> Result<(), AllocError>
     ensures { OnOk result (string_bytes text.new ≡ string_bytes text.old ++ flat_map state_line rows.now) }
 {
     for row in rows {
-        let line = row_line(alloc, lock_text(row.locked()), row)?;
+        let line = row_line(alloc, negotiation_lock_text(row.locked()), row)?;
         text.push_str(line.as_str())?;
     }
     Ok(())
@@ -67,11 +71,11 @@ fn append_states(alloc: Global, text: &mut String, rows: &[PayloadParams]) -> Re
 /// The rounds of the default configuration against a text: what each came to, and then the rows.
 pub(crate) fn negotiation_text(alloc: Global, text: &str) -> Result<String, SdpError>
     ensures printed { IfOk result (λ printed. PrintsRounds text.now (string_bytes printed)) }
-    ensures refused { IfErr result (λ error. Refuses error (Described text.now)) }
+    ensures refused { IfErr result (λ error. ReaderRefuses error (DescribesSession text.now)) }
 {
     let mut config = CodecConfig::new_with_defaults(alloc)?;
     let outcomes = negotiate_text(&mut config, text)?;
     let mut printed = outcome_lines(alloc, outcomes.as_slice())?;
-    append_states(alloc, &mut printed, config.params())?;
+    append_negotiation_states(alloc, &mut printed, config.params())?;
     Ok(printed)
 }

@@ -1,5 +1,5 @@
 //! The lines of `sdpshow rows`.
-ghost use Rattle.show.specs.RowLines.{row_text_or_dash, type_text, mid_text, row_fields, row_line, section_lines, rows_text};
+ghost use Rattle.show.specs.RowLines.{row_text_or_dash, row_type_text, row_mid_text, row_fields, row_line, section_lines, rows_text};
 ghost use Rattle.std.specs.Prelude.{◌≡◌, ◌++◌, IfOk, OnOk, Some, string_bytes};
 
 use std::alloc::{AllocError, Global};
@@ -8,10 +8,10 @@ use str0m_signal::{MediaLine, Mid, PayloadParams, Pt, RtpMap, Sdp};
 
 /// A payload type, and `-` for none.
 #[derive(Clone, Copy)]
-struct TypeOrDash(Option<Pt>);
+struct RowTypeOrDash(Option<Pt>);
 
-impl fmt::Display for TypeOrDash {
-    ghost output = { λ shown. Some (type_text shown.0) };
+impl fmt::Display for RowTypeOrDash {
+    ghost output = { λ shown. Some (row_type_text shown.0) };
 
     fn fmt<W: fmt::Write>(&self, f: &mut fmt::Formatter<W>) -> fmt::Result {
         match self.0 {
@@ -41,7 +41,11 @@ impl<'a> fmt::Display for RowLine<'a> {
 
     fn fmt<W: fmt::Write>(&self, f: &mut fmt::Formatter<W>) -> fmt::Result {
         let (mid, row, format) = (self.mid, self.row, self.format);
-        let (pt, resend, red) = (row.pt(), TypeOrDash(row.resend()), TypeOrDash(row.red()));
+        let (pt, resend, red) = (
+            row.pt(),
+            RowTypeOrDash(row.resend()),
+            RowTypeOrDash(row.red()),
+        );
         let spec = row.spec();
         let map = RtpMap {
             codec: spec.codec,
@@ -66,7 +70,7 @@ fn append_rows(alloc: Global, text: &mut String, section: &MediaLine) -> Result<
     ensures { OnOk result (string_bytes text.new ≡ string_bytes text.old ++ section_lines section.now) }
 {
     let rows = section.rtp_params()?;
-    let mid = mid_text(alloc, section)?;
+    let mid = row_mid_text(alloc, section)?;
     for row in &rows {
         let line = row_line(alloc, mid.as_str(), row)?;
         text.push_str(line.as_str())?;
@@ -75,8 +79,8 @@ fn append_rows(alloc: Global, text: &mut String, section: &MediaLine) -> Result<
 }
 
 /// The section's mid, and `-` where it has none.
-fn mid_text(alloc: Global, section: &MediaLine) -> Result<String, AllocError>
-    ensures { IfOk result (λ text. string_bytes text ≡ mid_text section.now) }
+fn row_mid_text(alloc: Global, section: &MediaLine) -> Result<String, AllocError>
+    ensures { IfOk result (λ text. string_bytes text ≡ row_mid_text section.now) }
 {
     if section.has_mid() {
         section.mid().to_string(alloc)

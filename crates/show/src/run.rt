@@ -1,13 +1,13 @@
 //! The program over any reader and any two writers.
 ghost use Rattle.show.specs.Faults.{fault_line, usage_line, IsFaultOf, IsFaultOfInput, IsFaultOfReading};
 ghost use Rattle.show.specs.RowLines.{rows_text};
-ghost use Rattle.show.specs.Run.{asked, run_asked_by, Prints, PrintsBy, Shows, ShowsAsked, Describes};
+ghost use Rattle.show.specs.Run.{run_asked, run_asked_by, Prints, PrintsBy, Shows, ShowsAsked, RunInputDescribes};
 ghost use Rattle.show.specs.declared.fault.Fault.TheVariants.{NotUtf8, Unwritable};
 ghost use Rattle.std.specs.Io.KnownBytes.{Appends, IsAtEnd};
 ghost use Rattle.std.specs.Prelude.{◌≡◌, ◌↔◌, ◌⊎◌, ℕ, List, None, IfErr, IfOk, IfSome, OnOk, OnErr, map, IsUtf8, string_bytes};
 ghost use Rattle.str0m_sdp.specs.session.Session.{sdp_text};
-ghost use Rattle.str0m_signal.specs.session.Reader.{Described};
-ghost use Rattle.str0m_signal.specs.session.ReaderAnswers.{Refuses};
+ghost use Rattle.str0m_signal.specs.session.Reader.{DescribesSession};
+ghost use Rattle.str0m_signal.specs.session.ReaderAnswers.{ReaderRefuses};
 
 use crate::fault::Fault;
 use crate::negotiation_lines::negotiation_text;
@@ -19,37 +19,37 @@ use str0m_signal::{SdpError, SdpOffer};
 
 /// How a run ended.
 #[derive(Drop)]
-pub struct Ending {
+pub struct RunEnding {
     /// The exit status.
     pub status: u8,
     /// Whether the line that goes with it could be written; without a line it is `Ok`.
     pub said: io::Result<()>,
 }
 
-impl Ending {
+impl RunEnding {
     /// What was asked for is shown, and nothing is said.
-    const SHOWN: Ending = Ending {
+    const SHOWN: RunEnding = RunEnding {
         status: 0,
         said: Ok(()),
     };
 }
 
 /// Says how the program is called. The status is 2.
-pub fn usage<F: Write>(faults: &mut F) -> Ending
+pub fn run_usage<F: Write>(faults: &mut F) -> RunEnding
     ensures status { result.status ≡ 2 }
     ensures said { OnOk result.said (Appends (F.contents faults.old) (F.contents faults.new) usage_line) }
 {
     let said = faults.write_all(b"usage: sdpshow text|rows|negotiate\n");
-    Ending { status: 2, said }
+    RunEnding { status: 2, said }
 }
 
 /// Says in one line why a run fails. The status is 1.
-pub fn refuse_run<F: Write>(faults: &mut F, fault: &Fault) -> Ending
+pub fn refuse_run<F: Write>(faults: &mut F, fault: &Fault) -> RunEnding
     ensures status { result.status ≡ 1 }
     ensures said { OnOk result.said (Appends (F.contents faults.old) (F.contents faults.new) (fault_line fault.now)) }
 {
     let said = writeln!(faults, "{fault}");
-    Ending { status: 1, said }
+    RunEnding { status: 1, said }
 }
 
 /// What the program is asked to show of a description.
@@ -76,8 +76,8 @@ fn run_asked_by(word: &str) -> Option<Shown>
 }
 
 /// What the arguments ask for: that one word alone.
-fn asked(words: &[String]) -> Option<Shown>
-    ensures { result ≡ asked (map string_bytes words.now) }
+fn run_asked(words: &[String]) -> Option<Shown>
+    ensures { result ≡ run_asked (map string_bytes words.now) }
 {
     match words {
         [word] => run_asked_by(word.as_str()),
@@ -86,7 +86,7 @@ fn asked(words: &[String]) -> Option<Shown>
 }
 
 /// All bytes that the reader holds.
-fn whole_bytes<R: Read>(alloc: Global, input: &mut R) -> Result<Vec<u8>, Fault>
+fn run_input_bytes<R: Read>(alloc: Global, input: &mut R) -> Result<Vec<u8>, Fault>
     ensures whole { IfOk result (λ bytes. IfSome (R.remaining input.old) (λ held. bytes.items ≡ held)) }
     ensures end { OnOk result (IsAtEnd (R.remaining input.new)) }
     ensures fault { IfErr result IsFaultOfReading }
@@ -102,7 +102,7 @@ fn whole_bytes<R: Read>(alloc: Global, input: &mut R) -> Result<Vec<u8>, Fault>
 }
 
 /// What was read, as a text: the only fault is that it is none.
-fn input_text_of(bytes: Vec<u8>) -> Result<String, Fault>
+fn run_input_text_of(bytes: Vec<u8>) -> Result<String, Fault>
     ensures text { IfOk result (λ text. string_bytes text ≡ bytes.items) }
     ensures fault { IfErr result (λ fault. (fault ≡ NotUtf8) × (IsUtf8 bytes.items → ⊥)) }
 {
@@ -114,25 +114,25 @@ fn input_text_of(bytes: Vec<u8>) -> Result<String, Fault>
 
 /// All that the reader holds.
 #[tactic(auto, using(crate::proofs::Faults::of_reading, crate::proofs::Faults::fault_of_no_text))]
-fn whole_text<R: Read>(alloc: Global, input: &mut R) -> Result<String, Fault>
+fn run_input_text<R: Read>(alloc: Global, input: &mut R) -> Result<String, Fault>
     ensures whole { IfOk result (λ text. IfSome (R.remaining input.old) (λ held. string_bytes text ≡ held)) }
     ensures end { OnOk result (IsAtEnd (R.remaining input.new)) }
     ensures fault { IfErr result (IsFaultOfInput (R.remaining input.old)) }
 {
-    input_text_of(whole_bytes(alloc, input)?)
+    run_input_text_of(run_input_bytes(alloc, input)?)
 }
 
-fn offer_text(alloc: Global, text: &str) -> Result<String, SdpError>
+fn run_offer_text(alloc: Global, text: &str) -> Result<String, SdpError>
     ensures printed { IfOk result (λ printed. PrintsBy sdp_text text.now (string_bytes printed)) }
-    ensures refused { IfErr result (λ error. Refuses error (Described text.now)) }
+    ensures refused { IfErr result (λ error. ReaderRefuses error (DescribesSession text.now)) }
 {
     let offer = SdpOffer::from_sdp_string(alloc, text)?;
     Ok(offer.to_sdp_string()?)
 }
 
-fn offer_rows(alloc: Global, text: &str) -> Result<String, SdpError>
+fn run_offer_rows(alloc: Global, text: &str) -> Result<String, SdpError>
     ensures printed { IfOk result (λ printed. PrintsBy rows_text text.now (string_bytes printed)) }
-    ensures refused { IfErr result (λ error. Refuses error (Described text.now)) }
+    ensures refused { IfErr result (λ error. ReaderRefuses error (DescribesSession text.now)) }
 {
     let offer = SdpOffer::from_sdp_string(alloc, text)?;
     Ok(rows_text(alloc, &offer)?)
@@ -141,11 +141,11 @@ fn offer_rows(alloc: Global, text: &str) -> Result<String, SdpError>
 /// What is shown of the description that the text begins with.
 fn printed(alloc: Global, shown: Shown, text: &str) -> Result<String, SdpError>
     ensures printed { IfOk result (λ printed. Prints shown text.now (string_bytes printed)) }
-    ensures refused { IfErr result (λ error. Refuses error (Described text.now)) }
+    ensures refused { IfErr result (λ error. ReaderRefuses error (DescribesSession text.now)) }
 {
     match shown {
-        Shown::Text => offer_text(alloc, text),
-        Shown::Rows => offer_rows(alloc, text),
+        Shown::Text => run_offer_text(alloc, text),
+        Shown::Rows => run_offer_rows(alloc, text),
         Shown::Negotiation => negotiation_text(alloc, text),
     }
 }
@@ -171,10 +171,10 @@ fn show<R: Read, W: Write>(
     ensures shown { OnOk result ((printed : List ℕ) × Shows shown (R.remaining input.old) printed
         × Appends (W.contents output.old) (W.contents output.new) printed) }
     ensures end { OnOk result (IsAtEnd (R.remaining input.new)) }
-    ensures refused { OnErr result ((output.new ≡ output.old) ⊎ Describes (R.remaining input.old)) }
+    ensures refused { OnErr result ((output.new ≡ output.old) ⊎ RunInputDescribes (R.remaining input.old)) }
     ensures fault { IfErr result (IsFaultOf (R.remaining input.old)) }
 {
-    let text = whole_text(alloc, input)?;
+    let text = run_input_text(alloc, input)?;
     let printed = printed(alloc, shown, text.as_str())?;
     write_whole(output, printed.as_str())
 }
@@ -201,23 +201,23 @@ pub fn run<R: Read, W: Write, F: Write>(
     input: &mut R,
     output: &mut W,
     faults: &mut F,
-) -> Ending
+) -> RunEnding
     ensures statuses { (result.status ≡ 0) ⊎ (result.status ≡ 1) ⊎ (result.status ≡ 2) }
 
     // Status 2 is for other arguments, and then nothing is read or written.
-    ensures usage { (result.status ≡ 2) ↔ (asked (map string_bytes words.now) ≡ None) }
+    ensures usage { (result.status ≡ 2) ↔ (run_asked (map string_bytes words.now) ≡ None) }
     ensures unread { result.status ≡ 2 → input.new ≡ input.old }
     ensures unwritten { result.status ≡ 2 → output.new ≡ output.old }
 
     // Status 0: all that was held is read, what was asked for is printed, and nothing is said.
     ensures shown { result.status ≡ 0 → (printed : List ℕ)
-        × ShowsAsked (asked (map string_bytes words.now)) (R.remaining input.old) printed
+        × ShowsAsked (run_asked (map string_bytes words.now)) (R.remaining input.old) printed
         × Appends (W.contents output.old) (W.contents output.new) printed }
     ensures end { result.status ≡ 0 → IsAtEnd (R.remaining input.new) }
     ensures silent { result.status ≡ 0 → faults.new ≡ faults.old }
 
     // Status 1: nothing is written of a text that describes no session.
-    ensures refused { result.status ≡ 1 → (output.new ≡ output.old) ⊎ Describes (R.remaining input.old) }
+    ensures refused { result.status ≡ 1 → (output.new ≡ output.old) ⊎ RunInputDescribes (R.remaining input.old) }
 
     // Where it could be written, one line says what is wrong, which is so, or how the program is called.
     ensures said { result.status ≡ 1 → (fault : Fault) × IsFaultOf (R.remaining input.old) fault
@@ -225,11 +225,11 @@ pub fn run<R: Read, W: Write, F: Write>(
     ensures called { result.status ≡ 2
         → OnOk result.said (Appends (F.contents faults.old) (F.contents faults.new) usage_line) }
 {
-    let Some(shown) = asked(words) else {
-        return usage(faults);
+    let Some(shown) = run_asked(words) else {
+        return run_usage(faults);
     };
     match show(alloc, shown, input, output) {
-        Ok(()) => Ending::SHOWN,
+        Ok(()) => RunEnding::SHOWN,
         Err(fault) => refuse_run(faults, &fault),
     }
 }

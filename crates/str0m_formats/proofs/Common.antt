@@ -59,5 +59,5 @@ pub use Rattle.str0m_values.proofs.CutsBothWays.{cuts_bind_some, cuts_reads_none
 pub use Rattle.str0m_values.proofs.CutsNumLaws.{num_found, num_only, num_reads, cuts_when_some, num_when_true, cuts_parsed_ok}
 pub use Rattle.str0m_values.proofs.CutsNumLaws.{cuts_parsed_err}
 pub use Rattle.str0m_values.proofs.CutsOnlyLaws.{only_read}
-pub use Rattle.str0m_values.specs.CutsParts.{IsRest, Lacks, IsGivenNumber, lay}
+pub use Rattle.str0m_values.specs.CutsParts.{IsRest, Lacks, IsGivenNumber, part_text_of}
 pub use mathlib.Core.Path.{fun_ext}

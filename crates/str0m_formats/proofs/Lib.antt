@@ -3,8 +3,8 @@ pub mod Common
 pub use Rattle.str0m_formats.proofs.codec.CodecNames.{codec_read_as, codec_read_only}
 pub use Rattle.str0m_formats.proofs.codec.CodecSpecStatic.{static_needs_none, static_is, static_small}
 pub use Rattle.str0m_formats.proofs.format.FormatKeyAgain.{IsKeyed, keyed_or_hidden}
-pub use Rattle.str0m_formats.proofs.format.FormatLineAgain.{line_linked_texts, printed_pairs}
-pub use Rattle.str0m_formats.proofs.format.FormatLinePairs.{IsFormatLineOf, IsOwnParam, line_all_of_both, format_said, line_of_pairs}
+pub use Rattle.str0m_formats.proofs.format.FormatLineAgain.{format_linked_texts, printed_pairs}
+pub use Rattle.str0m_formats.proofs.format.FormatLinePairs.{IsFormatLineOf, IsOwnParam, format_all_of_both, format_said, line_of_pairs}
 pub use Rattle.str0m_formats.proofs.format.FormatLinePairs.{params_print}
 pub use Rattle.str0m_formats.proofs.format.FormatParamAgain.{param_decimal_reads, parsed_param_printed}
 pub use Rattle.str0m_formats.proofs.format.FormatParamEqual.{param_Decides}

@@ -36,13 +36,14 @@ pub use Rattle.std.specs.Ordering.{nat_cmp, is_eq}
 pub use Rattle.std.specs.Prelude.{codes, IsTrue, MatchOption, nat_lt, option_map, slice_get, slice_set, ◌↔◌, IsSomeAnd}
 pub use Rattle.std.specs.Str.{bytes_eq, str_eq_ignore_ascii_case, str_to_ascii_lowercase}
 pub use Rattle.std.specs.String.{string_bytes, string_len, string_capacity}
-pub use Rattle.str0m_formats.proofs.{static_needs_none, static_small, line_all_of_both, param_Decides, ParamEqualityTest, param_eq_along}
+pub use Rattle.str0m_formats.proofs.{static_needs_none, static_small, format_all_of_both, param_Decides, ParamEqualityTest, param_eq_along}
 pub use Rattle.str0m_formats.proofs.{param_equality}
 pub use Rattle.str0m_formats.proofs.{param_eq_word, type_times-append}
 pub use Rattle.str0m_formats.proofs.{type_times-cons, one_time_if, type_times-some}
 pub use Rattle.str0m_formats.specs.codec.Codec.{events, other, CodecContent, audio, video}
 pub use Rattle.str0m_formats.specs.declared.format.format_param.FormatParam.TheVariants.{Apt, BarePtList, BareRange}
-pub use Rattle.str0m_formats.specs.format.FormatLine.{line_asks_absent, events_end, is_event, line_without_event_ranges, params_of_lines}
+pub use Rattle.str0m_formats.specs.format.FormatLine.{format_lines_ask_absent, events_end, is_event, line_without_event_ranges}
+pub use Rattle.str0m_formats.specs.format.FormatLine.{params_of_lines}
 pub use Rattle.str0m_formats.specs.format.FormatParams.{set_all}
 pub use Rattle.str0m_formats.specs.round.Claimed.{AllTypesDistinct, type_times}
 pub use Rattle.str0m_formats.specs.round.MatchScore.{same_codec}
@@ -51,7 +52,7 @@ pub use Rattle.str0m_formats.specs.row.PlainRow.{IsPlain, IsPlainG722}
 pub use Rattle.str0m_formats.specs.row.PlainRowBounds.{HoldsRowNumbers}
 pub use Rattle.str0m_sdp.specs.Prelude.{codec_content, codec_rtp_rate, static_spec, Codec, CodecSpec, FormatParam, FormatParams}
 pub use Rattle.str0m_sdp.specs.Prelude.{PayloadParams}
-pub use Rattle.str0m_sdp.specs.Prelude.{format_of_fmtp, line_values, empty, has, types, types_of, row_content_has_video, IsBounded}
+pub use Rattle.str0m_sdp.specs.Prelude.{format_of_fmtp, format_line_values, empty, has, types, types_of, row_content_has_video, IsBounded}
 pub use Rattle.str0m_sdp.specs.Prelude.{AreModes}
 pub use Rattle.str0m_sdp.specs.Prelude.{IsDistance, when, ◌<|>◌, ◌>>=◌, cut, before, IpAddr, SocketAddr, Candidate}
 pub use Rattle.str0m_values.specs.declared.address.IpAddr.TheVariants.{V4, V6}

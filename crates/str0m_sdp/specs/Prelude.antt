@@ -6,7 +6,7 @@ pub use Rattle.str0m_formats.specs.declared.codec.codec_spec.CodecSpec.{CodecSpe
 pub use Rattle.str0m_formats.specs.declared.format.format_param.FormatParam.{FormatParam}
 pub use Rattle.str0m_formats.specs.declared.format.format_params.FormatParams.{FormatParams}
 pub use Rattle.str0m_formats.specs.declared.row.payload_params.PayloadParams.{PayloadParams}
-pub use Rattle.str0m_formats.specs.format.FormatLine.{format_of_fmtp, line_values}
+pub use Rattle.str0m_formats.specs.format.FormatLine.{format_of_fmtp, format_line_values}
 pub use Rattle.str0m_formats.specs.format.FormatParam.{entry, kind, param_text}
 pub use Rattle.str0m_formats.specs.format.FormatParams.{empty, params_of}
 pub use Rattle.str0m_formats.specs.round.Choices.{has_events}

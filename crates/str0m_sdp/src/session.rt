@@ -4,7 +4,7 @@ ghost use Rattle.str0m_sdp.specs.session.Session.{origin_line, session_lines, se
 
 use crate::attribute::SessionAttribute;
 use crate::attribute::bandwidth::{Bandwidth, BandwidthLine};
-use crate::form::printed::{Each, Printed};
+use crate::form::printed::{Printed, PrintedEach};
 use crate::section::media_line::MediaLine;
 use std::alloc::AllocError;
 use std::fmt;
@@ -118,7 +118,7 @@ impl<'a, O: Printed> fmt::Display for SessionLines<'a, O> {
     #[inline(always)]
     fn fmt<W: fmt::Write>(&self, f: &mut fmt::Formatter<W>) -> fmt::Result {
         let bw = BandwidthLine(&self.session.bw);
-        let attrs = Each(self.session.attrs.as_slice());
+        let attrs = PrintedEach(self.session.attrs.as_slice());
         f.write_str("v=0\r\n")?;
         self.origin.fmt(f)?;
         write!(f, "s=-\r\n{bw}t=0 0\r\n{attrs}")
@@ -143,7 +143,7 @@ impl fmt::Display for Sdp {
 
     fn fmt<W: fmt::Write>(&self, f: &mut fmt::Formatter<W>) -> fmt::Result {
         let session = &self.session;
-        let media_lines = Each(self.media_lines.as_slice());
+        let media_lines = PrintedEach(self.media_lines.as_slice());
         write!(f, "{session}{media_lines}")
     }
 }
@@ -169,7 +169,7 @@ impl<'a> fmt::Display for VersionedSdp<'a> {
         let origin = VersionedOrigin { id, version };
         let origin = &origin;
         let lines = SessionLines { session, origin };
-        let media_lines = Each(self.sdp.media_lines.as_slice());
+        let media_lines = PrintedEach(self.sdp.media_lines.as_slice());
         write!(f, "{lines}{media_lines}")
     }
 }

@@ -25,7 +25,7 @@ pub use Rattle.std.specs.Prelude.{codes, is_some, IsTrue, ◌↔◌, IsErrAnd, c
 pub use Rattle.std.specs.Prelude.{unwrap_or}
 pub use Rattle.std.specs.Str.{bytes_eq, IsCharBoundary, IsUtf8, encode_utf8_all, chars}
 pub use Rattle.std.specs.Str.Parse.{digits_value, IsNumeral, AllDigits}
-pub use Rattle.str0m_formats.proofs.{codec_read_as, codec_read_only, printed_pairs, line_linked_texts, parsed_param_printed}
+pub use Rattle.str0m_formats.proofs.{codec_read_as, codec_read_only, printed_pairs, format_linked_texts, parsed_param_printed}
 pub use Rattle.str0m_formats.proofs.{param_decimal_reads, IsSolidPair}
 pub use Rattle.str0m_formats.proofs.{joined_pair}
 pub use Rattle.str0m_formats.proofs.{param_decimal_solid, Pairs, pairs_read_is, pairs_read_only}
@@ -59,7 +59,7 @@ pub use Rattle.str0m_sdp.specs.declared.label.TheConstants.{AUDIO, SCTP, SRTP, V
 pub use Rattle.str0m_sdp.specs.declared.session.Session.{Session}
 pub use Rattle.str0m_sdp.specs.declared.session.error.SdpError.{SdpError}
 pub use Rattle.str0m_sdp.specs.form.Printed.{attribute_line}
-pub use Rattle.str0m_sdp.specs.section.Consistency.{AgreesOnApt, NoSectionFaultIff, IsMapped, NamesNoOtherApt, section_apt_of}
+pub use Rattle.str0m_sdp.specs.section.Consistency.{AgreesOnSectionApt, NoSectionFaultIff, IsMapped, NamesNoOtherSectionApt, section_apt_of}
 pub use Rattle.str0m_sdp.specs.section.Consistency.{section_apt_among, section_apt_in, first_section_apt}
 pub use Rattle.str0m_sdp.specs.section.Consistency.{maps}
 pub use Rattle.str0m_sdp.specs.section.MediaLine.{formats_text, m_line, media_line_text, m_line_pts_text, port_text}
@@ -71,7 +71,8 @@ pub use Rattle.str0m_signal.specs.Prelude.{codec_of, IsReadAsCodec, FormatParam,
 pub use Rattle.str0m_signal.specs.Prelude.{types}
 pub use Rattle.str0m_signal.specs.Prelude.{IsPlain, media_attribute_text, session_attribute_text, media_words, session_words}
 pub use Rattle.str0m_signal.specs.Prelude.{bandwidth_text, is_media, setup_text, MediaAttribute, SessionAttribute, Bandwidth, MediaType}
-pub use Rattle.str0m_signal.specs.Prelude.{Proto, RestrictionId, SimulcastLayer, MediaLine, Sdp, line_end, Consistent, is_mid, is_setup}
+pub use Rattle.str0m_signal.specs.Prelude.{Proto, RestrictionId, SimulcastLayer, MediaLine, Sdp, printed_line_end, Consistent, is_mid}
+pub use Rattle.str0m_signal.specs.Prelude.{is_setup}
 pub use Rattle.str0m_signal.specs.Prelude.{is_direction, is_of_type, made, HasBoundedRows, sdp_text, PartedAddress, IsCandidateText, before}
 pub use Rattle.str0m_signal.specs.Prelude.{cut}
 pub use Rattle.str0m_signal.specs.Prelude.{is_rest, lacks, num, strip, when, ◌<|>◌, ◌>>=◌, IsTheOnly, FirstFit, IsNum, IsPt, IsRest, IsWord}
@@ -95,7 +96,7 @@ pub use Rattle.str0m_values.specs.Address.{IsOctet, IsHexGroup, IsOneAddressGrou
 pub use Rattle.str0m_values.specs.Address.{IsIpText, octet_pairs}
 pub use Rattle.str0m_values.specs.Address.{ip_text}
 pub use Rattle.str0m_values.specs.Candidate.{candidate_text, IsCandidateSocket, IsRelatedAddress, AreIceNames, IsCandidateSocketInRange}
-pub use Rattle.str0m_values.specs.Candidate.{IsPrintable}
+pub use Rattle.str0m_values.specs.Candidate.{IsPrintableCandidate}
 pub use Rattle.str0m_values.specs.Candidate.{socket_text}
 pub use Rattle.str0m_values.specs.Candidate.{related_text, extras_text}
 pub use Rattle.str0m_values.specs.Cuts.{front}

@@ -20,7 +20,7 @@ pub use Rattle.str0m_sdp.specs.declared.attribute.simulcast.Simulcast.{Simulcast
 pub use Rattle.str0m_sdp.specs.declared.attribute.simulcast.SimulcastLayer.{SimulcastLayer}
 pub use Rattle.str0m_sdp.specs.declared.section.media_line.MediaLine.{MediaLine}
 pub use Rattle.str0m_sdp.specs.declared.session.Sdp.{Sdp}
-pub use Rattle.str0m_sdp.specs.form.Printed.{line_end}
+pub use Rattle.str0m_sdp.specs.form.Printed.{printed_line_end}
 pub use Rattle.str0m_sdp.specs.section.Consistency.{Consistent, is_direction, is_mid, is_setup}
 pub use Rattle.str0m_sdp.specs.section.MadeSection.{is_of_type, made}
 pub use Rattle.str0m_sdp.specs.section.SectionRows.{HasBoundedRows, NamesOnePrimaryRow, rows}

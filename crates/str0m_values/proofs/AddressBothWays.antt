@@ -21,17 +21,17 @@ address_whole_some None x e = absurd cc
 address_whole_some {A} (Some (y, [])) x e = ap (λ (z : A). Some (z, [])) (cuts_some_is y x e)
 address_whole_some (Some (y, c ∷ rest)) x e = let none = rw (ne_eqb (length (c ∷ rest)) 0 (omega arith)) at e in absurd cc
 
-whole_both : {A : Type 0} (F : List ℕ → A → Type 0) (read : List ℕ → Read A)
+address_whole_both : {A : Type 0} (F : List ℕ → A → Type 0) (read : List ℕ → Read A)
     → ((text : List ℕ) (x : A) (rest : List ℕ) → read text ≡ Some (x, rest) → (front : List ℕ) × (text ≡ front ++ rest) × F front x)
     → ((text : List ℕ) (x : A) → F text x → read (text ++ []) ≡ Some (x, []))
     → Reads F (λ text. whole_value (read text))
-whole_both F read sound complete = grind (arith, address_whole_some, append-nil)
+address_whole_both F read sound complete = grind (arith, address_whole_some, append-nil)
 
 v4_both : Reads net.IsDotted (λ text. whole_value (read_ipv4 text))
-v4_both = search (rules, whole_both, read_ipv4_sound, read_ipv4_complete)
+v4_both = search (rules, address_whole_both, read_ipv4_sound, read_ipv4_complete)
 
 v6_both : Reads net.IsColonHex (λ text. whole_value (read_ipv6 text))
-v6_both = whole_both net.IsColonHex read_ipv6 (λ text groups rest. read_ipv6_sound text groups rest)
+v6_both = address_whole_both net.IsColonHex read_ipv6 (λ text groups rest. read_ipv6_sound text groups rest)
     (λ text groups h. read_ipv6_complete text groups [] h EndsGroups-nil)
 
 -- ---- both kinds

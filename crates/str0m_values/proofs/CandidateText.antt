@@ -7,7 +7,7 @@ use Rattle.str0m_values.proofs.Common.{decimal_is_IsNumeral, without_leading_plu
 use Rattle.str0m_values.specs.Address.{ip_text}
 use Rattle.str0m_values.specs.Candidate.{IsCandidateSocket, IsRelatedAddress, IsCandidateText, socket_text, related_text, candidate_text}
 use Rattle.str0m_values.specs.Candidate.{IsCandidateSocketInRange}
-use Rattle.str0m_values.specs.Candidate.{IsPrintable}
+use Rattle.str0m_values.specs.Candidate.{IsPrintableCandidate}
 use Rattle.str0m_values.specs.CandidateKind.{kind_text}
 use Rattle.str0m_values.specs.CutsParts.{IsWord, IsNum}
 use Rattle.str0m_values.specs.Labels.{IsSameLabel, IsLabelled, IsOptionalLabelled, optional_text}
@@ -67,7 +67,7 @@ ufrag_part : (o : Option (List ℕ)) → IfSome o IsWord
     → IsOptionalLabelled candidate_label.UFRAG.now IsSameLabel (optional_text candidate_label.UFRAG.now (λ t. t) o) o
 ufrag_part o h = grind arith
 
-pub printed_candidate : (c : Candidate) → IsPrintable c → IsCandidateText (candidate_text c) c
+pub printed_candidate : (c : Candidate) → IsPrintableCandidate c → IsCandidateText (candidate_text c) c
 printed_candidate c h = record {
   foundation = candidate_label.CANDIDATE.now ++ c.foundation;
   component = codes " " ++ decimal c.component_id;

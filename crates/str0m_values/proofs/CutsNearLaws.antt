@@ -4,9 +4,9 @@ use Rattle.str0m_values.proofs.Common.{arith, AllDigits, digits_value, without_l
 use Rattle.str0m_values.proofs.Common.{slice_range, tells_digits, digits_value_short, length-take}
 use Rattle.str0m_values.proofs.CutLaws.{cut_none, LacksCut-by_index}
 use Rattle.str0m_values.proofs.CutsNumLaws.{num_reads}
-use Rattle.str0m_values.specs.Cuts.{LacksAt, IsFirstAt, IsWrittenAs, cut, before_cut, num}
+use Rattle.str0m_values.specs.Cuts.{LacksCutAt, IsFirstCutAt, IsWrittenAs, cut, before_cut, num}
 
-cut_at_first : (c : ℕ) (text : List ℕ) (i : ℕ) → IsFirstAt c text i → Some (take i text, drop (suc i) text) ≡ cut c text
+cut_at_first : (c : ℕ) (text : List ℕ) (i : ℕ) → IsFirstCutAt c text i → Some (take i text, drop (suc i) text) ≡ cut c text
 cut_at_first c [] i h = absurd (omega (arith, h.0))
 cut_at_first c (x ∷ xs) zero h = rw (eq-eqb x c h.1) refl
 cut_at_first c (x ∷ xs) (suc i) h =
@@ -14,12 +14,12 @@ cut_at_first c (x ∷ xs) (suc i) h =
     (ap (before_cut x) (cut_at_first c xs i (omega (arith, h.0), h.1, λ k lt. h.2 (suc k) (omega arith))))
 
 -- a cut at the first place
-pub cut_first : (c : ℕ) (text : List ℕ) (i : ℕ) → IsFirstAt c text i → Some (slice_range text 0 i, drop (i + 1) text) ≡ cut c text
+pub cut_first : (c : ℕ) (text : List ℕ) (i : ℕ) → IsFirstCutAt c text i → Some (slice_range text 0 i, drop (i + 1) text) ≡ cut c text
 cut_first c text i h =
     let from_start : i - 0 ≡ i = omega arith in
     rw (add-one i, from_start) (cut_at_first c text i h)
 
-pub cut_nowhere : (c : ℕ) (text : List ℕ) → LacksAt c text (length text) → None ≡ cut c text
+pub cut_nowhere : (c : ℕ) (text : List ℕ) → LacksCutAt c text (length text) → None ≡ cut c text
 cut_nowhere c text h = sym (cut_none c text (LacksCut-by_index c text h))
 
 -- eighteen digits and one more fit 64 bits

@@ -78,7 +78,7 @@ abbrev pub IsCandidateSocketInRange : SocketAddr → Type 0
 IsCandidateSocketInRange addr = IsAddressInRange addr.ip × (addr.port < 2 ^ 16)
 
 -- a candidate whose numbers keep to their types and whose texts are words
-pub record IsPrintable (c : Candidate) : Type 0 where
+pub record IsPrintableCandidate (c : Candidate) : Type 0 where
   pub foundation : IsWord c.foundation
   pub component_id : c.component_id < 2 ^ 16
   pub prio : c.prio < 2 ^ 32

@@ -67,12 +67,12 @@ lacks c (x ∷ xs) = not (x == c) && lacks c xs
 -- ---- what going over the bytes of a field finds
 
 -- c stands at none of the first n places
-abbrev pub LacksAt : ℕ → List ℕ → ℕ → Type 0
-LacksAt c text n = (k : ℕ) → k < n → get_or text k 0 ≢ c
+abbrev pub LacksCutAt : ℕ → List ℕ → ℕ → Type 0
+LacksCutAt c text n = (k : ℕ) → k < n → get_or text k 0 ≢ c
 
 -- c first stands at place i
-abbrev pub IsFirstAt : ℕ → List ℕ → ℕ → Type 0
-IsFirstAt c text i = (i < length text) × (get_or text i 0 ≡ c) × LacksAt c text i
+abbrev pub IsFirstCutAt : ℕ → List ℕ → ℕ → Type 0
+IsFirstCutAt c text i = (i < length text) × (get_or text i 0 ≡ c) × LacksCutAt c text i
 
 -- the digits write n
 abbrev pub IsWrittenAs : List ℕ → ℕ → Type 0

@@ -36,11 +36,11 @@ IsGivenNumber limit default None n = n ≡ default
 IsGivenNumber limit default (Some text) n = IsNum limit text n
 
 -- a text without where it lies in memory
-abbrev pub lay : Option (Bor (List ℕ)) → Option (List ℕ)
-lay text = option_map (λ t. t.now) text
+abbrev pub part_text_of : Option (Bor (List ℕ)) → Option (List ℕ)
+part_text_of text = option_map (λ t. t.now) text
 
 abbrev pub IsNumOr : ℕ → ℕ → Option (Bor (List ℕ)) → ℕ → Type 0
-IsNumOr limit default text n = IsGivenNumber limit default (lay text) n
+IsNumOr limit default text n = IsGivenNumber limit default (part_text_of text) n
 
 -- a payload type
 abbrev pub IsPt : List ℕ → ℕ → Type 0

@@ -1,7 +1,7 @@
 -- A profile, a tier and a level of a codec, by the numbers that stand for each.
 use Rattle.std.specs.Borrow.{Bor}
 use Rattle.std.specs.Prelude.{◌≡◌, ◌==◌, ℕ, List, find, Option, option_map}
-use Rattle.str0m_values.specs.CutsParts.{IsGivenNumber, lay}
+use Rattle.str0m_values.specs.CutsParts.{IsGivenNumber, part_text_of}
 use Rattle.str0m_values.specs.declared.profile_tier_level.ProfileTierLevel.{ProfileTierLevel}
 
 -- the triple has these numbers
@@ -20,7 +20,7 @@ pub record HasGivenNumbers {P T L : Type 0} (profile_id : P → ℕ) (tier_flag 
 abbrev pub HasNumbersOfTexts : {P T L : Type 0} → (P → ℕ) → (T → ℕ) → (L → ℕ) → ℕ × ℕ × ℕ
     → (profile tier level : Option (Bor (List ℕ))) → ProfileTierLevel P T L → Type 0
 HasNumbersOfTexts profile_id tier_flag level_id defaults profile tier level =
-    HasGivenNumbers profile_id tier_flag level_id defaults (lay profile) (lay tier) (lay level)
+    HasGivenNumbers profile_id tier_flag level_id defaults (part_text_of profile) (part_text_of tier) (part_text_of level)
 
 -- the value beside a number in a table
 abbrev pub profile_table_value : {A : Type 0} → List (A × ℕ) → ℕ → Option A

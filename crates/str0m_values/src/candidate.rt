@@ -157,18 +157,18 @@ impl fmt::Display for Candidate {
 
     fn fmt<W: fmt::Write>(&self, f: &mut fmt::Formatter<W>) -> fmt::Result {
         let parts = CandidateParts(self);
-        let related = Related(self.raddr);
-        let opened_by = OpenedBy(self.tcptype);
-        let fragment = Fragment(&self.ufrag);
+        let related = CandidateRelated(self.raddr);
+        let opened_by = CandidateOpenedBy(self.tcptype);
+        let fragment = CandidateFragment(&self.ufrag);
         write!(f, "{parts}{related}{opened_by}{fragment}")
     }
 }
 
 /// The related address and its port, where there is one.
 #[derive(Drop)]
-struct Related(Option<SocketAddr>);
+struct CandidateRelated(Option<SocketAddr>);
 
-impl fmt::Display for Related {
+impl fmt::Display for CandidateRelated {
     ghost use Rattle.str0m_values.specs.Candidate.{related_text};
 
     ghost output = { λ it. Some (related_text it.0) };
@@ -188,9 +188,9 @@ impl fmt::Display for Related {
 
 /// How a connection is opened, after its label, where it is said.
 #[derive(Drop)]
-struct OpenedBy(Option<TcpType>);
+struct CandidateOpenedBy(Option<TcpType>);
 
-impl fmt::Display for OpenedBy {
+impl fmt::Display for CandidateOpenedBy {
     ghost use Rattle.std.specs.Prelude.{codes};
     ghost use Rattle.str0m_values.specs.Labels.{optional_text};
     ghost use Rattle.str0m_values.specs.Protocol.{tcp_type_text};
@@ -207,9 +207,9 @@ impl fmt::Display for OpenedBy {
 
 /// The username fragment after its label, where there is one.
 #[derive(Drop)]
-struct Fragment<'a>(&'a Option<Text>);
+struct CandidateFragment<'a>(&'a Option<Text>);
 
-impl<'a> fmt::Display for Fragment<'a> {
+impl<'a> fmt::Display for CandidateFragment<'a> {
     ghost use Rattle.std.specs.Prelude.{codes};
     ghost use Rattle.str0m_values.specs.Labels.{optional_text};
 

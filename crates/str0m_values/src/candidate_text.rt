@@ -1,6 +1,6 @@
 //! The text of a candidate, for the readers of lines.
 ghost use Rattle.std.specs.Prelude.{◌≡◌, IfOk, Some, option_map, codes};
-ghost use Rattle.str0m_values.specs.Candidate.{IsCandidateText, IsPrintable, candidate_text};
+ghost use Rattle.str0m_values.specs.Candidate.{IsCandidateText, IsPrintableCandidate, candidate_text};
 ghost use Rattle.str0m_values.specs.CandidateReading.{candidate_protocol_read, candidate_kind_read, candidate_socket_read, candidate_related_read, tcp_part_read, ice_names_read, candidate_lead_read, candidate_last_read, candidate_extras_read, candidate_read};
 ghost use Rattle.str0m_values.specs.CandidateText.{seen_candidate_lead, seen_candidate_extras, seen_candidate};
 ghost use Rattle.str0m_values.specs.Cuts.{IsTheOnly, num};
@@ -20,7 +20,7 @@ use std::alloc::{AllocError, Global};
 
 /// What stands in front of the address; the text still lies in the text that was read.
 #[derive(Clone, Copy)]
-struct Lead<'a> {
+struct FoundCandidateLead<'a> {
     foundation: &'a str,
     component_id: u16,
     proto: Protocol,
@@ -29,7 +29,7 @@ struct Lead<'a> {
 
 /// What is kept of the parts after the kind, likewise.
 #[derive(Clone, Copy)]
-struct Extras<'a> {
+struct FoundCandidateExtras<'a> {
     raddr: Option<SocketAddr>,
     tcptype: Option<TcpType>,
     ufrag: Option<&'a str>,
@@ -37,11 +37,11 @@ struct Extras<'a> {
 
 /// A candidate whose texts still lie in the text that was read.
 #[derive(Clone, Copy)]
-struct Found<'a> {
-    lead: Lead<'a>,
+struct FoundCandidate<'a> {
+    lead: FoundCandidateLead<'a>,
     addr: SocketAddr,
     kind: CandidateKind,
-    extras: Extras<'a>,
+    extras: FoundCandidateExtras<'a>,
 }
 
 fn component(text: &str) -> Option<(u16, &str)>
@@ -125,7 +125,7 @@ fn names(text: &str) -> Option<(Option<&str>, &str)>
     Some((ufrag, rest))
 }
 
-fn before_address(text: &str) -> Option<(Lead<'_>, &str)>
+fn before_address(text: &str) -> Option<(FoundCandidateLead<'_>, &str)>
     ensures { option_map (λ x. (seen_candidate_lead x.0, x.1.now)) result ≡ candidate_lead_read text.now }
 {
     let (foundation, rest) = labelled(text, candidate_label::CANDIDATE)?;
@@ -133,7 +133,7 @@ fn before_address(text: &str) -> Option<(Lead<'_>, &str)>
     let (proto, rest) = candidate_protocol(rest)?;
     let (prio, rest) = priority(rest)?;
     Some((
-        Lead {
+        FoundCandidateLead {
             foundation,
             component_id,
             proto,
@@ -156,13 +156,13 @@ fn last_ufrag(text: &str) -> Option<Option<&str>>
     Some(ufrag)
 }
 
-fn behind_kind(text: &str) -> Option<Extras<'_>>
+fn behind_kind(text: &str) -> Option<FoundCandidateExtras<'_>>
     ensures { option_map seen_candidate_extras result ≡ candidate_extras_read text.now }
 {
     let (raddr, rest) = related_address(text)?;
     let (tcptype, rest) = tcp_type(rest)?;
     let ufrag = last_ufrag(rest)?;
-    Some(Extras {
+    Some(FoundCandidateExtras {
         raddr,
         tcptype,
         ufrag,
@@ -170,14 +170,14 @@ fn behind_kind(text: &str) -> Option<Extras<'_>>
 }
 
 /// The candidate of a text, without a copy of its texts.
-fn find_candidate(text: &str) -> Option<Found<'_>>
+fn find_candidate(text: &str) -> Option<FoundCandidate<'_>>
     ensures { option_map seen_candidate result ≡ candidate_read text.now }
 {
     let (lead, rest) = before_address(text)?;
     let (addr, rest) = read_candidate_socket(rest, " ", " ")?;
     let (kind, rest) = kind(rest)?;
     let extras = behind_kind(rest)?;
-    Some(Found {
+    Some(FoundCandidate {
         lead,
         addr,
         kind,
@@ -219,7 +219,7 @@ fn keep_candidate(alloc: Global, text: &str) -> Result<Option<Candidate>, AllocE
 /// keeps; without it the call is refused.
 pub fn candidate(alloc: Global, text: &str) -> Result<Option<Candidate>, AllocError>
     ensures read { IfOk result (IsTheOnly (IsCandidateText text.now)) }
-    ensures printed { (c : Candidate) → IsPrintable c → text.now ≡ candidate_text c → IfOk result (λ found. found ≡ Some c) }
+    ensures printed { (c : Candidate) → IsPrintableCandidate c → text.now ≡ candidate_text c → IfOk result (λ found. found ≡ Some c) }
 
     // As the readers of lines compute it.
     ensures computed { IfOk result (λ found. found ≡ candidate_read text.now) }

@@ -2,7 +2,7 @@
 //!
 ghost use Rattle.std.specs.Prelude.{◌≡◌, not, option_map, ◌≤◌, length, MatchOption, IfSome};
 ghost use Rattle.std.specs.Str.{str_eq_ignore_ascii_case};
-ghost use Rattle.str0m_values.specs.Cuts.{cut, before, strip, num, parts, lacks, IsFirstAt, LacksAt, IsWrittenAs, IsTheOnly};
+ghost use Rattle.str0m_values.specs.Cuts.{cut, before, strip, num, parts, lacks, IsFirstCutAt, LacksCutAt, IsWrittenAs, IsTheOnly};
 ghost use Rattle.str0m_values.specs.CutsParts.{IsNumber, IsNumOr};
 ghost use Rattle.str0m_values.specs.Separator.{code};
 
@@ -15,7 +15,7 @@ const NEAR_CUT: usize = 20;
 /// Where the byte first stands among the first `limit` bytes.
 #[inline(always)]
 fn near_cut(bytes: &[u8], wanted: u8, limit: usize) -> Option<usize>
-    ensures { MatchOption result (length bytes.now ≤ limit → LacksAt wanted bytes.now (length bytes.now)) (IsFirstAt wanted bytes.now) }
+    ensures { MatchOption result (length bytes.now ≤ limit → LacksCutAt wanted bytes.now (length bytes.now)) (IsFirstCutAt wanted bytes.now) }
 {
     for i in 0..bytes.len().min(limit) {
         if bytes[i] == wanted {

@@ -18,7 +18,7 @@ const TEXT_IN_PLACE: usize = 16;
 
 /// Where the bytes of a text lie: in place, or in memory of their own.
 #[derive(Drop)]
-enum Letters {
+enum TextLetters {
     Short(ArrayString<TEXT_IN_PLACE>),
     Long(String),
 }
@@ -26,7 +26,7 @@ enum Letters {
 /// A text whose room and allocator no contract sees: two texts are equal where their bytes are. One that is copied from a slice of up
 /// to sixteen bytes takes no memory beyond its own place.
 pub struct Text {
-    letters: Letters,
+    letters: TextLetters,
 }
 
 /// By hand, so that to let go of a text is a call, and where its bytes lie is no case of a caller's proof.
@@ -51,7 +51,7 @@ impl Text {
     pub fn empty() -> Text
         ensures { result ≡ [] }
     {
-        let letters = Letters::Short(ArrayString::new());
+        let letters = TextLetters::Short(ArrayString::new());
         Text { letters }
     }
 
@@ -61,8 +61,8 @@ impl Text {
         ensures short { length letters.now ≤ 16 → IsOk result }
     {
         let letters = match ArrayString::from(letters) {
-            Ok(letters) => Letters::Short(letters),
-            Err(_) => Letters::Long(String::from_str(alloc, letters)?),
+            Ok(letters) => TextLetters::Short(letters),
+            Err(_) => TextLetters::Long(String::from_str(alloc, letters)?),
         };
         Ok(Text { letters })
     }
@@ -73,8 +73,8 @@ impl Text {
         ensures utf8 { IsUtf8 self.now }
     {
         match &self.letters {
-            Letters::Short(letters) => letters.as_str(),
-            Letters::Long(letters) => letters.as_str(),
+            TextLetters::Short(letters) => letters.as_str(),
+            TextLetters::Long(letters) => letters.as_str(),
         }
     }
 
@@ -92,8 +92,8 @@ impl Text {
     {
         let Text { letters } = self;
         match letters {
-            Letters::Short(letters) => String::from_str(alloc, letters.as_str()),
-            Letters::Long(letters) => Ok(letters),
+            TextLetters::Short(letters) => String::from_str(alloc, letters.as_str()),
+            TextLetters::Long(letters) => Ok(letters),
         }
     }
 }
@@ -131,8 +131,8 @@ impl Clone for Text {
 
     fn clone(&self) -> Result<Text, AllocError> {
         let letters = match &self.letters {
-            Letters::Short(letters) => Letters::Short(*letters),
-            Letters::Long(letters) => Letters::Long(letters.clone()?),
+            TextLetters::Short(letters) => TextLetters::Short(*letters),
+            TextLetters::Long(letters) => TextLetters::Long(letters.clone()?),
         };
         Ok(Text { letters })
     }
@@ -142,7 +142,7 @@ impl From<String> for Text {
     ghost from_gives = { λ s t. t ≡ string_bytes s };
 
     fn from(letters: String) -> Text {
-        let letters = Letters::Long(letters);
+        let letters = TextLetters::Long(letters);
         Text { letters }
     }
 }

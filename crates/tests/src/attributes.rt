@@ -9,7 +9,7 @@ use str0m_signal::{
 };
 
 /// One active layer of this name.
-fn layers(alloc: Global, name: &str) -> Result<SimulcastGroups, AllocError> {
+fn layers_of_attribute(alloc: Global, name: &str) -> Result<SimulcastGroups, AllocError> {
     let mut layers = Vec::new(alloc);
     layers.push(SimulcastLayer {
         restriction_id: RestrictionId::new_active(Text::from_str(alloc, name)?),
@@ -35,7 +35,7 @@ fn extension_attribute(alloc: Global, serialized: bool) -> Result<MediaAttribute
     })
 }
 
-fn group_without_sources(alloc: Global) -> Result<MediaAttribute, AllocError> {
+fn empty_group_attribute(alloc: Global) -> Result<MediaAttribute, AllocError> {
     Ok(MediaAttribute::SsrcGroup {
         semantics: Text::from_str(alloc, "FID")?,
         ssrcs: Items::empty(alloc),
@@ -45,13 +45,17 @@ fn group_without_sources(alloc: Global) -> Result<MediaAttribute, AllocError> {
 /// The attribute of this name in the table below; another, which prints a line, where there is none.
 fn made_attribute(alloc: Global, name: &str) -> Result<MediaAttribute, AllocError> {
     match name {
-        "group without sources" => group_without_sources(alloc),
+        "group without sources" => empty_group_attribute(alloc),
         "simulcast without layers" => {
             let none = SimulcastGroups(Items::empty(alloc));
             Ok(simulcast_attribute(alloc, none, false))
         }
-        "munged simulcast" => Ok(simulcast_attribute(alloc, layers(alloc, "hi")?, true)),
-        "simulcast" => Ok(simulcast_attribute(alloc, layers(alloc, "hi")?, false)),
+        "munged simulcast" => Ok(simulcast_attribute(
+            alloc,
+            layers_of_attribute(alloc, "hi")?,
+            true,
+        )),
+        "simulcast" => Ok(simulcast_attribute(alloc, layers_of_attribute(alloc, "hi")?, false)),
         "extension that is not listed" => extension_attribute(alloc, false),
         "extension" => extension_attribute(alloc, true),
         _ => Ok(MediaAttribute::SendRecv),

@@ -86,7 +86,7 @@ static TRICKLED_CANDIDATES: [(&str, Option<u16>); 9] = [
     ("a=a=candidate:1 1 udp 1 192.0.2.1 5000 typ host", None),
 ];
 
-fn component_of(alloc: Global, text: &str) -> Option<u16> {
+fn component_of_candidate(alloc: Global, text: &str) -> Option<u16> {
     match &trickled_candidate(alloc, text) {
         Ok(candidate) => Some(candidate.component_id()),
         Err(_) => None,
@@ -96,7 +96,11 @@ fn component_of(alloc: Global, text: &str) -> Option<u16> {
 #[test]
 fn candidates_are_read_as_browsers_trickle_them(rt: HostRuntime) -> Result<(), Fail> {
     for (text, component) in &TRICKLED_CANDIDATES {
-        assert_eq!(rt; component_of(rt.alloc(), text), *component, "{text:?}");
+        assert_eq!(rt;
+            component_of_candidate(rt.alloc(), text),
+            *component,
+            "{text:?}"
+        );
     }
     Ok(())
 }

@@ -1,6 +1,6 @@
 //! Descriptions, and offers and answers (RFC 3264) of them: what they hold and print, copies and equality.
 
-use crate::texts::{OPUS_TEXT, read};
+use crate::texts::{OPUS_TEXT, description_of_text};
 use std::alloc::{AllocError, Global};
 use std::test::Fail;
 use str0m_signal::{
@@ -8,7 +8,7 @@ use str0m_signal::{
 };
 
 /// A header with nothing that may be left out.
-const BARE_HEADER: &str = "v=0\r\no=- 1 1 IN IP4 127.0.0.1\r\ns=-\r\nt=0 0\r\n";
+const BARE_DESCRIPTION: &str = "v=0\r\no=- 1 1 IN IP4 127.0.0.1\r\ns=-\r\nt=0 0\r\n";
 
 /// Opus' text, a line that fits nowhere, and the text again.
 fn described_twice(alloc: Global) -> Result<String, AllocError> {
@@ -16,71 +16,80 @@ fn described_twice(alloc: Global) -> Result<String, AllocError> {
 }
 
 /// Whether the offer holds this description, and equals the one that is made of it.
-fn is_offer_of(offer: &SdpOffer, sdp: Sdp) -> bool {
+fn is_description_of_offer(offer: &SdpOffer, sdp: Sdp) -> bool {
     let is_held = **offer == sdp;
     let made = SdpOffer::from(sdp);
     is_held && *offer == made
 }
 
 /// Whether an offer holds what is read of its text.
-fn is_offer_read(alloc: Global, text: &str) -> Result<bool, SdpError> {
+fn is_offer_description_read(alloc: Global, text: &str) -> Result<bool, SdpError> {
     let offer = SdpOffer::from_sdp_string(alloc, text)?;
-    Ok(is_offer_of(&offer, read(alloc, text)?))
+    Ok(is_description_of_offer(&offer, description_of_text(alloc, text)?))
 }
 
 /// Whether the answer holds this description, and equals the one that is made of it.
-fn is_answer_of(answer: &SdpAnswer, sdp: Sdp) -> bool {
+fn is_description_of_answer(answer: &SdpAnswer, sdp: Sdp) -> bool {
     let is_held = **answer == sdp;
     let made = SdpAnswer::from(sdp);
     is_held && *answer == made
 }
 
 /// Whether an answer holds what is read of its text.
-fn is_answer_read(alloc: Global, text: &str) -> Result<bool, SdpError> {
+fn is_answer_description_read(alloc: Global, text: &str) -> Result<bool, SdpError> {
     let answer = SdpAnswer::from_sdp_string(alloc, text)?;
-    Ok(is_answer_of(&answer, read(alloc, text)?))
+    Ok(is_description_of_answer(&answer, description_of_text(alloc, text)?))
 }
 
 /// Whether an offer and an answer hold what is read of their text.
-fn are_both_read(alloc: Global) -> Result<bool, SdpError> {
+fn are_both_descriptions_read(alloc: Global) -> Result<bool, SdpError> {
     let text = described_twice(alloc)?;
-    Ok(is_offer_read(alloc, text.as_str())? && is_answer_read(alloc, text.as_str())?)
+    Ok(
+        is_offer_description_read(alloc, text.as_str())?
+            && is_answer_description_read(alloc, text.as_str())?,
+    )
 }
 
 /// What the offer prints; `None` where Display prints something else.
-fn shown_by_offer(alloc: Global, offer: &SdpOffer) -> Result<Option<String>, AllocError> {
+fn printed_offer_description(
+    alloc: Global,
+    offer: &SdpOffer,
+) -> Result<Option<String>, AllocError> {
     let (text, shown) = (offer.to_sdp_string()?, offer.to_string(alloc)?);
     Ok((shown.as_str() == text.as_str()).then_some(text))
 }
 
 /// What the answer prints; `None` where Display prints something else.
-fn shown_by_answer(alloc: Global, answer: &SdpAnswer) -> Result<Option<String>, AllocError> {
+fn printed_answer_description(
+    alloc: Global,
+    answer: &SdpAnswer,
+) -> Result<Option<String>, AllocError> {
     let (text, shown) = (answer.to_sdp_string()?, answer.to_string(alloc)?);
     Ok((shown.as_str() == text.as_str()).then_some(text))
 }
 
-fn offer_shown(alloc: Global) -> Result<Option<String>, SdpError> {
+fn opus_offer_description(alloc: Global) -> Result<Option<String>, SdpError> {
     let offer = SdpOffer::from_sdp_string(alloc, OPUS_TEXT)?;
-    Ok(shown_by_offer(alloc, &offer)?)
+    Ok(printed_offer_description(alloc, &offer)?)
 }
 
-fn answer_shown(alloc: Global) -> Result<Option<String>, SdpError> {
+fn opus_answer_description(alloc: Global) -> Result<Option<String>, SdpError> {
     let answer = SdpAnswer::from_sdp_string(alloc, OPUS_TEXT)?;
-    Ok(shown_by_answer(alloc, &answer)?)
+    Ok(printed_answer_description(alloc, &answer)?)
 }
 
 /// Whether an offer and an answer of one text print the same.
-fn are_shown_alike(alloc: Global) -> Result<bool, SdpError> {
-    let offer = offer_shown(alloc)?;
-    let answer = answer_shown(alloc)?;
+fn are_descriptions_shown_alike(alloc: Global) -> Result<bool, SdpError> {
+    let offer = opus_offer_description(alloc)?;
+    let answer = opus_answer_description(alloc)?;
     Ok(offer.is_some() && answer.as_deref() == offer.as_deref())
 }
 
 /// Display prints what `to_sdp_string` answers.
 #[test]
 fn offers_and_answers_hold_and_print_what_was_read(rt: HostRuntime) -> Result<(), Fail> {
-    assert!(rt; are_both_read(rt.alloc())?);
-    assert!(rt; are_shown_alike(rt.alloc())?);
+    assert!(rt; are_both_descriptions_read(rt.alloc())?);
+    assert!(rt; are_descriptions_shown_alike(rt.alloc())?);
     Ok(())
 }
 
@@ -89,12 +98,12 @@ fn is_description_copied(sdp: &Sdp) -> Result<bool, AllocError> {
     Ok(copy == *sdp)
 }
 
-fn is_session_copied(session: &Session) -> Result<bool, AllocError> {
+fn is_described_session_copied(session: &Session) -> Result<bool, AllocError> {
     let copy = session.clone()?;
     Ok(copy == *session)
 }
 
-fn are_sections_copied(sections: &Items<MediaLine>) -> Result<bool, AllocError> {
+fn are_described_sections_copied(sections: &Items<MediaLine>) -> Result<bool, AllocError> {
     let copy = sections.clone()?;
     Ok(copy == *sections)
 }
@@ -103,14 +112,14 @@ fn are_sections_copied(sections: &Items<MediaLine>) -> Result<bool, AllocError> 
 fn are_description_parts_copied(sdp: &Sdp) -> Result<bool, AllocError> {
     let (whole, session) = (
         is_description_copied(sdp)?,
-        is_session_copied(&sdp.session)?,
+        is_described_session_copied(&sdp.session)?,
     );
-    Ok(whole && session && are_sections_copied(&sdp.media_lines)?)
+    Ok(whole && session && are_described_sections_copied(&sdp.media_lines)?)
 }
 
 /// Whether the text is read as another description.
 fn is_another_description(alloc: Global, text: &str, sdp: &Sdp) -> Result<bool, SdpError> {
-    let other = read(alloc, text)?;
+    let other = description_of_text(alloc, text)?;
     Ok(other != *sdp)
 }
 
@@ -123,7 +132,7 @@ fn add_active_to_description(sections: &mut [MediaLine]) -> Result<(), AllocErro
 }
 
 /// Whether the description differs from one that says more of its first section.
-fn differs_by_an_attribute(sdp: &Sdp) -> Result<bool, AllocError> {
+fn differs_from_fuller_description(sdp: &Sdp) -> Result<bool, AllocError> {
     let mut other = sdp.clone()?;
     add_active_to_description(other.media_lines.0.as_mut_slice())?;
     Ok(other != *sdp)
@@ -132,9 +141,9 @@ fn differs_by_an_attribute(sdp: &Sdp) -> Result<bool, AllocError> {
 /// A copy equals its source, and each part of a description tells it from another.
 #[test]
 fn descriptions_differ_by_their_parts(rt: HostRuntime) -> Result<(), Fail> {
-    let sdp = read(rt.alloc(), OPUS_TEXT)?;
+    let sdp = description_of_text(rt.alloc(), OPUS_TEXT)?;
     assert!(rt; are_description_parts_copied(&sdp)?);
-    assert!(rt; is_another_description(rt.alloc(), BARE_HEADER, &sdp)?);
-    assert!(rt; differs_by_an_attribute(&sdp)?);
+    assert!(rt; is_another_description(rt.alloc(), BARE_DESCRIPTION, &sdp)?);
+    assert!(rt; differs_from_fuller_description(&sdp)?);
     Ok(())
 }

@@ -1,7 +1,7 @@
 //! Fourteen rows, of three types each, against remote rows that demand each payload type in turn. So many rows never exhaust
 //! the types, and a type of a locked row never gets a second role (docs/ROUNDS.md).
 
-use crate::rows::{DIRECTIONS, row_of_opus};
+use crate::rows::{ROW_DIRECTIONS, row_of_opus};
 use std::alloc::{AllocError, Global};
 use std::test::Fail;
 use str0m_formats::{CodecConfig, NegotiationError, PayloadParams};
@@ -94,7 +94,10 @@ fn first_row_not_held(config: &mut CodecConfig, direction: Direction) -> Option<
 
 /// The first of those rounds that isn't held, and whether all rows are locked then. In the first forty rounds each row meets a
 /// remote row whose types no locked row has.
-fn meet_every_type(alloc: Global, direction: Direction) -> Result<(Option<u8>, bool), AllocError> {
+fn fourteen_meet_every_type(
+    alloc: Global,
+    direction: Direction,
+) -> Result<(Option<u8>, bool), AllocError> {
     let mut config = fourteen(alloc)?;
     let not_held = first_row_not_held(&mut config, direction);
     let are_locked = config.params().iter().all(|row| row.locked());
@@ -103,7 +106,7 @@ fn meet_every_type(alloc: Global, direction: Direction) -> Result<(Option<u8>, b
 
 /// The rounds begin at each of the 128 types, and in turn demand types that are none, one, two or three apart: where the first that
 /// aren't held begin.
-fn first_exhausted(alloc: Global, direction: Direction) -> Result<Option<u8>, AllocError> {
+fn first_fourteen_not_held(alloc: Global, direction: Direction) -> Result<Option<u8>, AllocError> {
     for first in 0_u8..128 {
         if !are_fourteen_held(alloc, first, first % 4, direction)? {
             return Ok(Some(first));
@@ -114,10 +117,10 @@ fn first_exhausted(alloc: Global, direction: Direction) -> Result<Option<u8>, Al
 
 #[test]
 fn fourteen_rows_are_never_exhausted(rt: HostRuntime) -> Result<(), Fail> {
-    for direction in &DIRECTIONS {
-        let met = meet_every_type(rt.alloc(), *direction)?;
+    for direction in &ROW_DIRECTIONS {
+        let met = fourteen_meet_every_type(rt.alloc(), *direction)?;
         assert_eq!(rt; met, (None, true), "{direction:?}");
-        let exhausted = first_exhausted(rt.alloc(), *direction)?;
+        let exhausted = first_fourteen_not_held(rt.alloc(), *direction)?;
         assert_eq!(rt; exhausted, None, "{direction:?}");
     }
     Ok(())

@@ -12,21 +12,26 @@ static NAME_TEXTS: [(&str, &str, &str); 2] = [
 ];
 
 /// Whether the text shows itself so.
-fn is_text_shown_so(alloc: Global, text: &Text, wanted: &str) -> Result<bool, AllocError> {
+fn is_name_text_shown_so(alloc: Global, text: &Text, wanted: &str) -> Result<bool, AllocError> {
     let shown = format!(in alloc; "{text:?}")?;
     Ok(shown.as_str() == wanted)
 }
 
 /// Whether the text that may be there is this one.
-fn is_text_held(text: &Option<Text>, held: &str) -> bool {
+fn is_name_text_held(text: &Option<Text>, held: &str) -> bool {
     text.as_deref() == Some(held)
 }
 
 /// Whether a text that is made of this str begins so, shows itself so, and is the str again.
-fn is_text_as_str(alloc: Global, held: &str, begin: &str, shown: &str) -> Result<bool, AllocError> {
+fn is_name_text_as_str(
+    alloc: Global,
+    held: &str,
+    begin: &str,
+    shown: &str,
+) -> Result<bool, AllocError> {
     let text = Text::from_str(alloc, held)?;
-    let is_so = text.starts_with(begin) && is_text_shown_so(alloc, &text, shown)?;
-    Ok(is_so && is_text_held(&Some(text), held))
+    let is_so = text.starts_with(begin) && is_name_text_shown_so(alloc, &text, shown)?;
+    Ok(is_so && is_name_text_held(&Some(text), held))
 }
 
 const MID_URI: &str = "urn:ietf:params:rtp-hdrext:sdes:mid";
@@ -57,7 +62,10 @@ fn extension_equals(alloc: Global) -> Result<(bool, bool, bool), AllocError> {
 #[test]
 fn texts_and_names_compare_by_what_they_keep(rt: HostRuntime) -> Result<(), Fail> {
     for (held, begin, shown) in &NAME_TEXTS {
-        assert!(rt; is_text_as_str(rt.alloc(), held, begin, shown)?, "{held}");
+        assert!(rt;
+            is_name_text_as_str(rt.alloc(), held, begin, shown)?,
+            "{held}"
+        );
     }
     assert!(rt; Mid::from("0123456789abcdefg") == Mid::from("0123456789abcdef"));
     assert!(rt; Mid::from("0") != Mid::from("00"));

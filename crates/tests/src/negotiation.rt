@@ -1,8 +1,8 @@
 //! Rounds with whole texts, one and another after it. Expected values were worked out by hand from the rules of
 //! docs/SECTIONS.md and docs/ROUNDS.md.
 
-use crate::rows::{is_opus_at_109, locked_row_count};
-use crate::texts::{CALL_TEXT, OFFER_TEXT, OPUS_TEXT, prints_text, read};
+use crate::rows::{is_row_of_opus_at_109, locked_row_count};
+use crate::texts::{CALL_TEXT, OFFER_TEXT, OPUS_TEXT, description_of_text, prints_text};
 use exchange::negotiated_names;
 use std::alloc::{AllocError, Global};
 use std::test::Fail;
@@ -28,13 +28,13 @@ fn opus_negotiated(alloc: Global) -> Result<(usize, usize, bool), SdpError> {
 }
 
 /// How many rounds the text of a call has.
-fn count_of_call(alloc: Global) -> Result<usize, SdpError> {
+fn negotiated_rounds_of_call(alloc: Global) -> Result<usize, SdpError> {
     let mut config = CodecConfig::new_with_defaults(alloc)?;
     let outcomes = negotiate_text(&mut config, CALL_TEXT)?;
     Ok(outcomes.len())
 }
 
-fn are_audio_and_video(names: &[Option<Mid>]) -> bool {
+fn are_negotiated_audio_and_video(names: &[Option<Mid>]) -> bool {
     match names {
         [Some(audio), Some(video)] => audio.as_str() == "audio" && video.as_str() == "video",
         _ => false,
@@ -42,29 +42,32 @@ fn are_audio_and_video(names: &[Option<Mid>]) -> bool {
 }
 
 /// Whether each outcome of the call has the name of its section.
-fn are_outcomes_named(alloc: Global) -> Result<bool, SdpError> {
-    let call = read(alloc, CALL_TEXT)?;
+fn are_negotiated_outcomes_named(alloc: Global) -> Result<bool, SdpError> {
+    let call = description_of_text(alloc, CALL_TEXT)?;
     let names = negotiated_names(alloc, &call)?;
-    Ok(are_audio_and_video(names.as_slice()) && names.len() == count_of_call(alloc)?)
+    Ok(
+        are_negotiated_audio_and_video(names.as_slice())
+            && names.len() == negotiated_rounds_of_call(alloc)?,
+    )
 }
 
 /// Whether the codec of both sides is agreed on, and no other.
-fn is_codec_agreed(alloc: Global) -> Result<bool, SdpError> {
+fn is_codec_negotiated(alloc: Global) -> Result<bool, SdpError> {
     let audio = agreed_codecs(alloc, OFFER_TEXT, MediaKind::Audio)?;
     let video = agreed_codecs(alloc, OFFER_TEXT, MediaKind::Video)?;
-    Ok(is_opus_at_109(audio.as_slice()) && video.is_empty())
+    Ok(is_row_of_opus_at_109(audio.as_slice()) && video.is_empty())
 }
 
 #[test]
 fn a_text_is_a_round_for_each_section(rt: HostRuntime) -> Result<(), Fail> {
     assert_eq!(rt; opus_negotiated(rt.alloc())?, (1, 1, true));
-    assert!(rt; are_outcomes_named(rt.alloc())?);
-    assert!(rt; is_codec_agreed(rt.alloc())?);
+    assert!(rt; are_negotiated_outcomes_named(rt.alloc())?);
+    assert!(rt; is_codec_negotiated(rt.alloc())?);
     Ok(())
 }
 
 /// Opus comes under type 120 now, and VP8 under that of Opus.
-const LATER_OFFER: &str =
+const LATER_NEGOTIATION: &str =
     "v=0\r\no=- 7 3 IN IP4 0.0.0.0\r\ns=-\r\nt=0 0\r\nm=audio 9 UDP/TLS/RTP/SAVPF 120\r\na=mid:0\r\na=sendrecv\r\na=rtpmap:120 opus/48000/2\r\na=fmtp:120 minptime=10;useinbandfec=1\r\nm=video 9 UDP/TLS/RTP/SAVPF 109\r\na=mid:1\r\na=sendrecv\r\na=rtpmap:109 VP8/90000\r\n";
 
 /// The default rows, after a round with the offer.
@@ -75,12 +78,12 @@ fn negotiated(alloc: Global) -> Result<CodecConfig, Fail> {
 }
 
 /// Whether negotiating with the later offer is refused so.
-fn is_later_offer_refused(
+fn is_later_negotiation_refused(
     alloc: Global,
     config: &mut CodecConfig,
     cause: &str,
 ) -> Result<bool, AllocError> {
-    match &negotiate_again(config, LATER_OFFER) {
+    match &negotiate_again(config, LATER_NEGOTIATION) {
         Ok(()) => Ok(false),
         Err(error) => prints_text(alloc, error, cause),
     }
@@ -90,8 +93,8 @@ fn is_later_offer_refused(
 fn a_locked_type_is_not_given_to_another_codec(rt: HostRuntime) -> Result<(), Fail> {
     let mut config = negotiated(rt.alloc())?;
     let cause = "round refused: payload type 109 is claimed twice";
-    assert!(rt; is_later_offer_refused(rt.alloc(), &mut config, cause)?);
+    assert!(rt; is_later_negotiation_refused(rt.alloc(), &mut config, cause)?);
     let rows = locked_rows(&config, MediaKind::Audio)?;
-    assert!(rt; is_opus_at_109(rows.as_slice()), "{rows:?}");
+    assert!(rt; is_row_of_opus_at_109(rows.as_slice()), "{rows:?}");
     Ok(())
 }

@@ -1,6 +1,6 @@
 //! Offers: the rows that a section of one offers, and one that is made of values.
 
-use crate::rows::is_opus_at_109;
+use crate::rows::is_row_of_opus_at_109;
 use crate::texts::{OFFER_TEXT, OWN_OFFER_TEXT};
 use std::alloc::{AllocError, Global};
 use std::test::Fail;
@@ -12,7 +12,7 @@ static OFFERED: [(usize, Option<bool>); 2] = [(0, Some(true)), (1, None)];
 
 fn is_opus_offered(found: &Option<Vec<PayloadParams>>) -> Option<bool> {
     match found {
-        Some(rows) => Some(is_opus_at_109(rows.as_slice())),
+        Some(rows) => Some(is_row_of_opus_at_109(rows.as_slice())),
         None => None,
     }
 }

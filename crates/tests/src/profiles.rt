@@ -12,7 +12,7 @@ fn are_levels_in_order() -> bool {
 }
 
 /// Main10 and the tier High have the ids 2 and 1, and levels thirty times theirs (RFC 7798, section 7.1).
-fn is_h265_made_of_its_parts() -> bool {
+fn is_h265_profile_made_of_parts() -> bool {
     let triple = H265ProfileTierLevel {
         profile: H265Profile::Main10,
         tier: H265Tier::High,
@@ -24,7 +24,7 @@ fn is_h265_made_of_its_parts() -> bool {
 }
 
 /// Main10_444StillPicture and the tier High have the ids 97 and 1 (RFC 9328, section 7.2).
-fn is_h266_made_of_its_parts() -> bool {
+fn is_h266_profile_made_of_parts() -> bool {
     let triple = H266ProfileTierLevel {
         profile: H266Profile::Main10_444StillPicture,
         tier: H266Tier::High,
@@ -39,8 +39,8 @@ fn is_h266_made_of_its_parts() -> bool {
 #[test]
 fn triples_are_made_of_parts_that_have_numbers(rt: HostRuntime) {
     assert!(rt; are_levels_in_order());
-    assert!(rt; is_h265_made_of_its_parts());
-    assert!(rt; is_h266_made_of_its_parts());
+    assert!(rt; is_h265_profile_made_of_parts());
+    assert!(rt; is_h266_profile_made_of_parts());
     let h265 = (H265Profile::Main10.to_id(), H265Tier::High.to_id());
     assert_eq!(rt; h265, (2, 1));
     let level = H265Level::L6_2;

@@ -12,12 +12,12 @@ use std::test::Fail;
 
 /// Gives its bytes, one a read, and then fails.
 #[derive(Drop)]
-struct Broken<'a> {
+struct FaultyInput<'a> {
     bytes: &'a [u8],
     kind: ErrorKind,
 }
 
-impl<'a> Read for Broken<'a> {
+impl<'a> Read for FaultyInput<'a> {
     fn read(&mut self, buf: &mut [u8]) -> io::Result<usize> {
         let Some((first, rest)) = self.bytes.split_first() else {
             return Err(io::Error::from(self.kind));
@@ -33,13 +33,13 @@ impl<'a> Read for Broken<'a> {
 
 /// Takes so many bytes, one a write, and then fails; and fails to hand them on, where it is so made.
 #[derive(Drop)]
-struct Full {
+struct FaultyOutput {
     room: usize,
     hands_on: bool,
     taken: Vec<u8>,
 }
 
-impl Write for Full {
+impl Write for FaultyOutput {
     fn write(&mut self, buf: &[u8]) -> io::Result<usize> {
         let (Some(first), true) = (buf.first(), self.taken.len() < self.room) else {
             return Err(io::Error::from(ErrorKind::BrokenPipe));
@@ -58,8 +58,8 @@ impl Write for Full {
 }
 
 /// A writer with so much room.
-fn output_with_room(alloc: Global, room: usize, hands_on: bool) -> Full {
-    Full {
+fn faulty_output(alloc: Global, room: usize, hands_on: bool) -> FaultyOutput {
+    FaultyOutput {
         room,
         hands_on,
         taken: Vec::new(alloc),
@@ -67,7 +67,7 @@ fn output_with_room(alloc: Global, room: usize, hands_on: bool) -> Full {
 }
 
 /// An argument, what is read before an error of which kind, the status, and what is said.
-static UNREADABLE_RUNS: [(&str, &str, ErrorKind, u8, &str); 4] = [
+static INPUT_FAULT_RUNS: [(&str, &str, ErrorKind, u8, &str); 4] = [
     (
         "text",
         "",
@@ -95,8 +95,8 @@ static UNREADABLE_RUNS: [(&str, &str, ErrorKind, u8, &str); 4] = [
 /// Arguments are compared before anything is read, and input that ends in an error is not shown.
 #[test]
 fn input_that_cannot_be_read(rt: HostRuntime) -> Result<(), Fail> {
-    for (word, bytes, kind, status, said) in &UNREADABLE_RUNS {
-        let mut input = Broken {
+    for (word, bytes, kind, status, said) in &INPUT_FAULT_RUNS {
+        let mut input = FaultyInput {
             bytes: bytes.as_bytes(),
             kind: *kind,
         };
@@ -115,12 +115,12 @@ fn input_that_cannot_be_read(rt: HostRuntime) -> Result<(), Fail> {
 fn run_program_into(
     alloc: Global,
     word: &str,
-    mut output: Full,
+    mut output: FaultyOutput,
     faults_room: usize,
 ) -> Result<ProgramRan, AllocError> {
     let words = program_arguments(alloc, &[word])?;
     let mut input = PROGRAM_HEADER.as_bytes();
-    let mut faults = output_with_room(alloc, faults_room, true);
+    let mut faults = faulty_output(alloc, faults_room, true);
     let ending = run(
         alloc,
         words.as_slice(),
@@ -138,7 +138,7 @@ fn run_program_into(
 
 /// Whether the run ended with this status and said just this, and wrote a beginning of what the header prints: all of it where
 /// that is so, and else less.
-fn is_whole_or_told(ran: &ProgramRan, is_whole: bool, status: u8, said: &str) -> bool {
+fn is_whole_or_fault_told(ran: &ProgramRan, is_whole: bool, status: u8, said: &str) -> bool {
     ran.status == status
         && ran.could_say == (status == 0 || !said.is_empty())
         && ran.said.as_slice() == said.as_bytes()
@@ -149,7 +149,7 @@ fn is_whole_or_told(ran: &ProgramRan, is_whole: bool, status: u8, said: &str) ->
 }
 
 /// An argument, the room for output, whether it is handed on, the room for faults, the status, and what is said.
-static UNWRITABLE_RUNS: [(&str, usize, bool, usize, u8, &str); 9] = [
+static OUTPUT_FAULT_RUNS: [(&str, usize, bool, usize, u8, &str); 9] = [
     ("text", PROGRAM_HEADER_PRINTED.len(), true, 100, 0, ""),
     ("text", PROGRAM_HEADER_PRINTED.len(), true, 0, 0, ""),
     (
@@ -179,12 +179,12 @@ static UNWRITABLE_RUNS: [(&str, usize, bool, usize, u8, &str); 9] = [
 /// the status as it is. What is written whole, and isn't handed on, is a fault.
 #[test]
 fn output_that_cannot_be_written(rt: HostRuntime) -> Result<(), Fail> {
-    for (word, room, hands_on, faults_room, status, said) in &UNWRITABLE_RUNS {
-        let output = output_with_room(rt.alloc(), *room, *hands_on);
+    for (word, room, hands_on, faults_room, status, said) in &OUTPUT_FAULT_RUNS {
+        let output = faulty_output(rt.alloc(), *room, *hands_on);
         let ran = run_program_into(rt.alloc(), word, output, *faults_room)?;
         let is_whole = *status == 0 || !*hands_on;
         assert!(rt;
-            is_whole_or_told(&ran, is_whole, *status, said),
+            is_whole_or_fault_told(&ran, is_whole, *status, said),
             "{said:?}: {ran:?}"
         );
     }

@@ -32,7 +32,7 @@ const RUN_NEGOTIATED: &str =
     "round 1 ok\nlocked 109 - - opus/48000/2 minptime=10;useinbandfec=1\nopen 96 97 - VP8/90000 -\nopen 127 121 - H264/90000 level-asymmetry-allowed=1;packetization-mode=1;profile-level-id=42001f\nopen 125 107 - H264/90000 level-asymmetry-allowed=1;packetization-mode=0;profile-level-id=42001f\nopen 108 104 - H264/90000 level-asymmetry-allowed=1;packetization-mode=1;profile-level-id=42e01f\nopen 124 120 - H264/90000 level-asymmetry-allowed=1;packetization-mode=0;profile-level-id=42e01f\nopen 123 119 - H264/90000 level-asymmetry-allowed=1;packetization-mode=1;profile-level-id=4d001f\nopen 35 36 - H264/90000 level-asymmetry-allowed=1;packetization-mode=0;profile-level-id=4d001f\nopen 114 115 - H264/90000 level-asymmetry-allowed=1;packetization-mode=1;profile-level-id=64001f\nopen 102 103 - H265/90000 profile-id=1;tier-flag=0;level-id=180\nopen 98 99 - VP9/90000 profile-id=0\nopen 100 101 - VP9/90000 profile-id=2\nopen 45 46 - AV1/90000 -\n";
 
 /// A section of H264 at a lower level than the default rows have, which says nothing of levels of its own.
-const H264_AT_LEVEL_3: &[u8] =
+const RUN_H264_AT_LEVEL_3: &[u8] =
     b"v=0\r\no=- 1 1 IN IP4 127.0.0.1\r\ns=-\r\nt=0 0\r\nm=video 9 UDP/TLS/RTP/SAVPF 106\r\na=mid:0\r\na=recvonly\r\na=rtpmap:106 H264/90000\r\na=fmtp:106 packetization-mode=1;profile-level-id=42e01e\r\n";
 
 /// What its round comes to.
@@ -73,7 +73,7 @@ static RUNS: [(&[&str], &[u8], u8, &str, &str); 32] = [
         "SDP parse: bad session header\n",
     ),
     (&["negotiate"], RUN_OPUS_AT_109, 0, RUN_NEGOTIATED, ""),
-    (&["negotiate"], H264_AT_LEVEL_3, 0, RUN_NARROWED, ""),
+    (&["negotiate"], RUN_H264_AT_LEVEL_3, 0, RUN_NARROWED, ""),
     (&["rows", "rows"], b"", 2, "", PROGRAM_USAGE),
     (&["rows"], b"", 1, "", "SDP parse: bad session header\n"),
     (&["rows"], b"v=0\no=- 7 2 x\ns=-\nt=0 0\n", 0, "", ""),

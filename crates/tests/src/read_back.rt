@@ -1,6 +1,8 @@
 //! What is printed and read again: whether it is the same, and what a text would lose.
 
-use crate::texts::{CALL_TEXT, FOUR_SECTIONS_TEXT, OFFER_TEXT, OPUS_TEXT, OWN_OFFER_TEXT, read};
+use crate::texts::{
+    CALL_TEXT, FOUR_SECTIONS_TEXT, OFFER_TEXT, OPUS_TEXT, OWN_OFFER_TEXT, description_of_text,
+};
 use exchange::is_read_back;
 use std::alloc::{AllocError, Global};
 use std::test::Fail;
@@ -31,7 +33,7 @@ fn printed_back(alloc: Global, said: &Sdp) -> Result<(bool, bool), AllocError> {
 #[test]
 fn what_is_printed_is_read_back(rt: HostRuntime) -> Result<(), Fail> {
     assert!(rt; is_itself_read_back(rt.alloc())?);
-    let call = read(rt.alloc(), CALL_TEXT)?;
+    let call = description_of_text(rt.alloc(), CALL_TEXT)?;
     assert_eq!(rt; printed_back(rt.alloc(), &call)?, (true, false));
     for other in &["", FOUR_SECTIONS_TEXT] {
         assert!(rt; !is_read_back(rt.alloc(), &call, other)?);
@@ -47,7 +49,7 @@ static CHECKED_READ_BACK: [(&str, &str, bool, bool); 3] = [
     (OFFER_TEXT, "", false, true),
 ];
 
-fn is_checked_so(
+fn is_checked_read_back(
     alloc: Global,
     text: &str,
     rest: &str,
@@ -66,7 +68,7 @@ fn is_checked_so(
 #[test]
 fn what_a_text_would_lose_is_told(rt: HostRuntime) -> Result<(), Fail> {
     for (text, rest, is_consistent, is_printed_so) in &CHECKED_READ_BACK {
-        let found = is_checked_so(rt.alloc(), text, rest, *is_consistent, *is_printed_so)?;
+        let found = is_checked_read_back(rt.alloc(), text, rest, *is_consistent, *is_printed_so)?;
         assert!(rt; found, "{text}{rest}");
     }
     Ok(())

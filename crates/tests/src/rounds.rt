@@ -1,7 +1,7 @@
 //! Rounds that no text writes: a locked row that stands twice, hundreds of rows. Expected values were worked out by hand
 //! from the rules of docs/ROUNDS.md.
 
-use crate::rows::{DIRECTIONS, locked_row_count, row_of, row_of_opus};
+use crate::rows::{ROW_DIRECTIONS, locked_row_count, row_of, row_of_opus};
 use std::alloc::{AllocError, Global};
 use std::test::Fail;
 use str0m_formats::{Codec, CodecConfig, CodecSpec, FormatParams, PayloadParams};
@@ -28,7 +28,7 @@ fn h264_for_round() -> PayloadParams {
 }
 
 /// Whether two configurations have the same rows, locked in the same places.
-fn is_same(one: &CodecConfig, other: &CodecConfig) -> bool {
+fn is_same_after_rounds(one: &CodecConfig, other: &CodecConfig) -> bool {
     let mut pairs = one.params().iter().zip(other.params());
     one.params() == other.params() && pairs.all(|(a, b)| a.locked() == b.locked())
 }
@@ -43,7 +43,7 @@ fn round(
     let mut other = config.clone()?;
     let in_table = other.update_params_in::<[bool; 128]>(remote, direction);
     let outcome = config.update_params(remote, direction);
-    if outcome != in_table || !is_same(config, &other) {
+    if outcome != in_table || !is_same_after_rounds(config, &other) {
         return "two tables of claims differ".to_string(alloc);
     }
     match outcome {
@@ -53,7 +53,7 @@ fn round(
 }
 
 /// A configuration in which a row of H264 that a round has locked stands twice.
-fn doubled_rows(alloc: Global) -> Result<CodecConfig, AllocError> {
+fn doubled_rows_for_round(alloc: Global) -> Result<CodecConfig, AllocError> {
     let rows = Vec::from_slice(alloc, &[h264_for_round(), vp8_for_round()])?;
     let mut config = CodecConfig::new_from_payload_params(alloc, rows);
     let _ = round(alloc, &mut config, &[h264_for_round()], Direction::RecvOnly)?;
@@ -66,7 +66,7 @@ fn doubled_rows(alloc: Global) -> Result<CodecConfig, AllocError> {
 }
 
 /// Whether the row is locked at 96 with its RTX at 97 and without RED.
-fn is_as_it_was_locked(row: &PayloadParams) -> bool {
+fn is_as_round_locked(row: &PayloadParams) -> bool {
     row.locked()
         && row.pt() == Pt::from(96)
         && row.resend() == Some(Pt::from(97))
@@ -74,8 +74,8 @@ fn is_as_it_was_locked(row: &PayloadParams) -> bool {
 }
 
 /// Whether these are two rows that are as they were locked.
-fn are_as_they_were_locked(rows: &[PayloadParams]) -> bool {
-    rows.len() == 2 && rows.iter().all(|row| is_as_it_was_locked(row))
+fn are_as_round_locked(rows: &[PayloadParams]) -> bool {
+    rows.len() == 2 && rows.iter().all(|row| is_as_round_locked(row))
 }
 
 /// Whether the round is refused for the type, and all stays as it was locked.
@@ -85,16 +85,13 @@ fn is_round_refused(
     direction: Direction,
 ) -> Result<bool, AllocError> {
     let found = round(alloc, config, &[], direction)?;
-    Ok(
-        found.as_str() == "payload type 96 is claimed twice"
-            && are_as_they_were_locked(config.params()),
-    )
+    Ok(found.as_str() == "payload type 96 is claimed twice" && are_as_round_locked(config.params()))
 }
 
 #[test]
 fn a_locked_type_that_stands_twice_refuses_every_round(rt: HostRuntime) -> Result<(), Fail> {
-    let mut config = doubled_rows(rt.alloc())?;
-    for direction in &DIRECTIONS {
+    let mut config = doubled_rows_for_round(rt.alloc())?;
+    for direction in &ROW_DIRECTIONS {
         let is_round_refused = is_round_refused(rt.alloc(), &mut config, *direction)?;
         assert!(rt; is_round_refused, "{direction:?}");
     }
@@ -102,7 +99,11 @@ fn a_locked_type_that_stands_twice_refuses_every_round(rt: HostRuntime) -> Resul
 }
 
 /// So many rows that nothing matches, each at 96, and then a row of Opus.
-fn many_rows(alloc: Global, count: usize, codec: Codec) -> Result<Vec<PayloadParams>, AllocError> {
+fn many_rows_for_round(
+    alloc: Global,
+    count: usize,
+    codec: Codec,
+) -> Result<Vec<PayloadParams>, AllocError> {
     let mut rows = Vec::new(alloc);
     for _ in 0..count {
         let one = row_of(codec, Frequency::EIGHT_KHZ, None, (96, None, None));
@@ -113,27 +114,27 @@ fn many_rows(alloc: Global, count: usize, codec: Codec) -> Result<Vec<PayloadPar
 }
 
 /// Whether the last row is locked, and no other.
-fn is_last_alone_locked(rows: &[PayloadParams]) -> bool {
+fn is_last_locked_in_round(rows: &[PayloadParams]) -> bool {
     locked_row_count(rows) == 1 && rows.last().is_some_and(|row| row.locked())
 }
 
 /// The configuration of 499 rows that nothing matches and a row of Opus.
-fn five_hundred_rows(alloc: Global) -> Result<CodecConfig, AllocError> {
-    let own = many_rows(alloc, 499, Codec::PCMU)?;
+fn five_hundred_rows_for_round(alloc: Global) -> Result<CodecConfig, AllocError> {
+    let own = many_rows_for_round(alloc, 499, Codec::PCMU)?;
     Ok(CodecConfig::new_from_payload_params(alloc, own))
 }
 
 /// Whether the last row of each side meets the other, and no other does.
-fn do_last_rows_meet(alloc: Global) -> Result<bool, AllocError> {
-    let mut config = five_hundred_rows(alloc)?;
-    let remote = many_rows(alloc, 499, Codec::PCMA)?;
+fn do_last_rows_meet_in_round(alloc: Global) -> Result<bool, AllocError> {
+    let mut config = five_hundred_rows_for_round(alloc)?;
+    let remote = many_rows_for_round(alloc, 499, Codec::PCMA)?;
     let found = round(alloc, &mut config, remote.as_slice(), Direction::RecvOnly)?;
-    Ok(found.as_str() == "ok" && is_last_alone_locked(config.params()))
+    Ok(found.as_str() == "ok" && is_last_locked_in_round(config.params()))
 }
 
 /// A round has no limit but memory: 500 rows on both sides, of which the last ones match.
 #[test]
 fn five_hundred_rows_meet_five_hundred(rt: HostRuntime) -> Result<(), Fail> {
-    assert!(rt; do_last_rows_meet(rt.alloc())?);
+    assert!(rt; do_last_rows_meet_in_round(rt.alloc())?);
     Ok(())
 }

@@ -9,7 +9,7 @@ use str0m_values::{Direction, Frequency, Pt};
 pub(crate) type TypesOfRow = (u8, Option<u8>, Option<u8>);
 
 /// What a side may describe.
-pub(crate) static DIRECTIONS: [Direction; 4] = [
+pub(crate) static ROW_DIRECTIONS: [Direction; 4] = [
     Direction::SendRecv,
     Direction::SendOnly,
     Direction::RecvOnly,
@@ -55,7 +55,7 @@ pub(crate) fn locked_row_count(rows: &[PayloadParams]) -> usize {
 }
 
 /// Whether the one row is that of Opus under type 109.
-pub(crate) fn is_opus_at_109(rows: &[PayloadParams]) -> bool {
+pub(crate) fn is_row_of_opus_at_109(rows: &[PayloadParams]) -> bool {
     match rows {
         [row] => row.pt() == Pt::from(109) && row.spec().codec == Codec::Opus,
         _ => false,

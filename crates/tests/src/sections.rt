@@ -4,7 +4,7 @@ use std::alloc::{AllocError, Global};
 use std::test::Fail;
 use str0m_signal::{Direction, MediaLine, MediaType, Proto, RestrictionId, Setup, Ssrc, SsrcInfo};
 
-fn do_types_begin_as_audio_over_rtp() -> bool {
+fn do_section_types_begin_as_audio() -> bool {
     MediaType::default() == MediaType::Audio
         && Proto::default() == Proto::Srtp
         && Setup::default() == Setup::ActPass
@@ -19,7 +19,7 @@ fn is_source_info_unknown(info: &SsrcInfo) -> bool {
         && info.track_id.is_none()
 }
 
-fn is_info_copied(info: &SsrcInfo) -> Result<bool, AllocError> {
+fn is_source_info_copied(info: &SsrcInfo) -> Result<bool, AllocError> {
     let copy = info.clone()?;
     Ok(copy == *info)
 }
@@ -44,7 +44,7 @@ fn is_section_empty(section: &MediaLine) -> bool {
 /// Whether nothing is known of a source in the beginning; its copy is the same.
 fn is_source_unknown() -> Result<bool, AllocError> {
     let info = SsrcInfo::default();
-    Ok(is_source_info_unknown(&info) && is_info_copied(&info)?)
+    Ok(is_source_info_unknown(&info) && is_source_info_copied(&info)?)
 }
 
 fn is_new_section_empty(alloc: Global) -> bool {
@@ -58,8 +58,8 @@ fn is_empty_restriction_active(alloc: Global) -> bool {
 }
 
 #[test]
-fn nothing_is_said_in_the_beginning(rt: HostRuntime) -> Result<(), Fail> {
-    assert!(rt; do_types_begin_as_audio_over_rtp());
+fn a_new_section_says_nothing(rt: HostRuntime) -> Result<(), Fail> {
+    assert!(rt; do_section_types_begin_as_audio());
     assert!(rt; is_source_unknown()?);
     assert!(rt; is_new_section_empty(rt.alloc()));
     assert!(rt; is_empty_restriction_active(rt.alloc()));

@@ -26,7 +26,7 @@ pub(crate) const FOUR_SECTIONS_TEXT: &str =
     "v=0\r\no=- 7 2 IN IP4 0.0.0.0\r\ns=-\r\nt=0 0\r\na=group:LS 2\r\na=group:BUNDLE 1 0\r\na=setup:actpass\r\na=ice-ufrag:sess\r\na=ice-pwd:session-password-of-22\r\na=fingerprint:sha-256 AB:CD\r\nm=audio 9 UDP/TLS/RTP/SAVPF 109\r\nc=IN IP4 0.0.0.0\r\na=mid:0\r\na=sendrecv\r\na=setup:passive\r\na=ice-ufrag:own1\r\na=rtpmap:109 opus/48000/2\r\nm=video 0 UDP/TLS/RTP/SAVPF 120\r\nc=IN IP4 0.0.0.0\r\na=mid:1\r\na=bundle-only\r\na=sendrecv\r\na=rtpmap:120 VP8/90000\r\nm=video 0 UDP/TLS/RTP/SAVPF 120\r\nc=IN IP4 0.0.0.0\r\na=mid:2\r\na=sendrecv\r\na=rtpmap:120 VP8/90000\r\nm=video 0 UDP/TLS/RTP/SAVPF 120\r\nc=IN IP4 0.0.0.0\r\na=mid:3\r\na=bundle-only\r\na=sendrecv\r\na=fingerprint:sha-1 01:02\r\na=rtpmap:120 VP8/90000\r\n";
 
 /// The description that the text begins with.
-pub(crate) fn read(alloc: Global, text: &str) -> Result<Sdp, SdpError> {
+pub(crate) fn description_of_text(alloc: Global, text: &str) -> Result<Sdp, SdpError> {
     Ok(sdp_parser(alloc, text)?.0)
 }
 

@@ -1,6 +1,6 @@
 //! Credentials, fingerprints and roles: copied, compared and printed as no line says them, and what is in force at a section.
 
-use crate::texts::{FOUR_SECTIONS_TEXT, prints_text, read};
+use crate::texts::{FOUR_SECTIONS_TEXT, description_of_text, prints_text};
 use exchange::{creds_at, fingerprint_at, setup_at};
 use std::alloc::{AllocError, Global};
 use std::test::Fail;
@@ -109,8 +109,8 @@ fn is_hash_in_force(offer: &Sdp, at: usize, hash: &str) -> Result<bool, AllocErr
 }
 
 #[test]
-fn what_a_section_says_comes_before_the_session(rt: HostRuntime) -> Result<(), Fail> {
-    let offer = read(rt.alloc(), FOUR_SECTIONS_TEXT)?;
+fn a_sections_transport_comes_first(rt: HostRuntime) -> Result<(), Fail> {
+    let offer = description_of_text(rt.alloc(), FOUR_SECTIONS_TEXT)?;
     assert!(rt; are_roles_in_force(&offer));
     assert!(rt; are_credentials_in_force(&offer)?);
     assert!(rt; is_hash_in_force(&offer, 2, "sha-256")?);

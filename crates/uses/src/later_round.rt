@@ -2,7 +2,7 @@
 
 ghost use Rattle.std.specs.Prelude.{◌≡◌};
 ghost use Rattle.str0m_formats.specs.round.RoundsPromises.{LockedStay};
-ghost use Rattle.str0m_signal.specs.back.ReadBack.{MayBePrinted};
+ghost use Rattle.str0m_signal.specs.back.ReadBack.{CanRowsBeReadBack};
 ghost use Rattle.uses.specs.LaterRound.{ComesToRound, IsFirstRoundRefusal, round_refusal};
 
 use crate::call_error::CallError;
@@ -37,7 +37,7 @@ pub fn negotiate_again(config: &mut CodecConfig, offer: &str) -> Result<(), Call
     ensures outcome { ComesToRound offer.now config.old.params.items result config.new.params.items }
     ensures else_same { config.new ≡ record config.old { params = config.new.params } }
     ensures stay { LockedStay config.old.params.items config.new.params.items }
-    ensures printable { MayBePrinted config.old.params.items → MayBePrinted config.new.params.items }
+    ensures printable { CanRowsBeReadBack config.old.params.items → CanRowsBeReadBack config.new.params.items }
 {
     let outcomes = negotiate_text(config, offer)?;
     match first_round_refusal(outcomes.as_slice()) {

@@ -3,8 +3,8 @@
 ghost use Rattle.std.specs.Prelude.{◌≡◌, IfErr, IfOk, MatchOption, None, Some, slice_get};
 ghost use Rattle.str0m_sdp.specs.declared.section.media_line.MediaLine.{MediaLine};
 ghost use Rattle.str0m_sdp.specs.section.SectionRows.{rows};
-ghost use Rattle.str0m_signal.specs.session.Reader.{Described};
-ghost use Rattle.str0m_signal.specs.session.ReaderAnswers.{Refuses};
+ghost use Rattle.str0m_signal.specs.session.Reader.{DescribesSession};
+ghost use Rattle.str0m_signal.specs.session.ReaderAnswers.{ReaderRefuses};
 
 use std::alloc::{AllocError, Global};
 use str0m_signal::{PayloadParams, Sdp, SdpError, SdpOffer};
@@ -32,11 +32,11 @@ pub fn offered_rows(
     text: &str,
     at: usize,
 ) -> Result<(SdpOffer, Option<Vec<PayloadParams>>), SdpError>
-    ensures described { IfOk result (λ offered. Described text.now offered.0) }
+    ensures described { IfOk result (λ offered. DescribesSession text.now offered.0) }
     ensures rows { IfOk result (λ offered. MatchOption offered.1
         (slice_get offered.0.media_lines at ≡ None)
         (λ theirs. (section : MediaLine) × (slice_get offered.0.media_lines at ≡ Some section) × (theirs.items ≡ rows section))) }
-    ensures refused { IfErr result (λ error. Refuses error (Described text.now)) }
+    ensures refused { IfErr result (λ error. ReaderRefuses error (DescribesSession text.now)) }
 {
     let offer = SdpOffer::from_sdp_string(alloc, text)?;
     let rows = offered_rows_at(&offer, at)?;

@@ -3,11 +3,11 @@
 ghost use Rattle.std.specs.Prelude.{◌≡◌, IfOk, IfSome, None, Some, slice_get, string_bytes};
 ghost use Rattle.str0m_sdp.specs.declared.section.media_line.MediaLine.{MediaLine};
 ghost use Rattle.str0m_sdp.specs.session.Session.{sdp_text};
-ghost use Rattle.str0m_signal.specs.back.ReadBack.{MayBePrinted, ReadsBack, with_rows};
+ghost use Rattle.str0m_signal.specs.back.ReadBack.{CanRowsBeReadBack, ReadsBack, with_rows};
 ghost use Rattle.str0m_signal.specs.back.Writable.{Writable};
 ghost use Rattle.uses.specs.OwnSection.{own_frame, own_sdp};
 
-use crate::answer::{printable_section, with_section};
+use crate::answer::{answer_with_section, printable_answer_section};
 use std::alloc::{AllocError, Global};
 use str0m_signal::{
     CodecConfig, Fingerprint, IceCreds, Items, MediaAttribute, MediaLine, Mid, Sdp, Session,
@@ -73,13 +73,13 @@ pub fn own_offer(config: &CodecConfig, own: Sdp, at: usize) -> Result<Option<Str
     ensures text { IfOk result (λ offer. IfSome offer (λ text.
         (frame : MediaLine) × (slice_get own.media_lines at ≡ Some frame)
         × (string_bytes text ≡ sdp_text (with_rows own at frame config.now.params.items)))) }
-    ensures read_back { MayBePrinted config.now.params.items → IfOk result (λ offer. IfSome offer (λ text.
+    ensures read_back { CanRowsBeReadBack config.now.params.items → IfOk result (λ offer. IfSome offer (λ text.
         ReadsBack own at config.now.params.items)) }
     ensures none { IfOk result (λ offer. offer ≡ None → Writable own at → ⊥) }
     ensures some { IfOk result (λ offer. IfSome offer (λ _. Writable own at)) }
 {
-    match printable_section(&own, at, config.params())? {
-        Some(section) => Ok(Some(with_section(own, at, section)?)),
+    match printable_answer_section(&own, at, config.params())? {
+        Some(section) => Ok(Some(answer_with_section(own, at, section)?)),
         None => Ok(None),
     }
 }

@@ -1,6 +1,6 @@
 //! A session as a list of calls.
 
-ghost use Rattle.exchange.specs.state.ExchangeFollows.{Follows, IsSound};
+ghost use Rattle.exchange.specs.state.ExchangeFollows.{Follows, IsExchangeSound};
 
 use exchange::Exchange;
 use str0m_signal::{Direction, IceCreds, MediaKind, Mid};
@@ -26,9 +26,9 @@ pub enum Step<'a> {
 }
 
 /// Makes a call. Where it is refused, nothing changes, as where memory is wanted for a copy of its credentials.
-fn take(exchange: &mut Exchange, step: &Step<'_>)
-    ensures sound { IsSound exchange.old → IsSound exchange.new }
-    ensures follows { IsSound exchange.old → Follows exchange.old exchange.new }
+fn take_session_call(exchange: &mut Exchange, step: &Step<'_>)
+    ensures sound { IsExchangeSound exchange.old → IsExchangeSound exchange.new }
+    ensures follows { IsExchangeSound exchange.old → Follows exchange.old exchange.new }
 {
     match step {
         Step::Offer(text) => {
@@ -63,10 +63,10 @@ fn take(exchange: &mut Exchange, step: &Step<'_>)
 /// that are agreed on stay (RFC 3264, section 8; RFC 8829, section 5.2.2).
 #[tactic(auto, using(exchange::proofs::follows_self, exchange::proofs::follows_then))]
 pub fn run(exchange: &mut Exchange, steps: &[Step<'_>])
-    ensures sound { IsSound exchange.old → IsSound exchange.new }
-    ensures follows { IsSound exchange.old → Follows exchange.old exchange.new }
+    ensures sound { IsExchangeSound exchange.old → IsExchangeSound exchange.new }
+    ensures follows { IsExchangeSound exchange.old → Follows exchange.old exchange.new }
 {
     for step in steps {
-        take(exchange, step);
+        take_session_call(exchange, step);
     }
 }

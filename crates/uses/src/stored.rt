@@ -4,7 +4,7 @@ ghost use Rattle.std.specs.Prelude.{◌≡◌, ◌↔◌, IfErr, IfOk, IsTrue};
 ghost use Rattle.str0m_sdp.specs.session.Session.{sdp_text};
 ghost use Rattle.str0m_sdp.specs.session.SessionConsistency.{ConsistentSdp};
 ghost use Rattle.str0m_signal.specs.session.Reader.{Reading};
-ghost use Rattle.str0m_signal.specs.session.ReaderAnswers.{Refuses};
+ghost use Rattle.str0m_signal.specs.session.ReaderAnswers.{ReaderRefuses};
 
 use std::alloc::{AllocError, Global};
 use str0m_signal::{Sdp, SdpError, sdp_parser};
@@ -23,7 +23,7 @@ pub struct ReadText<'a> {
     pub is_printed_so: bool,
 }
 
-fn is_consistent(sdp: &Sdp) -> Result<bool, AllocError>
+fn is_stored_consistent(sdp: &Sdp) -> Result<bool, AllocError>
     ensures { IfOk result (λ answer. IsTrue answer ↔ ConsistentSdp sdp.now) }
 {
     match sdp.assert_consistency() {
@@ -33,7 +33,7 @@ fn is_consistent(sdp: &Sdp) -> Result<bool, AllocError>
     }
 }
 
-fn is_printed_so(sdp: &Sdp, text: &str) -> Result<bool, AllocError>
+fn is_stored_printed_so(sdp: &Sdp, text: &str) -> Result<bool, AllocError>
     ensures { IfOk result (λ answer. IsTrue answer ↔ (sdp_text sdp.now ≡ text.now)) }
 {
     let alloc = *sdp.media_lines.allocator();
@@ -50,11 +50,11 @@ pub fn checked(alloc: Global, text: &str) -> Result<ReadText<'_>, SdpError>
     ensures read { IfOk result (λ found. Reading text.now (found.sdp, found.rest.now)) }
     ensures consistent { IfOk result (λ found. IsTrue found.is_consistent ↔ ConsistentSdp found.sdp) }
     ensures printed { IfOk result (λ found. IsTrue found.is_printed_so ↔ (sdp_text found.sdp ≡ text.now)) }
-    ensures refused { IfErr result (λ error. Refuses error (Reading text.now)) }
+    ensures refused { IfErr result (λ error. ReaderRefuses error (Reading text.now)) }
 {
     let (sdp, rest) = sdp_parser(alloc, text)?;
-    let is_consistent = is_consistent(&sdp)?;
-    let is_printed_so = is_printed_so(&sdp, text)?;
+    let is_consistent = is_stored_consistent(&sdp)?;
+    let is_printed_so = is_stored_printed_so(&sdp, text)?;
     Ok(ReadText {
         sdp,
         rest,

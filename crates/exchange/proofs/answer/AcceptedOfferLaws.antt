@@ -9,7 +9,8 @@ use Rattle.exchange.proofs.Common.{feedback_line, fmtp_line, format_attrs, forma
 use Rattle.exchange.proofs.Common.{rtx_lines, AreMidsDistinct, section_mids, receives, Candidate, Direction}
 use Rattle.exchange.proofs.offer.OfferNameLaws.{NamesDiffer, OtherName, name_differ_from}
 use Rattle.exchange.proofs.offer.RuleLaws.{sections_shape}
-use Rattle.exchange.specs.answer.Accepted.{are_layers_told, candidate_line, channel_lines, first_lines, accepted_frame, layer_lines}
+use Rattle.exchange.specs.answer.Accepted.{are_layers_told, candidate_line, accepted_channel_lines, accepted_first_lines, accepted_frame}
+use Rattle.exchange.specs.answer.Accepted.{layer_lines}
 use Rattle.exchange.specs.answer.Accepted.{media_lines}
 use Rattle.exchange.specs.answer.Accepted.{msid_lines, track_id}
 use Rattle.exchange.specs.answer.AcceptedOffer.{section_tracks, track_of}
@@ -22,7 +23,7 @@ use Rattle.exchange.specs.declared.answer.choice.Choice.{Choice}
 use Rattle.exchange.specs.declared.answer.choice.Choice.TheVariants.{Rejected, Media, Channels}
 use Rattle.exchange.specs.declared.state.own_side.DataChannels.{DataChannels}
 use Rattle.exchange.specs.declared.state.own_side.OwnSide.{OwnSide}
-use Rattle.exchange.specs.offer.Rules.{HasShapeOf}
+use Rattle.exchange.specs.offer.Rules.{HasOfferedShape}
 use Rattle.exchange.specs.section.RepeatedLines.{is_repeated, repeated_lines}
 use Rattle.exchange.specs.section.Stopped.{name_of}
 use Rattle.str0m_sdp.specs.declared.attribute.MediaAttribute.TheVariants as media
@@ -168,10 +169,10 @@ media_tracks own offered mid direction rows =
     (answer_repeated_trackless own.extensions offered.attrs))
 
 accepted_tracks : (own : OwnSide) (offered : MediaLine) (mid : List ℕ) (role : Setup) (direction : Direction) (rows : List PayloadParams)
-    → section_tracks (made (accepted_frame offered (first_lines own mid role ++ media_lines own offered mid direction rows)) rows)
+    → section_tracks (made (accepted_frame offered (accepted_first_lines own mid role ++ media_lines own offered mid direction rows)) rows)
     ≡ filter_map track_of (msid_lines own direction mid)
 accepted_tracks own offered mid role direction rows =
-    let lines : List MediaAttribute = first_lines own mid role ++ media_lines own offered mid direction rows in
+    let lines : List MediaAttribute = accepted_first_lines own mid role ++ media_lines own offered mid direction rows in
     let frame : List MediaAttribute = filter (λ attr. not (is_of_type attr)) lines in
     filter_map-append track_of frame (flat_map row_attrs rows)
     ∙ ap (λ (found : List (List ℕ)). filter_map track_of frame ++ found) (rows_trackless rows)
@@ -180,7 +181,7 @@ accepted_tracks own offered mid role direction rows =
     ∙ media_tracks own offered mid direction rows
 
 media_so : (own : OwnSide) (offered : MediaLine) (mid : List ℕ) (role : Setup) (direction : Direction) (rows : List PayloadParams)
-    → TracksSo (made (accepted_frame offered (first_lines own mid role ++ media_lines own offered mid direction rows)) rows)
+    → TracksSo (made (accepted_frame offered (accepted_first_lines own mid role ++ media_lines own offered mid direction rows)) rows)
 media_so own offered mid role way.SendRecv rows = inr (mid, refl, accepted_tracks own offered mid role way.SendRecv rows)
 media_so own offered mid role way.SendOnly rows = inr (mid, refl, accepted_tracks own offered mid role way.SendOnly rows)
 media_so own offered mid role way.RecvOnly rows = inl (accepted_tracks own offered mid role way.RecvOnly rows)
@@ -212,9 +213,10 @@ rejected_trackless offered =
     (rejected_mapped_trackless (first_rejected_type offered.pts) offered.attrs))
 
 answer_channels_trackless : (own : OwnSide) (offered : MediaLine) (mid : List ℕ) (role : Setup) (channels : DataChannels)
-    → section_tracks (accepted_frame offered (first_lines own mid role ++ channel_lines channels ++ map candidate_line own.candidates)) ≡ []
+    → section_tracks (accepted_frame offered (accepted_first_lines own mid role ++ accepted_channel_lines channels
+    ++ map candidate_line own.candidates)) ≡ []
 answer_channels_trackless own offered mid role channels =
-    answer_trackless_both (first_lines own mid role ++ channel_lines channels) (map candidate_line own.candidates) refl
+    answer_trackless_both (accepted_first_lines own mid role ++ accepted_channel_lines channels) (map candidate_line own.candidates) refl
     (candidates_trackless own.candidates)
 
 offer_choice_so : (own : OwnSide) (offer : Sdp) (offered answered : MediaLine) (choice : Choice)
@@ -236,7 +238,7 @@ offer_all_so own ours offer (theirs ∷ more) [] zip = absurd zip
 offer_all_so own ours offer (theirs ∷ more) (m ∷ ms) zip =
     All-cons TracksSo m ms (offer_choice_so own offer theirs m zip.0.choice zip.0.says) (offer_all_so own ours offer more ms zip.1)
 
-same_mids : (offered answered : List MediaLine) → AllZip HasShapeOf offered answered → section_mids answered ≡ section_mids offered
+same_mids : (offered answered : List MediaLine) → AllZip HasOfferedShape offered answered → section_mids answered ≡ section_mids offered
 same_mids [] [] zip = refl
 same_mids [] (m ∷ ms) zip = absurd zip
 same_mids (theirs ∷ more) [] zip = absurd zip

@@ -4,7 +4,7 @@ use Rattle.exchange.proofs.Common.{Option, Some, None, inl, inr, refl, subst, sy
 use Rattle.exchange.proofs.Common.{ne_eqb, get_or-replicate, get_or-set_other, get_or-set_same, length-set, MediaAttribute, RtcpFb, Unused}
 use Rattle.exchange.specs.answer.OfferedFeedback.{IsFeedbackGathered, either_offered, offered_feedback_by, named_offered, none_offered}
 use Rattle.exchange.specs.answer.OfferedFeedback.{offered_feedback, with_offered, feedback_for_all}
-use Rattle.exchange.specs.answer.Rows.{is_this_feedback_value, is_offered, offers, feedback_value_of_all}
+use Rattle.exchange.specs.answer.Rows.{is_row_feedback_value, is_offered, offers, row_feedback_value_of_all}
 use Rattle.exchange.specs.declared.answer.offered_feedback.OfferedFeedback.{OfferedFeedback}
 use Rattle.std.proofs.Math.Bool.{or_comm}
 use Rattle.str0m_sdp.proofs.{mark_any_more, mark_any_same}
@@ -14,14 +14,14 @@ use Rattle.str0m_sdp.proofs.{mark_any_more, mark_any_same}
 -- the value of a line that offers feedback, for the type or for all types
 abbrev feedback_value_for : ℕ → MediaAttribute → Option (List ℕ)
 feedback_value_for pt (RtcpFb n value) = if n == pt then Some value else None
-feedback_value_for pt (Unused text) = feedback_value_of_all text
+feedback_value_for pt (Unused text) = row_feedback_value_of_all text
 feedback_value_for pt _ = None
 
 -- a line offers the value that it says
 feedback_by_value : (pt : ℕ) (words : List ℕ) (attr : MediaAttribute)
-    → offers pt words attr ≡ is_this_feedback_value words (feedback_value_for pt attr)
+    → offers pt words attr ≡ is_row_feedback_value words (feedback_value_for pt attr)
 feedback_by_value pt words (RtcpFb n value) = go (n == pt) where
-  go : (b : Bool) → (b && bytes_eq value words) ≡ is_this_feedback_value words (if b then Some value else None)
+  go : (b : Bool) → (b && bytes_eq value words) ≡ is_row_feedback_value words (if b then Some value else None)
   go true = refl
   go false = refl
 feedback_by_value pt words (Unused text) = refl
@@ -38,7 +38,7 @@ same_feedback : (attrs : List MediaAttribute) (i : ℕ) (attr : MediaAttribute) 
     → offered_feedback (take (i + 1) attrs) pt ≡ offered_feedback (take i attrs) pt
 unfolding is_offered
 same_feedback attrs i attr pt lt at says = λ j. offered_feedback_by
-    (λ words. mark_any_same (offers pt words) attrs i attr lt at (feedback_by_value pt words attr ∙ ap (is_this_feedback_value words) says)
+    (λ words. mark_any_same (offers pt words) attrs i attr lt at (feedback_by_value pt words attr ∙ ap (is_row_feedback_value words) says)
     j)
 
 -- a line adds what it says
@@ -48,7 +48,7 @@ feedback_more : (attrs : List MediaAttribute) (i : ℕ) (attr : MediaAttribute) 
 unfolding is_offered
 feedback_more attrs i attr pt said lt at says = λ j. offered_feedback_by (λ words.
     (mark_any_more (offers pt words) attrs i attr lt at
-    ∙ ap (λ (b : Bool). is_offered (take i attrs) pt words || b) (feedback_by_value pt words attr ∙ ap (is_this_feedback_value words) says))
+    ∙ ap (λ (b : Bool). is_offered (take i attrs) pt words || b) (feedback_by_value pt words attr ∙ ap (is_row_feedback_value words) says))
     j)
 
 feedback_line_value_more : (attrs : List MediaAttribute) (i : ℕ) (attr : MediaAttribute) (pt : ℕ) (said : Option (List ℕ))

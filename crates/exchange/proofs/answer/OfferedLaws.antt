@@ -5,7 +5,8 @@ use Rattle.exchange.proofs.Common.{All-nil, All-weaker, list_any-append, Contain
 use Rattle.exchange.proofs.Common.{FormatParam, PayloadParams, direction_attribute, MediaAttribute, Setup, SimulcastLayer, FIR, NACK, PLI}
 use Rattle.exchange.proofs.Common.{REMB, TRANSPORT_CC, MediaLine, is_of_type, made, feedback_attrs, feedback_line, fmtp_line, format_attrs}
 use Rattle.exchange.proofs.Common.{format_values, red_attrs, red_lines, row_attrs, rtx_attrs, rtx_lines, receives, Candidate, Direction}
-use Rattle.exchange.specs.answer.Accepted.{are_layers_told, candidate_line, channel_lines, first_lines, accepted_frame, layer_lines}
+use Rattle.exchange.specs.answer.Accepted.{are_layers_told, candidate_line, accepted_channel_lines, accepted_first_lines, accepted_frame}
+use Rattle.exchange.specs.answer.Accepted.{layer_lines}
 use Rattle.exchange.specs.answer.Accepted.{media_lines}
 use Rattle.exchange.specs.answer.Accepted.{msid_lines}
 use Rattle.exchange.specs.answer.Layers.{answered_layers, answered_rid, answered_rids, is_rid_left, is_layer_named, layers_line}
@@ -148,10 +149,11 @@ media_lines_offered own offered mid direction rows =
 
 pub accepted_media_offered : (own : OwnSide) (offered : MediaLine) (mid : List ℕ) (role : Setup) (direction : Direction)
     (rows : List PayloadParams)
-    → SaysOnlyOffered offered (made (accepted_frame offered (first_lines own mid role ++ media_lines own offered mid direction rows)) rows)
+    → SaysOnlyOffered offered (made
+    (accepted_frame offered (accepted_first_lines own mid role ++ media_lines own offered mid direction rows)) rows)
 accepted_media_offered own offered mid role direction rows =
     let P : MediaAttribute → Type 0 = WasOffered offered in
-    let head : List MediaAttribute = first_lines own mid role in
+    let head : List MediaAttribute = accepted_first_lines own mid role in
     let lines : List MediaAttribute = media_lines own offered mid direction rows in
     All-append P (filter (λ attr. not (is_of_type attr)) (head ++ lines)) (flat_map row_attrs rows)
     (All-filter (λ attr. not (is_of_type attr)) P (head ++ lines)
@@ -159,9 +161,10 @@ accepted_media_offered own offered mid role direction rows =
     (offered_from_none offered (flat_map row_attrs rows) (rows_none rows))
 
 pub accepted_channels_offered : (own : OwnSide) (offered : MediaLine) (mid : List ℕ) (role : Setup) (channels : DataChannels)
-    → SaysOnlyOffered offered (accepted_frame offered (first_lines own mid role ++ channel_lines channels
+    → SaysOnlyOffered offered (accepted_frame offered (accepted_first_lines own mid role ++ accepted_channel_lines channels
     ++ map candidate_line own.candidates))
 accepted_channels_offered own offered mid role channels =
-    All-append (WasOffered offered) (first_lines own mid role ++ channel_lines channels) (map candidate_line own.candidates)
-    (offered_from_none offered (first_lines own mid role ++ channel_lines channels) refl)
+    All-append (WasOffered offered) (accepted_first_lines own mid role ++ accepted_channel_lines channels)
+    (map candidate_line own.candidates)
+    (offered_from_none offered (accepted_first_lines own mid role ++ accepted_channel_lines channels) refl)
     (offered_from_none offered (map candidate_line own.candidates) (candidates_none own.candidates))

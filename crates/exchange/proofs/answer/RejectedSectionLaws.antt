@@ -9,7 +9,7 @@ use Rattle.exchange.specs.answer.RejectedSection.{direction_over, first_rejected
 use Rattle.str0m_formats.specs.declared.codec.Codec.TheVariants.{PCMU}
 use Rattle.str0m_formats.specs.format.FormatParams.{empty}
 use Rattle.str0m_sdp.specs.declared.attribute.MediaAttribute.TheVariants as media
-use Rattle.str0m_sdp.specs.section.Consistency.{AgreesOnApt, IsMapped, NeedsNoMapping, is_direction, is_setup}
+use Rattle.str0m_sdp.specs.section.Consistency.{AgreesOnSectionApt, IsMapped, NeedsNoMapping, is_direction, is_setup}
 
 -- ---- what a line counts for
 
@@ -19,7 +19,7 @@ record CountsAmongRejectedLines (pt : ℕ) (line : MediaAttribute) (mid setup di
   pub setup_is : is_setup line ≡ setup
   pub direction_is : is_direction line ≡ direction
   pub mapping_is : maps pt line ≡ mapping
-  pub agrees : (lines : List MediaAttribute) → AgreesOnApt lines line
+  pub agrees : (lines : List MediaAttribute) → AgreesOnSectionApt lines line
 
 of_mid : (pt : ℕ) (line : MediaAttribute) → is_mid line ≡ true → CountsAmongRejectedLines pt line true false false false
 of_mid pt (media.Mid mid) h = record { mid_is = refl; setup_is = refl; direction_is = refl; mapping_is = refl; agrees = λ lines. tt }
@@ -98,7 +98,7 @@ module _ (offered : MediaLine) (is : Consistent offered) where
     pub setups : count_by is_setup (direction_over proto) ≡ 0
     pub mappings : count_by (maps pt) (direction_over proto) ≡ 0
     pub one : proto ≡ Srtp → count_by is_direction (direction_over proto) ≡ 1
-    pub agree : (all : List MediaAttribute) → All (AgreesOnApt all) (direction_over proto)
+    pub agree : (all : List MediaAttribute) → All (AgreesOnSectionApt all) (direction_over proto)
 
   rejected_directed_over_proto : (proto : Proto) → RejectedDirectionOverProto proto
   rejected_directed_over_proto Srtp = record {
@@ -106,14 +106,14 @@ module _ (offered : MediaLine) (is : Consistent offered) where
     setups = refl;
     mappings = refl;
     one = λ e. refl;
-    agree = λ all. All-cons (AgreesOnApt all) media.Inactive [] tt (All-nil (AgreesOnApt all));
+    agree = λ all. All-cons (AgreesOnSectionApt all) media.Inactive [] tt (All-nil (AgreesOnSectionApt all));
   }
   rejected_directed_over_proto Sctp = record {
     mids = refl;
     setups = refl;
     mappings = refl;
     one = λ e. cc;
-    agree = λ all. All-nil (AgreesOnApt all);
+    agree = λ all. All-nil (AgreesOnSectionApt all);
   }
 
   one_mid_line : count_by is_mid rejecting_lines_of ≡ 1
@@ -141,8 +141,8 @@ module _ (offered : MediaLine) (is : Consistent offered) where
       let one = (rejected_directed_over_proto offered.proto).one srtp in
       omega (arith, rejected_lines_counted is_direction, here, neither, one)
 
-  mappings : count_by (maps pt) rejecting_lines_of ≡ count_by (maps pt) (option_to_list rejected_mapping_found)
-  mappings =
+  rejected_mappings_counted : count_by (maps pt) rejecting_lines_of ≡ count_by (maps pt) (option_to_list rejected_mapping_found)
+  rejected_mappings_counted =
       let here = rejected_counts_none (maps pt) mid_found (rejected_line_weaker _ _ (λ line h. h.mapping_is) mid_found mid_counts) in
       let none = (rejected_directed_over_proto offered.proto).mappings in
       omega (arith, rejected_lines_counted (maps pt), here, none)
@@ -157,7 +157,7 @@ module _ (offered : MediaLine) (is : Consistent offered) where
       go (inr h) = h.1
 
   rejected_type_mapped : IsMapped rejecting_lines_of pt
-  rejected_type_mapped = go rejected_mapping_found refl rejected_mapping_counts mappings where
+  rejected_type_mapped = go rejected_mapping_found refl rejected_mapping_counts rejected_mappings_counted where
     go : (o : Option MediaAttribute) → rejected_mapping_found ≡ o
         → IfSome o (λ line. CountsAmongRejectedLines pt line false false false true)
         → count_by (maps pt) rejecting_lines_of ≡ count_by (maps pt) (option_to_list o) → IsMapped rejecting_lines_of pt
@@ -171,18 +171,18 @@ module _ (offered : MediaLine) (is : Consistent offered) where
   rejected_types_mapped (Unknown text) = All-cons (IsMapped rejecting_lines_of) pt [] rejected_type_mapped
       (All-nil (IsMapped rejecting_lines_of))
 
-  rejected_found_agrees : (o : Option MediaAttribute) (all : List MediaAttribute) → IfSome o (λ line. AgreesOnApt all line)
-      → All (AgreesOnApt all) (option_to_list o)
-  rejected_found_agrees None all h = All-nil (AgreesOnApt all)
-  rejected_found_agrees (Some line) all h = All-cons (AgreesOnApt all) line [] h (All-nil (AgreesOnApt all))
+  rejected_found_agrees : (o : Option MediaAttribute) (all : List MediaAttribute) → IfSome o (λ line. AgreesOnSectionApt all line)
+      → All (AgreesOnSectionApt all) (option_to_list o)
+  rejected_found_agrees None all h = All-nil (AgreesOnSectionApt all)
+  rejected_found_agrees (Some line) all h = All-cons (AgreesOnSectionApt all) line [] h (All-nil (AgreesOnSectionApt all))
 
-  rejected_all_agree : All (AgreesOnApt rejecting_lines_of) rejecting_lines_of
+  rejected_all_agree : All (AgreesOnSectionApt rejecting_lines_of) rejecting_lines_of
   rejected_all_agree =
-      All-append (AgreesOnApt rejecting_lines_of) (option_to_list mid_found)
+      All-append (AgreesOnSectionApt rejecting_lines_of) (option_to_list mid_found)
       (direction_over offered.proto ++ option_to_list rejected_mapping_found)
       (rejected_found_agrees mid_found rejecting_lines_of
       (rejected_line_weaker _ _ (λ line h. h.agrees rejecting_lines_of) mid_found mid_counts))
-      (All-append (AgreesOnApt rejecting_lines_of) (direction_over offered.proto) (option_to_list rejected_mapping_found)
+      (All-append (AgreesOnSectionApt rejecting_lines_of) (direction_over offered.proto) (option_to_list rejected_mapping_found)
       ((rejected_directed_over_proto offered.proto).agree rejecting_lines_of)
       (rejected_found_agrees rejected_mapping_found rejecting_lines_of
       (rejected_line_weaker _ _ (λ line h. h.agrees rejecting_lines_of) rejected_mapping_found rejected_mapping_counts)))

@@ -7,7 +7,7 @@ use Rattle.exchange.proofs.offer.OfferRuleLaws.{new_section_name, next_offer_sha
 use Rattle.exchange.proofs.offer.RuleLaws.{rejecting_shape}
 use Rattle.exchange.proofs.state.ExchangeFollowLaws.{follows_listed_more}
 use Rattle.exchange.specs.declared.offer.added.Added.{Added}
-use Rattle.exchange.specs.declared.offer.added.Placed.{Placed}
+use Rattle.exchange.specs.declared.offer.added.AddedUnderMid.{AddedUnderMid}
 use Rattle.exchange.specs.declared.state.exchange.Exchange.{Exchange}
 use Rattle.exchange.specs.declared.state.own_side.SectionDirection.{SectionDirection}
 use Rattle.exchange.specs.offer.Added.{offer_placed_under}
@@ -33,7 +33,7 @@ offer_added_new : (old : Exchange) (ready : List SectionDirection) (extensions :
 offer_added_new old ready extensions [] added new = All-nil (IsNewPlaceName old.names)
 offer_added_new old ready extensions (mid ∷ mids) [] new = All-nil (IsNewPlaceName old.names)
 offer_added_new old ready extensions (mid ∷ mids) (first ∷ more) new =
-    let placed : Placed = record { mid = mid; added = first } in
+    let placed : AddedUnderMid = record { mid = mid; added = first } in
     All-cons (IsNewPlaceName old.names) (new_section old ready extensions placed)
     (map (new_section old ready extensions) (offer_placed_under mids more))
     (subst (λ (name : Option (List ℕ)). is_group_listed old.names name ≡ false) (sym (new_section_name old ready extensions placed))

@@ -8,7 +8,7 @@ use Rattle.exchange.specs.answer.Accepted.{candidate_line, msid_lines}
 use Rattle.exchange.specs.answer.RejectedSection.{rejecting}
 use Rattle.exchange.specs.declared.offer.added.Added.{Added}
 use Rattle.exchange.specs.declared.offer.added.Added.TheVariants as added
-use Rattle.exchange.specs.declared.offer.added.Placed.{Placed}
+use Rattle.exchange.specs.declared.offer.added.AddedUnderMid.{AddedUnderMid}
 use Rattle.exchange.specs.declared.state.exchange.Exchange.{Exchange}
 use Rattle.exchange.specs.declared.state.own_side.DataChannels.{DataChannels}
 use Rattle.exchange.specs.declared.state.own_side.SectionDirection.{SectionDirection}
@@ -20,7 +20,7 @@ use Rattle.exchange.specs.offer.OfferRules.{KeepsOfferPlaces}
 use Rattle.exchange.specs.offer.OfferSection.{asked_section_lines, kept_section_lines, new_section, next_section, offered_channels}
 use Rattle.exchange.specs.offer.OfferSection.{offered_media}
 use Rattle.exchange.specs.offer.OfferSection.{section_by, section_for, section_with}
-use Rattle.exchange.specs.offer.Rules.{HasShapeOf}
+use Rattle.exchange.specs.offer.Rules.{HasOfferedShape}
 use Rattle.exchange.specs.section.Stopped.{name_of}
 use Rattle.exchange.specs.state.OwnSide.{direction_among}
 use Rattle.exchange.specs.state.State.{sections_of}
@@ -31,13 +31,13 @@ use Rattle.str0m_values.specs.declared.media_kind.MediaKind.TheVariants as kind
 
 offer_channels_shape : (old : Exchange) (mine : MediaLine) (mid : List ℕ) (channels : Option DataChannels) → name_of mine ≡ Some mid
     → mine.typ ≡ Application → mine.proto ≡ Sctp
-    → HasShapeOf mine (offered_channels old.own mine mid channels)
+    → HasOfferedShape mine (offered_channels old.own mine mid channels)
 offer_channels_shape old mine mid None name typ proto = rejecting_shape mine
 offer_channels_shape old mine mid (Some channels) name typ proto = record { typ = sym typ; proto = sym proto; name = sym name }
 
 offer_shape_by : (old : Exchange) (ready : List SectionDirection) (theirs : Option MediaLine) (mine : MediaLine) (name : Option (List ℕ))
     (typ : MediaType) (proto : Proto)
-    → name_of mine ≡ name → mine.typ ≡ typ → mine.proto ≡ proto → HasShapeOf mine (section_by old ready theirs mine name typ proto)
+    → name_of mine ≡ name → mine.typ ≡ typ → mine.proto ≡ proto → HasOfferedShape mine (section_by old ready theirs mine name typ proto)
 offer_shape_by old ready theirs mine (Some mid) Audio Srtp name typ proto = record { typ = sym typ; proto = sym proto; name = sym name }
 offer_shape_by old ready theirs mine (Some mid) Video Srtp name typ proto = record { typ = sym typ; proto = sym proto; name = sym name }
 offer_shape_by old ready theirs mine (Some mid) Application Sctp name typ proto = offer_channels_shape old mine mid old.own.channels name
@@ -49,7 +49,7 @@ offer_shape_by old ready theirs mine (Some mid) (Unknown text) proto name typ p 
 offer_shape_by old ready theirs mine None typ proto name t p = rejecting_shape mine
 
 pub next_offer_shape : (old : Exchange) (ready : List SectionDirection) (theirs : Option MediaLine) (mine : MediaLine)
-    → HasShapeOf mine (next_section old ready theirs mine)
+    → HasOfferedShape mine (next_section old ready theirs mine)
 next_offer_shape old ready theirs mine = offer_shape_by old ready theirs mine (name_of mine) mine.typ mine.proto refl refl refl
 
 offer_channels_name : (old : Exchange) (mid : List ℕ) (channels : Option DataChannels)
@@ -62,7 +62,7 @@ offer_name_for : (old : Exchange) (ready : List SectionDirection) (extensions : 
 offer_name_for old ready extensions mid (added.Media kind direction) = refl
 offer_name_for old ready extensions mid added.Channels = offer_channels_name old mid old.own.channels
 
-pub new_section_name : (old : Exchange) (ready : List SectionDirection) (extensions : List MediaAttribute) (placed : Placed)
+pub new_section_name : (old : Exchange) (ready : List SectionDirection) (extensions : List MediaAttribute) (placed : AddedUnderMid)
     → name_of (new_section old ready extensions placed) ≡ Some placed.mid
 new_section_name old ready extensions placed = offer_name_for old ready extensions placed.mid placed.added
 
@@ -90,12 +90,12 @@ offer_place_kept : (old : Exchange) (ready : List SectionDirection) (at : ℕ) (
     → All (HasNewOfferPlaceName old) added → FillsPlace old ready at mine added said left → KeptOfferPlace old at mine said left
 offer_place_kept old ready at mine added said left new (inl (runs, is, same)) =
     record {
-      place = inl (subst (HasShapeOf mine) (sym is) (next_offer_shape old ready (their_section_at old.remote at) mine));
+      place = inl (subst (HasOfferedShape mine) (sym is) (next_offer_shape old ready (their_section_at old.remote at) mine));
       later = subst (All (HasNewOfferPlaceName old)) (sym same) new;
     }
 offer_place_kept old ready at mine [] said left new (inr (over, is, same)) =
     record {
-      place = inl (subst (HasShapeOf mine) (sym is) (rejecting_shape mine));
+      place = inl (subst (HasOfferedShape mine) (sym is) (rejecting_shape mine));
       later = subst (All (HasNewOfferPlaceName old)) (sym same) new;
     }
 offer_place_kept old ready at mine (x ∷ xs) said left new (inr (over, is, same)) =
@@ -177,7 +177,7 @@ offered_for old ready extensions mid (added.Media kind direction) = media_offere
 offered_for old ready extensions mid added.Channels =
     channels_offered old ready (section_with Application Sctp (media.Mid mid ∷ [])) mid old.own.channels
 
-all_offered : (old : Exchange) (ready : List SectionDirection) (extensions : List MediaAttribute) (placed : List Placed)
+all_offered : (old : Exchange) (ready : List SectionDirection) (extensions : List MediaAttribute) (placed : List AddedUnderMid)
     → All (IsOffered old ready) (map (new_section old ready extensions) placed)
 all_offered old ready extensions [] = All-nil (IsOffered old ready)
 all_offered old ready extensions (it ∷ more) =

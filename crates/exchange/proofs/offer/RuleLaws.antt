@@ -5,7 +5,7 @@ use Rattle.exchange.proofs.Common.{PayloadParams, types, first, direction_attrib
 use Rattle.exchange.proofs.Common.{Application, Unknown, Proto, Srtp, Sctp, Setup, MediaLine, Sdp, is_mid, mid_of, maps, is_of_type, made}
 use Rattle.exchange.proofs.Common.{row_attrs, section_direction, AnswersDirection, Direction}
 use Rattle.exchange.proofs.answer.OfferedLaws.{accepted_channels_offered, accepted_media_offered}
-use Rattle.exchange.specs.answer.Accepted.{AcceptsChannels, AcceptsMedia, candidate_line, first_lines, accepted_frame, layer_lines}
+use Rattle.exchange.specs.answer.Accepted.{AcceptsChannels, AcceptsMedia, candidate_line, accepted_first_lines, accepted_frame, layer_lines}
 use Rattle.exchange.specs.answer.Accepted.{media_lines}
 use Rattle.exchange.specs.answer.Accepted.{msid_lines}
 use Rattle.exchange.specs.answer.AnsweredSection.{AnswersSection, SaysSectionChoice}
@@ -16,7 +16,8 @@ use Rattle.exchange.specs.declared.answer.choice.Choice.{Choice}
 use Rattle.exchange.specs.declared.answer.choice.Choice.TheVariants.{Rejected, Media, Channels}
 use Rattle.exchange.specs.declared.state.own_side.DataChannels.{DataChannels}
 use Rattle.exchange.specs.declared.state.own_side.OwnSide.{OwnSide}
-use Rattle.exchange.specs.offer.Rules.{HasAnswerFor, HasShapeOf, IsAcceptedExactly, IsReachable, KeepsRules, SaysOnlyOffered}
+use Rattle.exchange.specs.offer.Rules.{HasAnswerFor, HasOfferedShape, IsAcceptedExactlyByRules, IsReachableByRules, KeepsRules}
+use Rattle.exchange.specs.offer.Rules.{SaysOnlyOffered}
 use Rattle.exchange.specs.section.RepeatedLines.{repeated_lines}
 use Rattle.exchange.specs.section.Stopped.{IsStopped, name_of}
 use Rattle.exchange.specs.state.OwnSide.{own_direction}
@@ -164,14 +165,15 @@ rejected_name offered =
     ∙ append-nil (filter_map mid_of (first_rejected_line is_mid offered.attrs)))
     ∙ mid_first offered.attrs
 
-pub rejecting_shape : (offered : MediaLine) → HasShapeOf offered (rejecting offered)
+pub rejecting_shape : (offered : MediaLine) → HasOfferedShape offered (rejecting offered)
 rejecting_shape offered = record { typ = refl; proto = refl; name = rejected_name offered }
 
 -- ---- sections that accept
 
 -- the direction that stands after the first lines is the section's
 pub direction_said : (own : OwnSide) (mid : List ℕ) (role : Setup) (direction : Direction) (behind rows : List MediaAttribute)
-    → section_direction (filter (λ attr. not (is_of_type attr)) (first_lines own mid role ++ (direction_attribute direction ∷ behind))
+    → section_direction (filter (λ attr. not (is_of_type attr))
+    (accepted_first_lines own mid role ++ (direction_attribute direction ∷ behind))
     ++ rows) ≡ direction
 direction_said own mid role way.SendRecv behind rows = refl
 direction_said own mid role way.SendOnly behind rows = refl
@@ -189,7 +191,7 @@ rejected_keeps : (own : OwnSide) (ours : List PayloadParams) (offer : Sdp) (offe
 rejected_keeps own ours offer offered answered is says =
     let off : answered.disabled ≡ true = ap (λ (m : MediaLine). m.disabled) says in
     record {
-      shape = subst (HasShapeOf offered) (sym says) (rejecting_shape offered);
+      shape = subst (HasOfferedShape offered) (sym says) (rejecting_shape offered);
       exactly = (
         λ on. absurd (rule_true_false answered.disabled off on),
         λ fits. absurd (not_rejected own (answered_rows ours offered) (name_of offered) offered.typ offered.proto (is.open_so fits.runs)
@@ -206,24 +208,24 @@ media_keeps own ours offer offered answered mid rows is accepts =
     let runs : IsStopped offer offered → ⊥ = λ stopped. let e : Media mid rows ≡ Rejected = is.stopped stopped in cc in
     let chosen : MediaChosen own (answered_rows ours offered) (name_of offered) offered.typ offered.proto mid rows =
     media_chosen own (answered_rows ours offered) (name_of offered) offered.typ offered.proto mid rows (is.open_so runs) in
-    let said : MediaLine = made (accepted_frame offered (first_lines own mid accepts.role
+    let said : MediaLine = made (accepted_frame offered (accepted_first_lines own mid accepts.role
     ++ media_lines own offered mid accepts.direction rows))
     rows in
-    let shape : HasShapeOf offered said = record { typ = refl; proto = refl; name = sym chosen.named_so } in
-    let reachable : IsReachable own offer offered said =
+    let shape : HasOfferedShape offered said = record { typ = refl; proto = refl; name = sym chosen.named_so } in
+    let reachable : IsReachableByRules own offer offered said =
     record { creds = refl; fingerprint = refl; role = accepts.role; says_role = refl; answers_role = accepts.answers_role } in
     let way_said : section_direction said.attrs ≡ accepts.direction = direction_said own mid accepts.role accepts.direction
     (map candidate_line own.candidates ++ repeated_lines own.extensions offered ++ msid_lines own accepts.direction mid
     ++ layer_lines own accepts.direction offered rows)
     (flat_map row_attrs rows) in
     record {
-      shape = subst (HasShapeOf offered) (sym accepts.says) shape;
+      shape = subst (HasOfferedShape offered) (sym accepts.says) shape;
       exactly = (
         λ on. record { runs = runs; named_so = rule_some_name (name_of offered) mid chosen.named_so; answerable = chosen.answerable },
         λ fits. ap (λ (m : MediaLine). m.disabled) accepts.says,
       );
       accepted = λ on. record {
-        reachable = subst (IsReachable own offer offered) (sym accepts.says) reachable;
+        reachable = subst (IsReachableByRules own offer offered) (sym accepts.says) reachable;
         flows = λ typ. subst (λ (d : Direction). AnswersDirection (section_direction offered.attrs) (own_direction own offered) d)
             (sym (ap (λ (m : MediaLine). section_direction m.attrs) accepts.says ∙ way_said)) accepts.answers_direction;
         types_are = λ typ. (ap (λ (m : MediaLine). m.pts) accepts.says ∙ ap types chosen.same, chosen.some);
@@ -240,9 +242,9 @@ rule_channels_keep own ours offer offered answered mid channels is accepts =
     let runs : IsStopped offer offered → ⊥ = λ stopped. let e : Channels mid channels ≡ Rejected = is.stopped stopped in cc in
     let chosen : RuleChannelsChosen own (answered_rows ours offered) (name_of offered) offered.typ offered.proto mid =
     rule_channels_chosen own (answered_rows ours offered) (name_of offered) offered.typ offered.proto mid channels (is.open_so runs) in
-    let shape : HasShapeOf offered answered =
-    subst (HasShapeOf offered) (sym accepts.says) (record { typ = refl; proto = refl; name = sym chosen.named_so }) in
-    let reachable : IsReachable own offer offered answered = subst (IsReachable own offer offered) (sym accepts.says)
+    let shape : HasOfferedShape offered answered =
+    subst (HasOfferedShape offered) (sym accepts.says) (record { typ = refl; proto = refl; name = sym chosen.named_so }) in
+    let reachable : IsReachableByRules own offer offered answered = subst (IsReachableByRules own offer offered) (sym accepts.says)
     (record { creds = refl; fingerprint = refl; role = accepts.role; says_role = refl; answers_role = accepts.answers_role }) in
     record {
       shape = shape;
@@ -284,14 +286,14 @@ sections_keep own ours offer answered answers =
 
 pub sections_shape : (own : OwnSide) (ours : List PayloadParams) (offer : Sdp) (answered : List MediaLine)
     → AllZip (AnswersSection own ours offer) offer.media_lines answered
-    → AllZip HasShapeOf offer.media_lines answered
+    → AllZip HasOfferedShape offer.media_lines answered
 sections_shape own ours offer answered answers =
-    rule_all_zip_weaker (AnswersSection own ours offer) HasShapeOf
+    rule_all_zip_weaker (AnswersSection own ours offer) HasOfferedShape
     (λ theirs said each. (section_keeps_rules own ours offer theirs said each).shape) offer.media_lines answered answers
 
 pub sections_exact : (own : OwnSide) (ours : List PayloadParams) (offer : Sdp) (answered : List MediaLine)
     → AllZip (AnswersSection own ours offer) offer.media_lines answered
-    → AllZip (IsAcceptedExactly own ours offer) offer.media_lines answered
+    → AllZip (IsAcceptedExactlyByRules own ours offer) offer.media_lines answered
 sections_exact own ours offer answered answers =
-    rule_all_zip_weaker (AnswersSection own ours offer) (IsAcceptedExactly own ours offer)
+    rule_all_zip_weaker (AnswersSection own ours offer) (IsAcceptedExactlyByRules own ours offer)
     (λ theirs said each. (section_keeps_rules own ours offer theirs said each).exactly) offer.media_lines answered answers

@@ -1,6 +1,6 @@
 -- One name for each outcome of a text's rounds.
 use Rattle.exchange.proofs.Common.{◌≡◌, suc, Bool, true, false, cond, List, [], ◌∷◌, Some, None, filter, filter_map, length, map, refl, sym}
-use Rattle.exchange.proofs.Common.{ap, ◌∙◌, cons_option, Round, PayloadParams, Outcome, RunReached, is_media, MediaLine, Sdp}
+use Rattle.exchange.proofs.Common.{ap, ◌∙◌, cons_option, Round, PayloadParams, OutcomeOfRound, RunReached, is_media, MediaLine, Sdp}
 use Rattle.exchange.proofs.Common.{section_direction, rows, Negotiated}
 use Rattle.exchange.specs.section.RoundNames.{has_round, negotiated_names}
 use Rattle.exchange.specs.section.Stopped.{name_of}
@@ -20,7 +20,7 @@ as_many_round_names_brought : (rounds : List Round) → length (map brought_by_r
 as_many_round_names_brought [] = refl
 as_many_round_names_brought (round ∷ rounds) = ap suc (as_many_round_names_brought rounds)
 
-rounds_ended : (before : List PayloadParams) (rounds : List Round) (outcomes : List Outcome) (after : List PayloadParams)
+rounds_ended : (before : List PayloadParams) (rounds : List Round) (outcomes : List OutcomeOfRound) (after : List PayloadParams)
     → RunReached before rounds outcomes after
     → length rounds ≡ length outcomes
 rounds_ended before [] [] after reached = refl
@@ -28,7 +28,7 @@ rounds_ended before (round ∷ rounds) (outcome ∷ outcomes) after reached = ap
 rounds_ended before [] (outcome ∷ outcomes) after reached = absurd reached
 rounds_ended before (round ∷ rounds) [] after reached = absurd reached
 
-pub one_name_each : (sdp : Sdp) (before after : List PayloadParams) (outcomes : List Outcome)
+pub one_name_each : (sdp : Sdp) (before after : List PayloadParams) (outcomes : List OutcomeOfRound)
     → Negotiated sdp.media_lines before outcomes after
     → length (negotiated_names sdp) ≡ length outcomes
 one_name_each sdp before after outcomes negotiated =

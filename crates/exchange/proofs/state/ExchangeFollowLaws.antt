@@ -9,10 +9,10 @@ use Rattle.exchange.specs.declared.offer.pending.Pending.{Pending}
 use Rattle.exchange.specs.declared.state.exchange.Exchange.{Exchange}
 use Rattle.exchange.specs.declared.state.signaling_state.SignalingState.TheVariants.{Stable}
 use Rattle.exchange.specs.offer.Names.{grown_names, new_name}
-use Rattle.exchange.specs.offer.Rules.{HasShapeOf}
+use Rattle.exchange.specs.offer.Rules.{HasOfferedShape}
 use Rattle.exchange.specs.section.Places.{FollowsPlaces, HasPlaceNameAt, IsNewPlaceName, StaysInPlace, StaysInPlaces}
 use Rattle.exchange.specs.section.Stopped.{name_of}
-use Rattle.exchange.specs.state.ExchangeFollows.{Follows, ExchangeNamesGrow, IsExchangeNameKnown, IsExchangePlacedSo, IsSound}
+use Rattle.exchange.specs.state.ExchangeFollows.{Follows, ExchangeNamesGrow, IsExchangeNameKnown, IsExchangePlacedSo, IsExchangeSound}
 use Rattle.exchange.specs.state.State.{sections_of, state_by}
 
 -- ---- names
@@ -118,7 +118,7 @@ follows_same before after names local config =
 -- ---- what an exchange leaves
 
 follows_shaped : (names : List (List ℕ)) (local : List MediaLine) (remote : Option Sdp) (at : ℕ) (m : MediaLine) (o : Option MediaLine)
-    → ((e : MediaLine) → o ≡ Some e → StaysInPlace names local remote at e) → IsSomeAnd o (λ e. HasShapeOf e m)
+    → ((e : MediaLine) → o ≡ Some e → StaysInPlace names local remote at e) → IsSomeAnd o (λ e. HasOfferedShape e m)
     → HasPlaceNameAt local at m ⊎ IsNewPlaceName names m
 follows_shaped names local remote at m None each shape = absurd shape
 follows_shaped names local remote at m (Some e) each shape = follows_place_renamed names local at m e shape.name (elim (each e refl) [
@@ -132,13 +132,14 @@ exchange_matched_some o m P is h = subst (λ (x : Option MediaLine). MatchOption
 -- an answer of the shape of an offer that keeps its places
 pub answer_follows : (names : List (List ℕ)) (local : List MediaLine) (remote : Option Sdp) (offer answer : Sdp)
     → StaysInPlaces names local remote offer
-    → AllZip HasShapeOf offer.media_lines answer.media_lines → FollowsPlaces names local answer.media_lines
+    → AllZip HasOfferedShape offer.media_lines answer.media_lines → FollowsPlaces names local answer.media_lines
 answer_follows names local remote offer answer kept shape = record {
-  as_many = omega (arith, kept.as_many, AllZip-long HasShapeOf offer.media_lines answer.media_lines shape);
+  as_many = omega (arith, kept.as_many, AllZip-long HasOfferedShape offer.media_lines answer.media_lines shape);
   each = λ at m there. follows_shaped names local remote at m (slice_get offer.media_lines at) (λ e is. kept.each at e is)
-      (exchange_matched_some (slice_get answer.media_lines at) m (λ y. IsSomeAnd (slice_get offer.media_lines at) (λ x. HasShapeOf x y))
+      (exchange_matched_some (slice_get answer.media_lines at) m
+      (λ y. IsSomeAnd (slice_get offer.media_lines at) (λ x. HasOfferedShape x y))
       there
-      (AllZip-right HasShapeOf offer.media_lines answer.media_lines shape at));
+      (AllZip-right HasOfferedShape offer.media_lines answer.media_lines shape at));
 }
 
 -- ---- names that are known
@@ -190,7 +191,7 @@ follows_known_all names sections =
 -- ---- exchanges that are done
 
 -- where the answer to the open offer is taken
-pub follows_done : (before after : Exchange) (pending : Pending) → IsSound before → before.pending ≡ Some pending
+pub follows_done : (before after : Exchange) (pending : Pending) → IsExchangeSound before → before.pending ≡ Some pending
     → after.local ≡ Some pending.sdp
     → after.names ≡ grown_names before.names pending.sdp.media_lines → length after.config.params.items ≡ length before.config.params.items
     → LockedStay before.config.params.items after.config.params.items → Follows before after
@@ -205,7 +206,7 @@ follows_done before after pending sound is local names rows stay = record {
 -- where an offer of the other side is answered
 pub follows_answer : (before after : Exchange) (offer answer : Sdp)
     → StaysInPlaces before.names (sections_of before.local) before.remote offer
-    → AllZip HasShapeOf offer.media_lines answer.media_lines → after.local ≡ Some answer
+    → AllZip HasOfferedShape offer.media_lines answer.media_lines → after.local ≡ Some answer
     → after.names ≡ grown_names before.names answer.media_lines
     → length after.config.params.items ≡ length before.config.params.items → LockedStay before.config.params.items after.config.params.items
     → Follows before after
@@ -223,7 +224,7 @@ follows_none_open None stable = refl
 follows_none_open (Some pending) stable = cc
 
 -- nothing was said yet
-pub exchange_sound_new : (exchange : Exchange) → exchange.local ≡ None → exchange.pending ≡ None → IsSound exchange
+pub exchange_sound_new : (exchange : Exchange) → exchange.local ≡ None → exchange.pending ≡ None → IsExchangeSound exchange
 exchange_sound_new exchange local none = record {
   own_names = subst (λ (o : Option Sdp). AreMidsDistinct (section_mids (sections_of o))) (sym local)
       (λ i j d lt within. absurd (omega arith));
@@ -233,7 +234,7 @@ exchange_sound_new exchange local none = record {
 }
 
 -- no two sections of an open offer have one name
-pub follows_open_names : (exchange : Exchange) (pending : Pending) → IsSound exchange → exchange.pending ≡ Some pending
+pub follows_open_names : (exchange : Exchange) (pending : Pending) → IsExchangeSound exchange → exchange.pending ≡ Some pending
     → AreMidsDistinct (section_mids pending.sdp.media_lines)
 follows_open_names exchange pending sound
     is = (subst (λ (offer : Option Pending). IfSome offer (IsExchangePlacedSo exchange)) is sound.placed).1
@@ -241,7 +242,7 @@ follows_open_names exchange pending sound
 -- an exchange that is done leaves no open offer, and knows its names
 pub exchange_sound_done : (after : Exchange) (names : List (List ℕ)) (sdp : Sdp) → AreMidsDistinct (section_mids sdp.media_lines)
     → after.local ≡ Some sdp
-    → after.names ≡ grown_names names sdp.media_lines → after.pending ≡ None → IsSound after
+    → after.names ≡ grown_names names sdp.media_lines → after.pending ≡ None → IsExchangeSound after
 exchange_sound_done after names sdp differ local named none = record {
   own_names = subst (λ (o : Option Sdp). AreMidsDistinct (section_mids (sections_of o))) (sym local) differ;
   known = subst (λ (o : Option Sdp). All (IsExchangeNameKnown after.names) (sections_of o)) (sym local)

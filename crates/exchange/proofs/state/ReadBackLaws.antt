@@ -1,6 +1,6 @@
 -- What one reading says of a description that may be read back.
 use Rattle.exchange.proofs.Common.{◌≡◌, ◌≢◌, ℕ, List, [], Option, None, Some, Result, Ok, Err, IfOk, IfSome, MatchOption, ap, subst, sym}
-use Rattle.exchange.proofs.Common.{refl, Sdp, SdpError, ParseError, Inconsistent, Memory, Reading, AtMostOne, Refuses}
+use Rattle.exchange.proofs.Common.{refl, Sdp, SdpError, ParseError, Inconsistent, Memory, Reading, AtMostOneAnswer, ReaderRefuses}
 use Rattle.exchange.specs.state.ReadBack.{IsWholeReadAs, IsReadBack}
 
 -- what a reading of the text says of the description, where one was found
@@ -9,7 +9,7 @@ TellsReadBack said text found = MatchOption found (IsReadBack said text → ⊥)
 
 -- the text has one reading: so it is read back where this one is
 pub read_back_so : (said : Sdp) (text : List ℕ) (read : Sdp) (rest : List ℕ) (found : Option Sdp) → Reading text (read, rest)
-    → AtMostOne (Reading text)
+    → AtMostOneAnswer (Reading text)
     → MatchOption found ((rest ≡ []) × IsWholeReadAs said read → ⊥) (λ whole. (whole ≡ read) × (rest ≡ []) × IsWholeReadAs said read)
     → TellsReadBack said text found
 read_back_so said text read rest None reading one lost = λ back.
@@ -34,7 +34,7 @@ read_back_alike_so said read rest (Some whole) (same, none_left, alike) = subst 
 
 -- a text that is refused has none
 pub read_back_refused_so : {E : Type 0} (said : Sdp) (text : List ℕ) (error : SdpError) (r : Result (Option Sdp) E)
-    → Refuses error (Reading text)
+    → ReaderRefuses error (Reading text)
     → IfOk r (λ found. (found ≡ None) × (error ≢ Memory)) → IfOk r (TellsReadBack said text)
 read_back_refused_so said text error (Err e) refuses told = tt
 read_back_refused_so said text (ParseError message) (Ok found) refuses told =

@@ -17,8 +17,8 @@ setup_in_force offer m = option_or (first (filter_map media_setup m.attrs)) (fir
 
 -- its name (RFC 5888, section 4), the hash of the certificate (RFC 8122, section 5), the credentials (RFC 8839, section 5.4),
 -- that candidates may follow (RFC 8840, section 4.1.3), and the role (RFC 8842, section 5.3)
-abbrev pub first_lines : OwnSide → List ℕ → Setup → List MediaAttribute
-first_lines own mid role =
+abbrev pub accepted_first_lines : OwnSide → List ℕ → Setup → List MediaAttribute
+accepted_first_lines own mid role =
     media.Mid mid ∷ (media.Fingerprint own.fingerprint ∷ (media.IceUfrag own.creds.ufrag ∷ (media.IcePwd own.creds.pass
     ∷ (media.IceOptions (codes "trickle") ∷ (media.Setup role ∷ [])))))
 
@@ -49,8 +49,8 @@ layer_lines own direction offered rows =
     if own.receives_simulcast && (receives direction && are_layers_told own.extensions offered) then answered_layers rows offered else []
 
 -- where data channels are reached (RFC 8841, sections 5 and 6)
-abbrev pub channel_lines : DataChannels → List MediaAttribute
-channel_lines channels = media.SctpPort channels.port ∷ (media.MaxMessageSize channels.max_message_size ∷ [])
+abbrev pub accepted_channel_lines : DataChannels → List MediaAttribute
+accepted_channel_lines channels = media.SctpPort channels.port ∷ (media.MaxMessageSize channels.max_message_size ∷ [])
 
 -- a section of the type and the protocol of the one that it answers, with a port (RFC 3264, section 6)
 abbrev pub accepted_frame : MediaLine → List MediaAttribute → MediaLine
@@ -69,10 +69,10 @@ pub record AcceptsMedia (own : OwnSide) (offer : Sdp) (offered : MediaLine) (mid
   pub answers_role : AnswersSetupRole (setup_in_force offer offered) role
   pub direction : Direction
   pub answers_direction : AnswersDirection (section_direction offered.attrs) (own_direction own offered) direction
-  pub says : answered ≡ made (accepted_frame offered (first_lines own mid role ++ media_lines own offered mid direction rows)) rows
+  pub says : answered ≡ made (accepted_frame offered (accepted_first_lines own mid role ++ media_lines own offered mid direction rows)) rows
 
 -- data channels are accepted under a name, in a role that answers the one that is offered
 pub record AcceptsChannels (own : OwnSide) (offer : Sdp) (offered : MediaLine) (mid : List ℕ) (channels : DataChannels) (answered : MediaLine) : Type 0 where
   pub role : Setup
   pub answers_role : AnswersSetupRole (setup_in_force offer offered) role
-  pub says : answered ≡ accepted_frame offered (first_lines own mid role ++ channel_lines channels ++ map candidate_line own.candidates)
+  pub says : answered ≡ accepted_frame offered (accepted_first_lines own mid role ++ accepted_channel_lines channels ++ map candidate_line own.candidates)

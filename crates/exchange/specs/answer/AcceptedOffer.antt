@@ -3,7 +3,7 @@ use Rattle.exchange.specs.Prelude.{AllTypesDistinct, AreMidsDistinct, IsPlain, L
 use Rattle.exchange.specs.answer.AnsweredSession.{BundlesAccepted}
 use Rattle.exchange.specs.answer.Offered.{IsOffer, NegotiatesOffer}
 use Rattle.exchange.specs.declared.state.exchange.Exchange.{Exchange}
-use Rattle.exchange.specs.offer.Rules.{HasShapeOf, IsAcceptedExactly, KeepsRules}
+use Rattle.exchange.specs.offer.Rules.{HasOfferedShape, IsAcceptedExactlyByRules, KeepsRules}
 use Rattle.exchange.specs.section.Places.{StaysInPlaces}
 use Rattle.exchange.specs.state.Exchange.{AnswersOffer}
 use Rattle.exchange.specs.state.ReadBack.{IsReadBack}
@@ -30,8 +30,8 @@ pub record IsAnsweredWith (old : Exchange) (text : List ℕ) (offer : Sdp) (afte
   pub read : IsOffer text offer
   pub different : AreMidsDistinct (section_mids offer.media_lines)
   pub placed : StaysInPlaces old.names (sections_of old.local) old.remote offer
-  pub shape : AllZip HasShapeOf offer.media_lines answer.media_lines
-  pub exactly : AllZip (IsAcceptedExactly old.own after.params.items offer) offer.media_lines answer.media_lines
+  pub shape : AllZip HasOfferedShape offer.media_lines answer.media_lines
+  pub exactly : AllZip (IsAcceptedExactlyByRules old.own after.params.items offer) offer.media_lines answer.media_lines
   pub rules : AllZip (KeepsRules old.own after.params.items offer) offer.media_lines answer.media_lines
   pub answers : AnswersOffer old.own after.params.items offer answer
   pub bundle : BundlesAccepted offer answer

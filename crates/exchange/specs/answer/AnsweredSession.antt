@@ -23,15 +23,15 @@ session_allows_mixed AllowMixedExts = true
 session_allows_mixed _ = false
 
 -- so where the offer says so
-abbrev pub mixed_lines : List SessionAttribute → List SessionAttribute
-mixed_lines offered = if list_any session_allows_mixed offered then AllowMixedExts ∷ [] else []
+abbrev pub session_mixed_lines : List SessionAttribute → List SessionAttribute
+session_mixed_lines offered = if list_any session_allows_mixed offered then AllowMixedExts ∷ [] else []
 
 -- the session's part of the answer with these sections
 abbrev pub answered_session : OwnSide → Sdp → List MediaLine → Session
 answered_session own offer answered = record {
   id = own.session_id;
   bw = None;
-  attrs = group_lines (answered_bundle offer (map is_section_accepted answered)) ++ mixed_lines offer.session.attrs;
+  attrs = group_lines (answered_bundle offer (map is_section_accepted answered)) ++ session_mixed_lines offer.session.attrs;
 }
 
 -- the answer's first `BUNDLE` group lists the accepted sections of the offer's first such group, in its order; there is no such

@@ -79,5 +79,5 @@ pub record IsTurnedLayers (offered : MediaLine) (line : MediaAttribute) : Type 0
   pub offered_so : All (Contains (sent_layers offered)) received
   pub said : line ≡ Simulcast (record { send = record { 0 = [] }; recv = record { 0 = received }; is_munged = false })
 
-abbrev pub IsTurnedLine : List PayloadParams → MediaLine → MediaAttribute → Type 0
-IsTurnedLine rows offered line = IsTurnedRid rows offered line ⊎ IsTurnedLayers offered line
+abbrev pub IsTurnedLayerLine : List PayloadParams → MediaLine → MediaAttribute → Type 0
+IsTurnedLayerLine rows offered line = IsTurnedRid rows offered line ⊎ IsTurnedLayers offered line

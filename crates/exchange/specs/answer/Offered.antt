@@ -1,5 +1,5 @@
 -- Offers that are read whole, and their rounds.
-use Rattle.exchange.specs.Prelude.{IsReading, Line, Lines, MediaLine, Outcome, PayloadParams, RunReached, Reading, Refuses, RoundsRunPromises, Sdp, is_media, rows, section_direction}
+use Rattle.exchange.specs.Prelude.{IsReading, Line, Lines, MediaLine, OutcomeOfRound, PayloadParams, RunReached, Reading, ReaderRefuses, RoundsRunPromises, Sdp, is_media, rows, section_direction}
 use Rattle.exchange.specs.declared.state.exchange_error.ExchangeError.{ExchangeError}
 use Rattle.exchange.specs.declared.state.exchange_error.ExchangeError.TheVariants.{NotRead, Unread, WrongState, DoesNotFit, NoRows, NoChannels, NoName, NotPrintable, Memory}
 use Rattle.exchange.specs.section.Stopped.{IsStopped}
@@ -23,7 +23,7 @@ pub record IsOfferedCutShort (text : List ℕ) (line : ℕ) : Type 0 where
 
 -- why a text is no offer: it describes no session, or more follows
 abbrev pub RefusesOfferedText : List ℕ → ExchangeError → Type 0
-RefusesOfferedText text (NotRead cause) = Refuses cause (Reading text)
+RefusesOfferedText text (NotRead cause) = ReaderRefuses cause (Reading text)
 RefusesOfferedText text (Unread line content) = IsOfferedCutShort text line
 RefusesOfferedText text (WrongState state) = ⊥
 RefusesOfferedText text (DoesNotFit section broken) = ⊥
@@ -54,6 +54,6 @@ AreOfferRounds offer (m ∷ ms) rounds =
 pub record NegotiatesOffer (offer : Sdp) (before after : List PayloadParams) : Type 0 where
   pub rounds : List Round
   pub rounds_are : AreOfferRounds offer offer.media_lines rounds
-  pub outcomes : List Outcome
+  pub outcomes : List OutcomeOfRound
   pub reached : RunReached before rounds outcomes after
   pub promises : RoundsRunPromises before rounds outcomes after

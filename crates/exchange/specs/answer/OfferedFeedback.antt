@@ -1,6 +1,6 @@
 -- The feedback that a section offers for a payload type (RFC 4585, section 4.2).
 use Rattle.exchange.specs.Prelude.{MediaAttribute, MediaLine}
-use Rattle.exchange.specs.answer.Rows.{is_offered, feedback_value_of_all}
+use Rattle.exchange.specs.answer.Rows.{is_offered, row_feedback_value_of_all}
 use Rattle.exchange.specs.declared.answer.offered_feedback.OfferedFeedback.{OfferedFeedback}
 use Rattle.exchange.specs.declared.answer.offered_feedback.SectionFeedback.{SectionFeedback}
 use Rattle.std.specs.Prelude.{◌≡◌, ◌<◌, ◌||◌, ℕ, Bool, false, List, Option, Some, None, bytes_eq, get_or, length}
@@ -9,7 +9,7 @@ use Rattle.str0m_sdp.specs.declared.label.TheConstants.{TRANSPORT_CC, REMB, FIR,
 
 -- the value of a line that offers feedback for all types
 abbrev pub feedback_for_all : MediaAttribute → Option (List ℕ)
-feedback_for_all (Unused text) = feedback_value_of_all text
+feedback_for_all (Unused text) = row_feedback_value_of_all text
 feedback_for_all _ = None
 
 -- the feedback whose values pass

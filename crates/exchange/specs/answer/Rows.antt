@@ -12,17 +12,17 @@ use Rattle.str0m_values.specs.declared.media_kind.MediaKind.TheVariants as kind
 -- ---- what a section offers
 
 -- the value of an rtcp-fb line of all types, which is kept unread
-abbrev pub feedback_value_of_all : List ℕ → Option (List ℕ)
-feedback_value_of_all text = strip (codes "rtcp-fb:* ") text
+abbrev pub row_feedback_value_of_all : List ℕ → Option (List ℕ)
+row_feedback_value_of_all text = strip (codes "rtcp-fb:* ") text
 
-abbrev pub is_this_feedback_value : List ℕ → Option (List ℕ) → Bool
-is_this_feedback_value words (Some others) = bytes_eq others words
-is_this_feedback_value words None = false
+abbrev pub is_row_feedback_value : List ℕ → Option (List ℕ) → Bool
+is_row_feedback_value words (Some others) = bytes_eq others words
+is_row_feedback_value words None = false
 
 -- an rtcp-fb line with this value, of the type or of all types (RFC 4585, section 4.2)
 abbrev pub offers : ℕ → List ℕ → MediaAttribute → Bool
 offers pt words (RtcpFb n value) = n == pt && bytes_eq value words
-offers pt words (Unused text) = is_this_feedback_value words (feedback_value_of_all text)
+offers pt words (Unused text) = is_row_feedback_value words (row_feedback_value_of_all text)
 offers pt words _ = false
 
 unfoldable pub is_offered : List MediaAttribute → ℕ → List ℕ → Bool

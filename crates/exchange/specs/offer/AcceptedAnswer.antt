@@ -1,7 +1,7 @@
 -- Answers to an offer of this side.
 use Rattle.exchange.specs.Prelude.{AllTypesDistinct, IsPlain, LockedStay, PayloadParams, Reading, Sdp, types}
 use Rattle.exchange.specs.answer.Offered.{NegotiatesOffer, RefusesOfferedText}
-use Rattle.exchange.specs.declared.offer.added.Placed.{Placed}
+use Rattle.exchange.specs.declared.offer.added.AddedUnderMid.{AddedUnderMid}
 use Rattle.exchange.specs.declared.offer.pending.Pending.{Pending}
 use Rattle.exchange.specs.declared.offer.rule.Rule.{Rule}
 use Rattle.exchange.specs.declared.state.exchange.Exchange.{Exchange}
@@ -24,11 +24,11 @@ RefusesOfferFit ours offer answer Memory = Unit {0}
 RefusesOfferFit ours offer answer _ = ⊥
 
 -- what an open offer places
-abbrev pub placed_by_offer : Option Pending → List Placed
+abbrev pub placed_by_offer : Option Pending → List AddedUnderMid
 placed_by_offer None = []
 placed_by_offer (Some pending) = pending.placed
 
-abbrev pub offer_placed_of : Exchange → List Placed
+abbrev pub offer_placed_of : Exchange → List AddedUnderMid
 offer_placed_of exchange = placed_by_offer exchange.pending
 
 -- the answer that the text is doesn't fit the open offer, where its rounds lead to some rows

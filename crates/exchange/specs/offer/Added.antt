@@ -2,18 +2,18 @@
 use Rattle.exchange.specs.Prelude.{Direction, MediaKind}
 use Rattle.exchange.specs.declared.offer.added.Added.{Added}
 use Rattle.exchange.specs.declared.offer.added.Added.TheVariants.{Media, Channels}
-use Rattle.exchange.specs.declared.offer.added.Placed.{Placed}
+use Rattle.exchange.specs.declared.offer.added.AddedUnderMid.{AddedUnderMid}
 use Rattle.exchange.specs.declared.state.exchange.Exchange.{Exchange}
 use Rattle.exchange.specs.declared.state.own_side.SectionDirection.{SectionDirection}
 use Rattle.std.specs.Prelude.{ℕ, List, [], ◌∷◌, ◌++◌, Option, Some, None, filter_map, map}
 
 -- what was added, in order, each under its name
-abbrev pub offer_placed_under : List (List ℕ) → List Added → List Placed
+abbrev pub offer_placed_under : List (List ℕ) → List Added → List AddedUnderMid
 offer_placed_under [] added = []
 offer_placed_under (mid ∷ mids) [] = []
 offer_placed_under (mid ∷ mids) (first ∷ more) = record { mid = mid; added = first } ∷ offer_placed_under mids more
 
-abbrev pub added_names_of : List Placed → List (List ℕ)
+abbrev pub added_names_of : List AddedUnderMid → List (List ℕ)
 added_names_of placed = map (λ it. it.mid) placed
 
 -- what media was added for, in the section of that name
@@ -21,11 +21,11 @@ abbrev pub direction_under : List ℕ → Added → Option SectionDirection
 direction_under mid (Media kind direction) = Some (record { mid = mid; direction = direction })
 direction_under mid Channels = None
 
-abbrev pub placed_direction : Placed → Option SectionDirection
+abbrev pub placed_direction : AddedUnderMid → Option SectionDirection
 placed_direction placed = direction_under placed.mid placed.added
 
 -- after what this side is ready for in other sections
-abbrev pub with_offer_placed : List SectionDirection → List Placed → List SectionDirection
+abbrev pub with_offer_placed : List SectionDirection → List AddedUnderMid → List SectionDirection
 with_offer_placed entries placed = entries ++ filter_map placed_direction placed
 
 -- ---- an exchange to which something is added

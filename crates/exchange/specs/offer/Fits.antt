@@ -7,7 +7,7 @@ use Rattle.exchange.specs.answer.TurnedLayers.{TurnsLayers}
 use Rattle.exchange.specs.declared.offer.rule.Rule.{Rule}
 use Rattle.exchange.specs.declared.offer.rule.Rule.TheVariants as rule
 use Rattle.exchange.specs.offer.Rules.{SaysOnlyOffered}
-use Rattle.exchange.specs.section.Reached.{has_creds, has_fingerprint}
+use Rattle.exchange.specs.section.Reached.{section_has_creds, has_fingerprint}
 use Rattle.exchange.specs.section.Stopped.{name_of}
 use Rattle.std.specs.Prelude.{◌≡◌, ◌≢◌, ◌<◌, ◌⊎◌, ℕ, true, false, cond, List, [], ◌∷◌, Option, Some, None, All, filter_map, length, take, slice_get}
 use Rattle.str0m_sdp.specs.declared.attribute.setup.Setup.TheVariants.{ActPass}
@@ -36,7 +36,7 @@ KeepsRule ours answer offered answered rule.Role = FitsIfAccepted answered (setu
 KeepsRule ours answer offered answered rule.Formats = FitsIfAccepted answered (is_media answered.typ ≡ true → answered_rows ours answered ≢ [])
 KeepsRule ours answer offered answered rule.Lines = FitsIfAccepted answered (SaysOnlyOffered offered answered)
 KeepsRule ours answer offered answered rule.Layers = FitsIfAccepted answered (TurnsLayers offered answered)
-KeepsRule ours answer offered answered rule.Credentials = FitsIfAccepted answered (is_so_in_bundle (has_creds answer.session) answer answered ≡ true)
+KeepsRule ours answer offered answered rule.Credentials = FitsIfAccepted answered (is_so_in_bundle (section_has_creds answer.session) answer answered ≡ true)
 KeepsRule ours answer offered answered rule.Fingerprint = FitsIfAccepted answered (is_so_in_bundle (has_fingerprint answer.session) answer answered ≡ true)
 -- those of the whole answer and of later offers ask nothing of a section by itself
 KeepsRule ours answer offered answered rule.Sections = Unit {0}

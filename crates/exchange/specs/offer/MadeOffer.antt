@@ -1,8 +1,8 @@
 -- The offer that this side makes (RFC 3264, section 8; RFC 8829, section 5.2).
 use Rattle.exchange.specs.Prelude.{MediaLine, Sdp, Session}
-use Rattle.exchange.specs.answer.AnsweredSession.{group_lines, is_section_accepted, mixed_lines}
+use Rattle.exchange.specs.answer.AnsweredSession.{group_lines, is_section_accepted, session_mixed_lines}
 use Rattle.exchange.specs.answer.Bundle.{answered_bundle_names}
-use Rattle.exchange.specs.declared.offer.added.Placed.{Placed}
+use Rattle.exchange.specs.declared.offer.added.AddedUnderMid.{AddedUnderMid}
 use Rattle.exchange.specs.declared.state.exchange.Exchange.{Exchange}
 use Rattle.exchange.specs.declared.state.own_side.SectionDirection.{SectionDirection}
 use Rattle.exchange.specs.offer.Added.{offer_placed_under, with_offer_placed}
@@ -13,7 +13,7 @@ use Rattle.exchange.specs.state.State.{sections_of, session_of}
 use Rattle.std.specs.Prelude.{◌≡◌, ℕ, List, ◌++◌, None, map}
 
 -- what was added, under these names
-abbrev pub offer_placed_as : Exchange → List (List ℕ) → List Placed
+abbrev pub offer_placed_as : Exchange → List (List ℕ) → List AddedUnderMid
 offer_placed_as old names = offer_placed_under names old.added
 
 -- what this side is ready for, with that of what is added
@@ -34,7 +34,7 @@ abbrev pub offer_session : Exchange → List MediaLine → Session
 offer_session old sections = record {
   id = old.own.session_id;
   bw = None;
-  attrs = group_lines (bundled_names sections) ++ mixed_lines (session_of old.local);
+  attrs = group_lines (bundled_names sections) ++ session_mixed_lines (session_of old.local);
 }
 
 -- the description offers what was added, under these names, and what goes on of the last exchange

@@ -44,10 +44,10 @@ abbrev pub extension_line : List ℕ → ℕ → MediaAttribute
 extension_line uri number = ExtMap number (record { uri = uri; serialized = true })
 
 -- the lines of the extensions that this side knows, as far as there are numbers
-abbrev pub numbered_ext_lines : List MediaLine → ℕ → List (List ℕ) → List MediaAttribute
-numbered_ext_lines said last [] = []
-numbered_ext_lines said last (uri ∷ uris) =
-    option_to_list (option_map (extension_line uri) (extension_number_for said last uri)) ++ numbered_ext_lines said (last_extension_number last (extension_number_for said last uri)) uris
+abbrev pub numbered_extension_lines : List MediaLine → ℕ → List (List ℕ) → List MediaAttribute
+numbered_extension_lines said last [] = []
+numbered_extension_lines said last (uri ∷ uris) =
+    option_to_list (option_map (extension_line uri) (extension_number_for said last uri)) ++ numbered_extension_lines said (last_extension_number last (extension_number_for said last uri)) uris
 
 abbrev pub extension_lines : List MediaLine → List (List ℕ) → List MediaAttribute
-extension_lines said known = numbered_ext_lines said (greatest_extension_in 0 said) known
+extension_lines said known = numbered_extension_lines said (greatest_extension_in 0 said) known

@@ -6,12 +6,12 @@ use Rattle.exchange.specs.declared.state.own_side.SectionDirection.{SectionDirec
 use Rattle.exchange.specs.declared.state.signaling_state.SignalingState.TheVariants.{Stable}
 use Rattle.exchange.specs.offer.FreshNames.{AreFresh}
 use Rattle.exchange.specs.offer.MadeOffer.{MakesOffer, offer_ready_with}
-use Rattle.exchange.specs.offer.Rules.{HasShapeOf}
+use Rattle.exchange.specs.offer.Rules.{HasOfferedShape}
 use Rattle.exchange.specs.section.Places.{FollowsPlaces, IsPlaceOver}
 use Rattle.exchange.specs.section.Stopped.{name_of}
 use Rattle.exchange.specs.state.OwnSide.{direction_among}
 use Rattle.exchange.specs.state.ReadBack.{IsReadBack}
-use Rattle.exchange.specs.state.State.{sections_of, state_of, taken_names}
+use Rattle.exchange.specs.state.State.{sections_of, state_of, exchange_taken_names}
 use Rattle.std.specs.Prelude.{All, ◌≡◌, ◌⊎◌, ◌+◌, ℕ, true, false, List, [], ◌∷◌, Some, MatchOption, filter_map, length}
 use Rattle.str0m_sdp.specs.declared.attribute.media_type.MediaType.TheVariants.{Audio, Video}
 use Rattle.str0m_sdp.specs.declared.attribute.setup.Setup.TheVariants.{ActPass}
@@ -21,7 +21,7 @@ use Rattle.str0m_values.specs.declared.media_kind.MediaKind.TheVariants as kind
 
 -- a name that no section of the session has had
 abbrev pub IsNewOfferName : Exchange → List ℕ → Type 0
-IsNewOfferName old name = is_group_listed (taken_names old) (Some name) ≡ false
+IsNewOfferName old name = is_group_listed (exchange_taken_names old) (Some name) ≡ false
 
 abbrev pub HasNewOfferPlaceName : Exchange → MediaLine → Type 0
 HasNewOfferPlaceName old m = MatchOption (name_of m) ⊥ (IsNewOfferName old)
@@ -29,7 +29,7 @@ HasNewOfferPlaceName old m = MatchOption (name_of m) ⊥ (IsNewOfferName old)
 -- an earlier section has its place, with its type, protocol and name; or the place is over, and has a new one (RFC 3264, section 8;
 -- RFC 8829, section 5.2.2)
 abbrev pub KeepsOfferPlace : Exchange → ℕ → MediaLine → MediaLine → Type 0
-KeepsOfferPlace old at mine said = HasShapeOf mine said ⊎ (IsPlaceOver old.remote at mine × HasNewOfferPlaceName old said)
+KeepsOfferPlace old at mine said = HasOfferedShape mine said ⊎ (IsPlaceOver old.remote at mine × HasNewOfferPlaceName old said)
 
 -- each place from one on, and there may be more after them
 abbrev pub KeepsOfferPlaces : Exchange → ℕ → List MediaLine → List MediaLine → Type 0
@@ -63,7 +63,7 @@ IsOffered old ready m = m.disabled ≡ false → KeepsOffered old ready m
 -- this side makes the offer, which keeps the rules beside the last exchange, and is read back whole
 pub record IsOfferedWith (old : Exchange) (offer : Offer) : Type 0 where
   pub stable : state_of old ≡ Stable
-  pub names : (to : ℕ) × AreFresh (taken_names old) 0 offer.added to
+  pub names : (to : ℕ) × AreFresh (exchange_taken_names old) 0 offer.added to
   pub as_many : length offer.added ≡ length old.added
   pub new : All (IsNewOfferName old) offer.added
   pub says : MakesOffer old offer.added offer.sdp

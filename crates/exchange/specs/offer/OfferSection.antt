@@ -1,10 +1,10 @@
 -- The sections of an offer of this side (RFC 8829, sections 5.2.1 and 5.2.2).
 use Rattle.exchange.specs.Prelude.{Direction, MediaAttribute, MediaKind, MediaLine, MediaType, Proto, direction_attribute, kind_rows, made}
-use Rattle.exchange.specs.answer.Accepted.{candidate_line, channel_lines, first_lines, msid_lines}
+use Rattle.exchange.specs.answer.Accepted.{candidate_line, accepted_channel_lines, accepted_first_lines, msid_lines}
 use Rattle.exchange.specs.answer.RejectedSection.{rejecting}
 use Rattle.exchange.specs.declared.offer.added.Added.{Added}
 use Rattle.exchange.specs.declared.offer.added.Added.TheVariants as added
-use Rattle.exchange.specs.declared.offer.added.Placed.{Placed}
+use Rattle.exchange.specs.declared.offer.added.AddedUnderMid.{AddedUnderMid}
 use Rattle.exchange.specs.declared.state.exchange.Exchange.{Exchange}
 use Rattle.exchange.specs.declared.state.own_side.DataChannels.{DataChannels}
 use Rattle.exchange.specs.declared.state.own_side.OwnSide.{OwnSide}
@@ -32,20 +32,20 @@ offer_type_of_kind kind.Video = Video
 
 -- what media says but for its rows, after its name and its transport: its direction, where this side is reached, what both
 -- sides have to agree on, and its track
-abbrev pub flow_lines : OwnSide → List ℕ → Direction → List MediaAttribute → List MediaAttribute
-flow_lines own mid direction asked = direction_attribute direction ∷ [] ++ map candidate_line own.candidates ++ asked ++ msid_lines own direction mid
+abbrev pub offer_flow_lines : OwnSide → List ℕ → Direction → List MediaAttribute → List MediaAttribute
+offer_flow_lines own mid direction asked = direction_attribute direction ∷ [] ++ map candidate_line own.candidates ++ asked ++ msid_lines own direction mid
 
 -- media over RTP, in any role, with the rows of its kind, in the direction that these entries say this side is ready for
 abbrev pub offered_media : Exchange → List SectionDirection → MediaKind → List ℕ → List MediaAttribute → MediaLine
 offered_media old ready kind mid asked =
-    made (section_with (offer_type_of_kind kind) Srtp (first_lines old.own mid ActPass
-    ++ flow_lines old.own mid (direction_among old.own ready (Some mid) (offer_type_of_kind kind)) asked)) (kind_rows kind true old.config.params.items)
+    made (section_with (offer_type_of_kind kind) Srtp (accepted_first_lines old.own mid ActPass
+    ++ offer_flow_lines old.own mid (direction_among old.own ready (Some mid) (offer_type_of_kind kind)) asked)) (kind_rows kind true old.config.params.items)
 
 -- data channels over SCTP, in any role; a side that takes none rejects them
 abbrev pub offered_channels : OwnSide → MediaLine → List ℕ → Option DataChannels → MediaLine
 offered_channels own instead mid None = rejecting instead
 offered_channels own instead mid (Some channels) =
-    section_with Application Sctp (first_lines own mid ActPass ++ channel_lines channels ++ map candidate_line own.candidates)
+    section_with Application Sctp (accepted_first_lines own mid ActPass ++ accepted_channel_lines channels ++ map candidate_line own.candidates)
 
 -- ---- what is added
 
@@ -57,7 +57,7 @@ abbrev pub section_for : Exchange → List SectionDirection → List MediaAttrib
 section_for old ready extensions mid (added.Media kind direction) = offered_media old ready kind mid (asked_section_lines extensions)
 section_for old ready extensions mid added.Channels = offered_channels old.own (section_with Application Sctp (media.Mid mid ∷ [])) mid old.own.channels
 
-abbrev pub new_section : Exchange → List SectionDirection → List MediaAttribute → Placed → MediaLine
+abbrev pub new_section : Exchange → List SectionDirection → List MediaAttribute → AddedUnderMid → MediaLine
 new_section old ready extensions placed = section_for old ready extensions placed.mid placed.added
 
 -- ---- what goes on

@@ -11,7 +11,7 @@ use Rattle.str0m_sdp.specs.declared.attribute.media_type.MediaType.TheVariants.{
 use Rattle.str0m_sdp.specs.declared.attribute.proto.Proto.TheVariants.{Srtp, Sctp}
 
 -- the type, the protocol and the name of the offered one (RFC 3264, section 6; RFC 8829, section 5.3.1)
-pub record HasShapeOf (offered answered : MediaLine) : Type 0 where
+pub record HasOfferedShape (offered answered : MediaLine) : Type 0 where
   pub typ : answered.typ ≡ offered.typ
   pub proto : answered.proto ≡ offered.proto
   pub name : name_of answered ≡ name_of offered
@@ -24,18 +24,18 @@ HasAnswerFor own rows Application Sctp = own.channels ≢ None
 HasAnswerFor own rows _ _ = ⊥
 
 -- a section is accepted that isn't stopped, has a name, and that this side has something for (RFC 3264, sections 6 and 8.2)
-pub record IsAcceptable (own : OwnSide) (ours : List PayloadParams) (offer : Sdp) (offered : MediaLine) : Type 0 where
+pub record IsAcceptableByRules (own : OwnSide) (ours : List PayloadParams) (offer : Sdp) (offered : MediaLine) : Type 0 where
   pub runs : IsStopped offer offered → ⊥
   pub named_so : name_of offered ≢ None
   pub answerable : HasAnswerFor own (answered_rows ours offered) offered.typ offered.proto
 
 -- accepted, by its port, exactly where it is acceptable
-abbrev pub IsAcceptedExactly : OwnSide → List PayloadParams → Sdp → MediaLine → MediaLine → Type 0
-IsAcceptedExactly own ours offer offered answered = (answered.disabled ≡ false) ↔ IsAcceptable own ours offer offered
+abbrev pub IsAcceptedExactlyByRules : OwnSide → List PayloadParams → Sdp → MediaLine → MediaLine → Type 0
+IsAcceptedExactlyByRules own ours offer offered answered = (answered.disabled ≡ false) ↔ IsAcceptableByRules own ours offer offered
 
 -- it says what its transport needs: this side's credentials (RFC 8839, section 5.4), its fingerprint (RFC 8122, section 5), and a
 -- role that answers the one in force (RFC 8842, section 5.3)
-pub record IsReachable (own : OwnSide) (offer : Sdp) (offered answered : MediaLine) : Type 0 where
+pub record IsReachableByRules (own : OwnSide) (offer : Sdp) (offered answered : MediaLine) : Type 0 where
   pub creds : media_creds answered.attrs ≡ Some own.creds
   pub fingerprint : first (filter_map media_fingerprint answered.attrs) ≡ Some own.fingerprint
   pub role : Setup
@@ -43,8 +43,8 @@ pub record IsReachable (own : OwnSide) (offer : Sdp) (offered answered : MediaLi
   pub answers_role : AnswersSetupRole (setup_in_force offer offered) role
 
 -- media flows where both sides are ready for it (RFC 3264, section 6.1)
-abbrev pub FlowsSo : OwnSide → MediaLine → MediaLine → Type 0
-FlowsSo own offered answered =
+abbrev pub FlowsByRules : OwnSide → MediaLine → MediaLine → Type 0
+FlowsByRules own offered answered =
     AnswersDirection (section_direction offered.attrs) (own_direction own offered) (section_direction answered.attrs)
 
 -- one port for RTP and RTCP (RFC 5761, section 5.1.1), RTCP of reduced size (RFC 5506, section 5), and header extensions (RFC
@@ -60,14 +60,14 @@ SaysOnlyOffered offered answered = All (λ line. needs_offer line ≡ true → C
 
 -- the rules of an accepted section
 pub record KeepsAcceptedRules (own : OwnSide) (ours : List PayloadParams) (offer : Sdp) (offered answered : MediaLine) : Type 0 where
-  pub reachable : IsReachable own offer offered answered
-  pub flows : is_media offered.typ ≡ true → FlowsSo own offered answered
+  pub reachable : IsReachableByRules own offer offered answered
+  pub flows : is_media offered.typ ≡ true → FlowsByRules own offered answered
   -- the rows that answer it stand in its m-line, in order, and there is one (RFC 3264, section 6.1)
   pub types_are : is_media offered.typ ≡ true → (answered.pts ≡ types (answered_rows ours offered)) × (answered_rows ours offered ≢ [])
   pub offered_so : SaysOnlyOffered offered answered
 
 -- the rules of each section
 pub record KeepsRules (own : OwnSide) (ours : List PayloadParams) (offer : Sdp) (offered answered : MediaLine) : Type 0 where
-  pub shape : HasShapeOf offered answered
-  pub exactly : IsAcceptedExactly own ours offer offered answered
+  pub shape : HasOfferedShape offered answered
+  pub exactly : IsAcceptedExactlyByRules own ours offer offered answered
   pub accepted : answered.disabled ≡ false → KeepsAcceptedRules own ours offer offered answered

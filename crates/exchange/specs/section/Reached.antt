@@ -36,8 +36,8 @@ abbrev pub section_has_pwd : Session → MediaLine → Bool
 section_has_pwd session m = list_any is_section_pwd m.attrs || list_any is_session_pwd session.attrs
 
 -- credentials are in force (RFC 8839, section 5.4)
-abbrev pub has_creds : Session → MediaLine → Bool
-has_creds session m = section_has_ufrag session m && section_has_pwd session m
+abbrev pub section_has_creds : Session → MediaLine → Bool
+section_has_creds session m = section_has_ufrag session m && section_has_pwd session m
 
 -- a fingerprint is in force (RFC 8122, section 5)
 abbrev pub has_fingerprint : Session → MediaLine → Bool

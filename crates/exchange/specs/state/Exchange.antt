@@ -15,7 +15,7 @@ use Rattle.exchange.specs.offer.MadeOffer.{MakesOffer}
 use Rattle.exchange.specs.offer.OwnNames.{IsNamedAgain}
 use Rattle.exchange.specs.section.Places.{MovesPlaceAt}
 use Rattle.exchange.specs.state.ReadBack.{IsReadBack}
-use Rattle.exchange.specs.state.State.{sections_of, state_of, taken_names}
+use Rattle.exchange.specs.state.State.{sections_of, state_of, exchange_taken_names}
 use Rattle.std.specs.List.{AllZip}
 use Rattle.std.specs.Prelude.{◌≡◌, ◌≢◌, ℕ, true, List, [], Option, None, IsSomeAnd, length}
 
@@ -41,7 +41,7 @@ RefusesToAnswer exchange ours offer Memory = Unit {0}
 RefusesToAnswer exchange ours offer _ = ⊥
 
 -- some answer to the text isn't read back
-pub record IsNotReadBack (old : Exchange) (text : List ℕ) : Type 0 where
+pub record IsExchangeAnswerLost (old : Exchange) (text : List ℕ) : Type 0 where
   pub offer : Sdp
   pub is_offer : IsOffer text offer
   pub ours : List PayloadParams
@@ -77,7 +77,7 @@ RefusesOffer old text (DoesNotFit section broken) = IsExchangeRefusedAt old text
 RefusesOffer old text NoRows = ⊥
 RefusesOffer old text NoChannels = ⊥
 RefusesOffer old text NoName = ⊥
-RefusesOffer old text NotPrintable = IsNotReadBack old text
+RefusesOffer old text NotPrintable = IsExchangeAnswerLost old text
 RefusesOffer old text Memory = Unit {0}
 
 -- why media isn't added
@@ -96,7 +96,7 @@ ExchangeRefusesChannels old _ = ⊥
 pub record IsLostOffer (old : Exchange) : Type 0 where
   pub names : List (List ℕ)
   pub to : ℕ
-  pub are_fresh : AreFresh (taken_names old) 0 names to
+  pub are_fresh : AreFresh (exchange_taken_names old) 0 names to
   pub as_many : length names ≡ length old.added
   pub offer : Sdp
   pub makes : MakesOffer old names offer
@@ -105,7 +105,7 @@ pub record IsLostOffer (old : Exchange) : Type 0 where
 -- why no offer is made
 abbrev pub RefusesToOffer : Exchange → ExchangeError → Type 0
 RefusesToOffer old (WrongState state) = (state ≡ state_of old) × (state ≢ Stable)
-RefusesToOffer old NoName = AreFreshNamesTooFew (taken_names old) (length old.added)
+RefusesToOffer old NoName = AreFreshNamesTooFew (exchange_taken_names old) (length old.added)
 RefusesToOffer old NotPrintable = IsLostOffer old
 RefusesToOffer old Memory = Unit {0}
 RefusesToOffer old _ = ⊥

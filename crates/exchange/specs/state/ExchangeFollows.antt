@@ -30,7 +30,7 @@ IsExchangePlacedSo exchange pending =
 
 -- what holds of each exchange from the first call on: no two of its sections have one name, it knows those names, and an open
 -- offer of this side moves no section
-pub record IsSound (exchange : Exchange) : Type 0 where
+pub record IsExchangeSound (exchange : Exchange) : Type 0 where
   pub own_names : AreMidsDistinct (section_mids (sections_of exchange.local))
   pub known : All (IsExchangeNameKnown exchange.names) (sections_of exchange.local)
   pub placed : IfSome exchange.pending (IsExchangePlacedSo exchange)

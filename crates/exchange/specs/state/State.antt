@@ -28,5 +28,5 @@ session_of None = []
 session_of (Some sdp) = sdp.session.attrs
 
 -- the names that sections of the session have, or have had
-abbrev pub taken_names : Exchange → List (List ℕ)
-taken_names exchange = section_mids (sections_of exchange.local) ++ exchange.names
+abbrev pub exchange_taken_names : Exchange → List (List ℕ)
+exchange_taken_names exchange = section_mids (sections_of exchange.local) ++ exchange.names

@@ -1,6 +1,6 @@
 //! Sections that accept.
 ghost use Rattle.exchange.specs.Prelude.{is_of_type, made, row_attrs, types, types_of};
-ghost use Rattle.exchange.specs.answer.Accepted.{AcceptsChannels, AcceptsMedia, are_layers_told, candidate_line, channel_lines, first_lines, accepted_frame, layer_lines, media_lines, msid_lines, setup_in_force, tells_layer, track_id};
+ghost use Rattle.exchange.specs.answer.Accepted.{AcceptsChannels, AcceptsMedia, are_layers_told, candidate_line, accepted_channel_lines, accepted_first_lines, accepted_frame, layer_lines, media_lines, msid_lines, setup_in_force, tells_layer, track_id};
 ghost use Rattle.std.specs.Prelude.{◌≡◌, ◌++◌, IfOk, OnOk, filter, map, not, flat_map};
 
 use crate::answer::layers::answered_layers;
@@ -27,13 +27,13 @@ pub(crate) fn setup_in_force(offer: &Sdp, section: &MediaLine) -> Option<Setup>
 
 /// The lines that each accepted section begins with: its name, and how its transport is reached. Each has all of
 /// them, since Firefox 153 ends where a section of a bundle has no fingerprint.
-pub(crate) fn first_lines(
+pub(crate) fn accepted_first_lines(
     alloc: Global,
     own: &OwnSide,
     mid: Mid,
     role: Setup,
 ) -> Result<Vec<MediaAttribute>, AllocError>
-    ensures { IfOk result (λ lines. lines.items ≡ first_lines own.now mid role) }
+    ensures { IfOk result (λ lines. lines.items ≡ accepted_first_lines own.now mid role) }
 {
     let creds = own.creds.clone()?;
     let fingerprint = own.fingerprint.clone()?;
@@ -132,11 +132,11 @@ fn layer_lines(
     Ok(Vec::new(alloc))
 }
 
-pub(crate) fn channel_lines(
+pub(crate) fn accepted_channel_lines(
     alloc: Global,
     channels: DataChannels,
 ) -> Result<Vec<MediaAttribute>, AllocError>
-    ensures { IfOk result (λ lines. lines.items ≡ channel_lines channels) }
+    ensures { IfOk result (λ lines. lines.items ≡ accepted_channel_lines channels) }
 {
     let lines = vec![in alloc;
         MediaAttribute::SctpPort(channels.port),
@@ -263,7 +263,7 @@ pub(crate) fn accepted_media(
 {
     let role = Setup::answer(setup_in_force(offer, offered));
     let direction = offered.direction().answer(own.direction_for(offered));
-    let mut lines = first_lines(alloc, own, mid, role)?;
+    let mut lines = accepted_first_lines(alloc, own, mid, role)?;
     lines.reserve(likely_accepted_lines(own, offered))?;
     push_media(&mut lines, own, offered, mid, direction, rows)?;
     made(alloc, offered, lines, rows)
@@ -281,8 +281,8 @@ pub(crate) fn accepted_channels(
     ensures { IfOk result (AcceptsChannels own.now offer.now offered.now mid channels) }
 {
     let role = Setup::answer(setup_in_force(offer, offered));
-    let mut lines = first_lines(alloc, own, mid, role)?;
-    lines.append(&mut channel_lines(alloc, channels)?)?;
+    let mut lines = accepted_first_lines(alloc, own, mid, role)?;
+    lines.append(&mut accepted_channel_lines(alloc, channels)?)?;
     push_candidates(&mut lines, own)?;
     accepted_frame(alloc, offered, lines)
 }

@@ -5,10 +5,10 @@ ghost use Rattle.exchange.specs.answer.AnsweredSession.{BundlesAccepted};
 ghost use Rattle.exchange.specs.answer.Offered.{AreOfferRounds, IsOffer, NegotiatesOffer};
 ghost use Rattle.exchange.specs.declared.state.signaling_state.SignalingState.TheVariants.{Stable};
 ghost use Rattle.exchange.specs.offer.Names.{grown_names};
-ghost use Rattle.exchange.specs.offer.Rules.{HasShapeOf, IsAcceptedExactly, KeepsRules};
+ghost use Rattle.exchange.specs.offer.Rules.{HasOfferedShape, IsAcceptedExactlyByRules, KeepsRules};
 ghost use Rattle.exchange.specs.section.Places.{StaysInPlaces};
 ghost use Rattle.exchange.specs.state.Exchange.{AnswersOffer, EachSection, RefusesOffer, RefusesSections, RefusesToAnswer};
-ghost use Rattle.exchange.specs.state.ExchangeFollows.{Follows, IsSound};
+ghost use Rattle.exchange.specs.state.ExchangeFollows.{Follows, IsExchangeSound};
 ghost use Rattle.exchange.specs.state.ReadBack.{IsReadBack};
 ghost use Rattle.exchange.specs.state.State.{sections_of, state_of};
 ghost use Rattle.std.specs.List.{AllZip};
@@ -22,7 +22,9 @@ use crate::offer::names::grown_names;
 use crate::offer::own_names::first_named_again;
 use crate::offer::rule::Rule;
 use crate::section::places::{first_moved_place, sections_of};
-use crate::state::exchange::{Exchange, negotiated_by, next_exchange_version, read_back_copy};
+use crate::state::exchange::{
+    Exchange, exchange_copy_read_back, negotiated_by, next_exchange_version,
+};
 use crate::state::exchange_error::ExchangeError;
 use crate::state::own_side::OwnSide;
 use std::alloc::{AllocError, Global};
@@ -52,8 +54,8 @@ fn answer_description_for(
 ) -> Result<Sdp, AllocError>
     requires { AreOfferRounds offer.now offer.now.media_lines rounds.now }
     ensures answers { IfOk result (AnswersOffer own.now config.now.params.items offer.now) }
-    ensures shape { IfOk result (λ answer. AllZip HasShapeOf offer.now.media_lines answer.media_lines) }
-    ensures exactly { IfOk result (λ answer. AllZip (IsAcceptedExactly own.now config.now.params.items offer.now) offer.now.media_lines answer.media_lines) }
+    ensures shape { IfOk result (λ answer. AllZip HasOfferedShape offer.now.media_lines answer.media_lines) }
+    ensures exactly { IfOk result (λ answer. AllZip (IsAcceptedExactlyByRules own.now config.now.params.items offer.now) offer.now.media_lines answer.media_lines) }
     ensures rules { IfOk result (λ answer. AllZip (KeepsRules own.now config.now.params.items offer.now) offer.now.media_lines answer.media_lines) }
     ensures bundle { IfOk result (BundlesAccepted offer.now) }
     ensures names { IfOk result (λ answer. section_mids answer.media_lines ≡ section_mids offer.now.media_lines) }
@@ -122,7 +124,7 @@ impl Exchange {
         ensures refused { IfErr result (RefusesToAnswer self.now config.now.params.items offer.now) }
     {
         let alloc = *self.config.allocator();
-        match read_back_copy(alloc, answer, self.version)? {
+        match exchange_copy_read_back(alloc, answer, self.version)? {
             Some(copy) => Ok(copy),
             None => Err(ExchangeError::NotPrintable),
         }
@@ -175,8 +177,8 @@ impl Exchange {
         ensures placed { IfOk result (λ answer. IsSomeAnd self.new.remote
             (StaysInPlaces self.old.names (sections_of self.old.local) self.old.remote)) }
         // Section by section: the shape, which are accepted, and the rules of the table.
-        ensures shape { IfOk result (λ answer. EachSection (λ remote. HasShapeOf) self.new.remote answer.sdp) }
-        ensures exactly { IfOk result (λ answer. EachSection (IsAcceptedExactly self.old.own self.new.config.params.items) self.new.remote answer.sdp) }
+        ensures shape { IfOk result (λ answer. EachSection (λ remote. HasOfferedShape) self.new.remote answer.sdp) }
+        ensures exactly { IfOk result (λ answer. EachSection (IsAcceptedExactlyByRules self.old.own self.new.config.params.items) self.new.remote answer.sdp) }
         ensures rules { IfOk result (λ answer. EachSection (KeepsRules self.old.own self.new.config.params.items) self.new.remote answer.sdp) }
         // Line by line, and as a whole with its bundle.
         ensures answers { IfOk result (λ answer. IsSomeAnd self.new.remote (λ remote.
@@ -196,7 +198,7 @@ impl Exchange {
         ensures own_same { self.new.own ≡ self.old.own }
         ensures else_same { IfOk result (λ answer. (self.new.pending ≡ self.old.pending) × (self.new.added ≡ self.old.added)) }
         ensures names { IfOk result (λ answer. self.new.names ≡ grown_names self.old.names answer.sdp.media_lines) }
-        ensures sound { IsSound self.old → IsSound self.new }
+        ensures sound { IsExchangeSound self.old → IsExchangeSound self.new }
         ensures follows { Follows self.old self.new }
         ensures refused { IfErr result (RefusesOffer self.old offer.now) }
         ensures unchanged { OnErr result (self.new ≡ self.old) }

@@ -3,7 +3,7 @@ ghost use Rattle.exchange.specs.Prelude.{HoldsMids, rows};
 ghost use Rattle.exchange.specs.answer.AnsweredSection.{AnswersSection, SaysSectionChoice};
 ghost use Rattle.exchange.specs.answer.InBundle.{bundle_names};
 ghost use Rattle.exchange.specs.answer.Offered.{AreOfferRounds, BringsRound};
-ghost use Rattle.exchange.specs.offer.Rules.{HasShapeOf, IsAcceptedExactly, KeepsRules};
+ghost use Rattle.exchange.specs.offer.Rules.{HasOfferedShape, IsAcceptedExactlyByRules, KeepsRules};
 ghost use Rattle.std.specs.List.{AllZip};
 ghost use Rattle.std.specs.Prelude.{◌≡◌, IfOk};
 
@@ -92,8 +92,8 @@ pub(crate) fn answered_sections(
 ) -> Result<Items<MediaLine>, AllocError>
     requires { AreOfferRounds offer.now offer.now.media_lines rounds.now }
     ensures answers { IfOk result (AllZip (AnswersSection own.now config.now.params.items offer.now) offer.now.media_lines) }
-    ensures shape { IfOk result (AllZip HasShapeOf offer.now.media_lines) }
-    ensures exactly { IfOk result (AllZip (IsAcceptedExactly own.now config.now.params.items offer.now) offer.now.media_lines) }
+    ensures shape { IfOk result (AllZip HasOfferedShape offer.now.media_lines) }
+    ensures exactly { IfOk result (AllZip (IsAcceptedExactlyByRules own.now config.now.params.items offer.now) offer.now.media_lines) }
     ensures rules { IfOk result (AllZip (KeepsRules own.now config.now.params.items offer.now) offer.now.media_lines) }
 {
     each_answered(alloc, own, config, offer, rounds)

@@ -1,5 +1,5 @@
 //! What an answer says of the session as a whole.
-ghost use Rattle.exchange.specs.answer.AnsweredSession.{session_allows_mixed, answered_session, group_lines, is_section_accepted, mixed_lines};
+ghost use Rattle.exchange.specs.answer.AnsweredSession.{session_allows_mixed, answered_session, group_lines, is_section_accepted, session_mixed_lines};
 ghost use Rattle.std.specs.List.{list_any};
 ghost use Rattle.std.specs.Prelude.{◌≡◌, IfOk, map};
 
@@ -50,11 +50,11 @@ fn session_has_mixed(attrs: &[SessionAttribute]) -> bool
     attrs.iter().any(|attr| session_allows_mixed(attr))
 }
 
-pub(crate) fn mixed_lines(
+pub(crate) fn session_mixed_lines(
     alloc: Global,
     offered: &[SessionAttribute],
 ) -> Result<Vec<SessionAttribute>, AllocError>
-    ensures { IfOk result (λ lines. lines.items ≡ mixed_lines offered.now) }
+    ensures { IfOk result (λ lines. lines.items ≡ session_mixed_lines offered.now) }
 {
     if !session_has_mixed(offered) {
         return Ok(Vec::new(alloc));
@@ -75,7 +75,7 @@ pub(crate) fn answered_session(
     let accepted = session_sections_accepted(alloc, sections)?;
     let mids = answered_bundle(alloc, offer, accepted.as_slice())?;
     let mut attrs = group_lines(alloc, mids)?;
-    attrs.append(&mut mixed_lines(alloc, offer.session.attrs.as_slice())?)?;
+    attrs.append(&mut session_mixed_lines(alloc, offer.session.attrs.as_slice())?)?;
     Ok(Session {
         id: own.session_id,
         bw: None,

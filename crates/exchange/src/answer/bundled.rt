@@ -1,12 +1,12 @@
 //! What the sections of a bundle share, looked for once.
 ghost use Rattle.exchange.specs.answer.Bundled.{IsBundledBy};
 ghost use Rattle.exchange.specs.answer.InBundle.{is_so_in_bundle, is_so_of_bundle_tag, tagged_section};
-ghost use Rattle.exchange.specs.section.Reached.{has_creds, has_fingerprint};
+ghost use Rattle.exchange.specs.section.Reached.{section_has_creds, has_fingerprint};
 ghost use Rattle.std.specs.Prelude.{◌≡◌, IfOk};
 
 use crate::answer::in_bundle::{bundle_names, tagged_section};
 use crate::offer::names::{is_mid_held, ordered_names};
-use crate::section::reached::{has_creds, has_fingerprint};
+use crate::section::reached::{has_fingerprint, section_has_creds};
 use crate::section::stopped::name_of;
 use std::alloc::{AllocError, Global};
 use std::collections::BTreeSet;
@@ -24,10 +24,10 @@ pub(crate) struct Bundled<'a> {
 }
 
 fn has_bundle_tag_creds(sdp: &Sdp) -> bool
-    ensures { result ≡ is_so_of_bundle_tag (has_creds sdp.now.session) (tagged_section sdp.now) }
+    ensures { result ≡ is_so_of_bundle_tag (section_has_creds sdp.now.session) (tagged_section sdp.now) }
 {
     match tagged_section(sdp) {
-        Some(section) => has_creds(&sdp.session, section),
+        Some(section) => section_has_creds(&sdp.session, section),
         None => false,
     }
 }
@@ -57,9 +57,9 @@ impl<'a> Bundled<'a> {
     /// Whether credentials of ICE are in force at a section, its own or those of the section whose transport it shares.
     pub(crate) fn have_creds(&self, sdp: &Sdp, section: &MediaLine) -> bool
         requires { IsBundledBy sdp.now self.now }
-        ensures { result ≡ is_so_in_bundle (has_creds sdp.now.session) sdp.now section.now }
+        ensures { result ≡ is_so_in_bundle (section_has_creds sdp.now.session) sdp.now section.now }
     {
-        has_creds(&sdp.session, section)
+        section_has_creds(&sdp.session, section)
             || (is_mid_held(&self.names, name_of(section)) && self.has_creds)
     }
 

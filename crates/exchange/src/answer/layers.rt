@@ -1,6 +1,6 @@
 //! The layers of a stream that is received in several.
 ghost use Rattle.exchange.specs.Prelude.{rid_name_of};
-ghost use Rattle.exchange.specs.answer.Layers.{IsTurnedLine, answered_layers, answered_rid, answered_rids, is_rid_named, is_rid_answered, is_rid_left, is_layer_named, is_row_type, layers_line, received_layers, sent_layers, rid_types_left};
+ghost use Rattle.exchange.specs.answer.Layers.{IsTurnedLayerLine, answered_layers, answered_rid, answered_rids, is_rid_named, is_rid_answered, is_rid_left, is_layer_named, is_row_type, layers_line, received_layers, sent_layers, rid_types_left};
 ghost use Rattle.std.specs.List.{list_any};
 ghost use Rattle.std.specs.Prelude.{◌≡◌, ◌++◌, ◌==◌, ℕ, IfOk, List, OnOk, filter, filter_map, option_to_list, All, []};
 
@@ -209,7 +209,7 @@ pub fn answered_layers(
     rows: &[PayloadParams],
 ) -> Result<Vec<MediaAttribute>, AllocError>
     ensures exact { IfOk result (λ lines. lines.items ≡ answered_layers rows.now offered.now) }
-    ensures turned { IfOk result (λ lines. All (IsTurnedLine rows.now offered.now) lines.items) }
+    ensures turned { IfOk result (λ lines. All (IsTurnedLayerLine rows.now offered.now) lines.items) }
     ensures none { sent_layers offered.now ≡ [] → IfOk result (λ lines. lines.items ≡ []) }
 {
     let lines = lines_of_layers(alloc, offered, rows)?;

@@ -88,7 +88,7 @@ impl OfferedFeedback {
 }
 
 /// The place of a payload type in a table of all.
-fn place(pt: Pt) -> usize
+fn feedback_place(pt: Pt) -> usize
     ensures is { result ≡ pt }
     ensures within { result < 256 }
 {
@@ -100,7 +100,7 @@ fn add_feedback_value(table: &mut [OfferedFeedback; FEEDBACK_TYPES], pt: Pt, wor
     ensures added { table.new ≡ set table.old pt (either_offered (get_or table.old pt none_offered) (named_offered words.now)) }
     ensures within { pt < 256 }
 {
-    let place = place(pt);
+    let place = feedback_place(pt);
     table[place] = table[place].or(OfferedFeedback::named(words));
 }
 
@@ -138,7 +138,7 @@ impl SectionFeedback {
         requires { TellsFeedbackOf section.now self.now }
         ensures { result ≡ offered_feedback section.now.attrs pt }
     {
-        let own = self.of_types[place(pt)];
+        let own = self.of_types[feedback_place(pt)];
         own.or(self.of_all)
     }
 }

@@ -6,7 +6,7 @@ ghost use Rattle.exchange.specs.offer.AcceptedAnswer.{IsAnswer, IsAnswerTakenWit
 ghost use Rattle.exchange.specs.offer.Added.{with_offer_placed};
 ghost use Rattle.exchange.specs.offer.Fits.{FitsOffer};
 ghost use Rattle.exchange.specs.offer.Names.{grown_names};
-ghost use Rattle.exchange.specs.state.ExchangeFollows.{Follows, IsSound};
+ghost use Rattle.exchange.specs.state.ExchangeFollows.{Follows, IsExchangeSound};
 ghost use Rattle.exchange.specs.state.State.{pending_sdp, sections_of, state_of};
 ghost use Rattle.std.specs.Prelude.{All, ◌≡◌, IfErr, IfOk, IsSomeAnd, None, OnErr, OnOk, drop, length, option_map};
 
@@ -140,8 +140,8 @@ impl Exchange {
         ensures own { OnOk result (self.new.own ≡ record self.old.own { directions = with_offer_placed self.old.own.directions (offer_placed_of self.old) }) }
         ensures added { OnOk result (self.new.added ≡ drop (length (offer_placed_of self.old)) self.old.added) }
         ensures version_same { self.new.version ≡ self.old.version }
-        ensures sound { IsSound self.old → IsSound self.new }
-        ensures follows { IsSound self.old → Follows self.old self.new }
+        ensures sound { IsExchangeSound self.old → IsExchangeSound self.new }
+        ensures follows { IsExchangeSound self.old → Follows self.old self.new }
         ensures refused { IfErr result (RefusesAnswer self.old answer.now) }
         ensures unchanged { OnErr result (self.new ≡ self.old) }
     {

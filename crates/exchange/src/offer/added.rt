@@ -17,7 +17,7 @@ pub(crate) enum Added {
 
 /// What was added, with the name of the section in which an offer places it.
 #[derive(Clone, Copy, Debug, PartialEq, Eq)]
-pub(crate) struct Placed {
+pub(crate) struct AddedUnderMid {
     pub(crate) mid: Mid,
     pub(crate) added: Added,
 }
@@ -27,7 +27,7 @@ pub(crate) fn offer_placed_under(
     alloc: Global,
     names: &[Mid],
     added: &[Added],
-) -> Result<Vec<Placed>, AllocError>
+) -> Result<Vec<AddedUnderMid>, AllocError>
     ensures { IfOk result (λ placed. placed.items ≡ offer_placed_under names.now added.now) }
 {
     let mut placed = Vec::new(alloc);
@@ -36,7 +36,7 @@ pub(crate) fn offer_placed_under(
         let Some((first, rest)) = more.split_first() else {
             return Ok(placed);
         };
-        placed.push(Placed {
+        placed.push(AddedUnderMid {
             mid: *mid,
             added: *first,
         })?;
@@ -46,7 +46,7 @@ pub(crate) fn offer_placed_under(
     Ok(placed)
 }
 
-fn placed_direction(placed: &Placed) -> Option<SectionDirection>
+fn placed_direction(placed: &AddedUnderMid) -> Option<SectionDirection>
     ensures { result ≡ placed_direction placed.now }
 {
     match placed.added {
@@ -62,7 +62,7 @@ fn placed_direction(placed: &Placed) -> Option<SectionDirection>
 pub(crate) fn with_offer_placed(
     alloc: Global,
     entries: &[SectionDirection],
-    placed: &[Placed],
+    placed: &[AddedUnderMid],
 ) -> Result<Items<SectionDirection>, AllocError>
     ensures { IfOk result (λ after. after ≡ with_offer_placed entries.now placed.now) }
 {

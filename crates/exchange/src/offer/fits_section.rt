@@ -7,7 +7,7 @@ ghost use Rattle.exchange.specs.answer.Rows.{answered_rows};
 ghost use Rattle.exchange.specs.answer.TurnedLayers.{TurnsLayers};
 ghost use Rattle.exchange.specs.offer.Fits.{BreaksRuleFirst, KeepsEveryRule, FlowsWithinOffer, FitsIfAccepted, KeepsRule, rules_asked};
 ghost use Rattle.exchange.specs.offer.Rules.{SaysOnlyOffered};
-ghost use Rattle.exchange.specs.section.Reached.{has_creds, has_fingerprint};
+ghost use Rattle.exchange.specs.section.Reached.{section_has_creds, has_fingerprint};
 ghost use Rattle.std.specs.Prelude.{◌≡◌, ◌≢◌, ◌↔◌, [], IfOk, IsTrue, MatchOption, Some, true};
 ghost use Rattle.str0m_sdp.specs.declared.attribute.setup.Setup.TheVariants.{ActPass};
 
@@ -95,7 +95,7 @@ fn keeps_layers(offered: &MediaLine, answered: &MediaLine) -> Result<bool, Alloc
 
 fn fit_keeps_creds(answer: &Sdp, bundled: &Bundled<'_>, answered: &MediaLine) -> bool
     requires { IsBundledBy answer.now bundled.now }
-    ensures { IsTrue result ↔ FitsIfAccepted answered.now (is_so_in_bundle (has_creds answer.now.session) answer.now answered.now ≡ true) }
+    ensures { IsTrue result ↔ FitsIfAccepted answered.now (is_so_in_bundle (section_has_creds answer.now.session) answer.now answered.now ≡ true) }
 {
     answered.disabled || bundled.have_creds(answer, answered)
 }
@@ -114,7 +114,7 @@ fn fit_keeps_stopped(offered: &MediaLine, answered: &MediaLine) -> bool
 }
 
 /// Whether a section keeps a rule.
-fn keeps(
+fn fit_keeps_rule(
     rule: Rule,
     ours: &CodecConfig,
     answer: &Sdp,
@@ -154,7 +154,7 @@ pub(crate) fn broken_rule(
         (BreaksRuleFirst ours.now.params.items answer.now offered.now answered.now)) }
 {
     for rule in rules() {
-        if !keeps(*rule, ours, answer, bundled, offered, answered)? {
+        if !fit_keeps_rule(*rule, ours, answer, bundled, offered, answered)? {
             return Ok(Some(*rule));
         }
     }

@@ -5,12 +5,14 @@ ghost use Rattle.exchange.specs.offer.OfferExtensions.{extension_lines};
 ghost use Rattle.exchange.specs.offer.OfferRules.{IsNewOfferName, IsOffered, KeepsOfferPlaces};
 ghost use Rattle.exchange.specs.offer.OfferSection.{new_section};
 ghost use Rattle.exchange.specs.section.Places.{FollowsPlaces};
-ghost use Rattle.exchange.specs.state.State.{sections_of, session_of, taken_names};
+ghost use Rattle.exchange.specs.state.State.{sections_of, session_of, exchange_taken_names};
 ghost use Rattle.std.specs.Prelude.{◌≡◌, All, IfOk, map};
 
-use crate::answer::answered_session::{group_lines, mixed_lines, session_sections_accepted};
+use crate::answer::answered_session::{
+    group_lines, session_mixed_lines, session_sections_accepted,
+};
 use crate::answer::bundle::answered_bundle_names;
-use crate::offer::added::{Placed, offer_placed_under, with_offer_placed};
+use crate::offer::added::{AddedUnderMid, offer_placed_under, with_offer_placed};
 use crate::offer::offer_extensions::extension_lines;
 use crate::offer::offer_places::{filled_places, new_sections};
 use crate::section::places::sections_of;
@@ -44,8 +46,8 @@ fn section_names(alloc: Global, sections: &[MediaLine]) -> Result<Vec<Mid>, Allo
 }
 
 /// The names that sections of the session have, or have had.
-pub(crate) fn taken_names(exchange: &Exchange) -> Result<Vec<Mid>, AllocError>
-    ensures { IfOk result (λ names. names.items ≡ taken_names exchange.now) }
+pub(crate) fn exchange_taken_names(exchange: &Exchange) -> Result<Vec<Mid>, AllocError>
+    ensures { IfOk result (λ names. names.items ≡ exchange_taken_names exchange.now) }
 {
     let alloc = *exchange.config.allocator();
     let mut names = section_names(alloc, sections_of(&exchange.local))?;
@@ -69,7 +71,7 @@ fn offer_session(exchange: &Exchange, sections: &[MediaLine]) -> Result<Session,
     let alloc = *exchange.config.allocator();
     let names = bundled_names(alloc, sections)?;
     let mut attrs = group_lines(alloc, names)?;
-    attrs.append(&mut mixed_lines(alloc, session_of(&exchange.local))?)?;
+    attrs.append(&mut session_mixed_lines(alloc, session_of(&exchange.local))?)?;
     Ok(Session {
         id: exchange.own.session_id,
         bw: None,
@@ -81,7 +83,7 @@ fn offer_session(exchange: &Exchange, sections: &[MediaLine]) -> Result<Session,
 pub(crate) fn offer_placed_as(
     exchange: &Exchange,
     names: &[Mid],
-) -> Result<Items<Placed>, AllocError>
+) -> Result<Items<AddedUnderMid>, AllocError>
     ensures { IfOk result (λ placed. placed ≡ offer_placed_as exchange.now names.now) }
 {
     let alloc = *exchange.config.allocator();
@@ -93,7 +95,7 @@ pub(crate) fn offer_placed_as(
 fn sections_added(
     exchange: &Exchange,
     ready: &[SectionDirection],
-    placed: &[Placed],
+    placed: &[AddedUnderMid],
 ) -> Result<Vec<MediaLine>, AllocError>
     ensures { IfOk result (λ sections. sections.items ≡ map (new_section exchange.now ready.now
         (extension_lines (sections_of exchange.now.local) exchange.now.own.extensions)) placed.now) }

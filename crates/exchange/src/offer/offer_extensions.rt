@@ -108,7 +108,7 @@ fn last_extension_number(last: u8, number: Option<u8>) -> u8
 }
 
 /// The line of a URI after others, where it has a number.
-fn push_ext_line(
+fn push_extension_line(
     alloc: Global,
     lines: &mut Vec<MediaAttribute>,
     uri: &str,
@@ -136,7 +136,7 @@ pub(crate) fn extension_lines(
     let (mut last, mut left) = (greatest_extension_in(said), known);
     while let Some((uri, later)) = left.split_first() {
         let number = extension_number_for(said, last, uri.as_str());
-        push_ext_line(alloc, &mut lines, uri.as_str(), number)?;
+        push_extension_line(alloc, &mut lines, uri.as_str(), number)?;
         last = last_extension_number(last, number);
         left = later;
     }

@@ -4,9 +4,9 @@ ghost use Rattle.exchange.specs.offer.OfferSection.{new_section, next_section};
 ghost use Rattle.std.specs.Prelude.{◌≡◌, ◌++◌, IfOk, if◌then◌else◌, map, option_copied};
 
 use crate::answer::rejected_section::rejected;
-use crate::offer::added::Placed;
+use crate::offer::added::AddedUnderMid;
 use crate::offer::offer_section::{new_section, next_section};
-use crate::section::places::{is_over, remote_bundle};
+use crate::section::places::{is_place_over, remote_bundle};
 use crate::state::exchange::Exchange;
 use crate::state::own_side::SectionDirection;
 use std::alloc::{AllocError, Global};
@@ -105,7 +105,7 @@ pub(crate) fn filled_places(
     let mut sections = Vec::new(alloc);
     let mut left = added;
     for (at, mine) in places.iter().enumerate() {
-        let is_over = is_over(&exchange.remote, &group, at, mine);
+        let is_over = is_place_over(&exchange.remote, &group, at, mine);
         sections.push(place_section(exchange, ready, at, mine, is_over, left)?)?;
         left = offer_added_left(is_over, left);
     }
@@ -117,7 +117,7 @@ pub(crate) fn new_sections(
     exchange: &Exchange,
     ready: &[SectionDirection],
     extensions: &[MediaAttribute],
-    placed: &[Placed],
+    placed: &[AddedUnderMid],
 ) -> Result<Vec<MediaLine>, AllocError>
     ensures { IfOk result (λ sections. sections.items ≡ map (new_section exchange.now ready.now extensions.now) placed.now) }
 {

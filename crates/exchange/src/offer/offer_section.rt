@@ -1,12 +1,14 @@
 //! The sections of an offer.
 ghost use Rattle.exchange.specs.Prelude.{kind_rows};
-ghost use Rattle.exchange.specs.offer.OfferSection.{asked_section_lines, flow_lines, is_extension, is_offer_mux_line, is_own, is_offer_rsize_line, is_offer_line_said_by_theirs, is_same_shared_offer_line, kept_section_lines, new_section, next_section, offered_channels, offered_media, section_with, offer_type_of_kind};
+ghost use Rattle.exchange.specs.offer.OfferSection.{asked_section_lines, offer_flow_lines, is_extension, is_offer_mux_line, is_own, is_offer_rsize_line, is_offer_line_said_by_theirs, is_same_shared_offer_line, kept_section_lines, new_section, next_section, offered_channels, offered_media, section_with, offer_type_of_kind};
 ghost use Rattle.std.specs.List.{list_any};
 ghost use Rattle.std.specs.Prelude.{◌≡◌, ◌≢◌, [], IfOk, false, true, option_copied};
 
-use crate::answer::accepted::{channel_lines, first_lines, push_candidates, push_msid};
+use crate::answer::accepted::{
+    accepted_channel_lines, accepted_first_lines, push_candidates, push_msid,
+};
 use crate::answer::rejected_section::rejected;
-use crate::offer::added::{Added, Placed};
+use crate::offer::added::{Added, AddedUnderMid};
 use crate::section::stopped::name_of;
 use crate::state::exchange::Exchange;
 use crate::state::own_side::{OwnSide, SectionDirection};
@@ -62,14 +64,14 @@ pub(crate) fn has_rows(config: &CodecConfig, kind: MediaKind) -> bool
 }
 
 /// What media says but for its rows, after its name and its transport.
-fn flow_lines(
+fn offer_flow_lines(
     alloc: Global,
     own: &OwnSide,
     mid: Mid,
     direction: Direction,
     mut asked: Vec<MediaAttribute>,
 ) -> Result<Vec<MediaAttribute>, AllocError>
-    ensures { IfOk result (λ lines. lines.items ≡ flow_lines own.now mid direction asked.items) }
+    ensures { IfOk result (λ lines. lines.items ≡ offer_flow_lines own.now mid direction asked.items) }
 {
     let mut lines = vec![in alloc; MediaAttribute::from(direction)]?;
     push_candidates(&mut lines, own)?;
@@ -92,8 +94,8 @@ fn offered_media(
     let alloc = *config.allocator();
     let typ = offer_type_of_kind(kind);
     let direction = own.direction_among(ready, Some(mid), &typ);
-    let mut lines = first_lines(alloc, own, mid, Setup::ActPass)?;
-    lines.append(&mut flow_lines(alloc, own, mid, direction, asked)?)?;
+    let mut lines = accepted_first_lines(alloc, own, mid, Setup::ActPass)?;
+    lines.append(&mut offer_flow_lines(alloc, own, mid, direction, asked)?)?;
     let frame = section_with(alloc, typ, Proto::Srtp, lines);
     let rows = rows_of(config, kind)?;
     section_of(&frame, rows.as_slice())
@@ -111,8 +113,8 @@ fn offered_channels(
     let Some(channels) = own.channels else {
         return rejected(alloc, instead);
     };
-    let mut lines = first_lines(alloc, own, mid, Setup::ActPass)?;
-    lines.append(&mut channel_lines(alloc, channels)?)?;
+    let mut lines = accepted_first_lines(alloc, own, mid, Setup::ActPass)?;
+    lines.append(&mut accepted_channel_lines(alloc, channels)?)?;
     push_candidates(&mut lines, own)?;
     Ok(section_with(alloc, MediaType::Application, Proto::Sctp, lines))
 }
@@ -136,7 +138,7 @@ pub(crate) fn new_section(
     exchange: &Exchange,
     ready: &[SectionDirection],
     extensions: &[MediaAttribute],
-    placed: &Placed,
+    placed: &AddedUnderMid,
 ) -> Result<MediaLine, AllocError>
     ensures { IfOk result (λ section. section ≡ new_section exchange.now ready.now extensions.now placed.now) }
 {

@@ -47,7 +47,7 @@ fn is_place_stopped(remote: &Option<Sdp>, group: &BTreeSet<&str>, at: usize) -> 
 
 /// Whether the place of a section of this side is over: it has port 0, or the other side has stopped its own. `group` has the
 /// names of the other side's group in order.
-pub(crate) fn is_over(
+pub(crate) fn is_place_over(
     remote: &Option<Sdp>,
     group: &BTreeSet<&str>,
     at: usize,
@@ -69,7 +69,7 @@ fn is_place_free(
     ensures { IsTrue result ↔ IsPlaceFree local.now remote.now at }
 {
     match local.get(at) {
-        Some(mine) => is_over(remote, group, at, mine),
+        Some(mine) => is_place_over(remote, group, at, mine),
         None => true,
     }
 }

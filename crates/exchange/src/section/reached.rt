@@ -1,5 +1,5 @@
 //! Sections that say how their transport is reached, or for which the session says so.
-ghost use Rattle.exchange.specs.section.Reached.{has_creds, has_fingerprint, section_has_pwd, section_has_ufrag, is_fingerprint, is_section_pwd, is_session_fingerprint, is_session_pwd, is_session_ufrag, is_section_ufrag};
+ghost use Rattle.exchange.specs.section.Reached.{section_has_creds, has_fingerprint, section_has_pwd, section_has_ufrag, is_fingerprint, is_section_pwd, is_session_fingerprint, is_session_pwd, is_session_ufrag, is_section_ufrag};
 ghost use Rattle.std.specs.List.{list_any};
 ghost use Rattle.std.specs.Prelude.{◌≡◌};
 
@@ -90,8 +90,8 @@ fn section_has_pwd(session: &Session, section: &MediaLine) -> bool
 }
 
 /// Whether credentials of ICE are in force at the section: a name fragment and a password, each of its own or the session's.
-pub(crate) fn has_creds(session: &Session, section: &MediaLine) -> bool
-    ensures { result ≡ has_creds session.now section.now }
+pub(crate) fn section_has_creds(session: &Session, section: &MediaLine) -> bool
+    ensures { result ≡ section_has_creds session.now section.now }
 {
     section_has_ufrag(session, section) && section_has_pwd(session, section)
 }

@@ -1,5 +1,5 @@
 //! Which outcome of a text's rounds is of which section.
-ghost use Rattle.exchange.specs.Prelude.{Negotiated, Outcome, PayloadParams};
+ghost use Rattle.exchange.specs.Prelude.{Negotiated, OutcomeOfRound, PayloadParams};
 ghost use Rattle.exchange.specs.section.RoundNames.{has_round, negotiated_names};
 ghost use Rattle.std.specs.Prelude.{◌≡◌, List, IfOk, length};
 
@@ -18,7 +18,7 @@ fn has_round(section: &MediaLine) -> bool
 /// read of a text says one. The description stays as it is. The only error is that memory was refused.
 pub fn negotiated_names(alloc: Global, sdp: &Sdp) -> Result<Vec<Option<Mid>>, AllocError>
     ensures names { IfOk result (λ names. names.items ≡ negotiated_names sdp.now) }
-    ensures one_each { IfOk result (λ names. (before after : List PayloadParams) (outcomes : List Outcome)
+    ensures one_each { IfOk result (λ names. (before after : List PayloadParams) (outcomes : List OutcomeOfRound)
         → Negotiated sdp.now.media_lines before outcomes after → length names.items ≡ length outcomes) }
 {
     let sections = sdp.media_lines.as_slice();

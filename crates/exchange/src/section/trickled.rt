@@ -1,6 +1,6 @@
 //! Candidates as they are trickled.
 
-ghost use Rattle.exchange.specs.Prelude.{Answers, AtMostOne, FirstLine, IsCandidateLine, IsReaderRefusal};
+ghost use Rattle.exchange.specs.Prelude.{Answers, AtMostOneAnswer, FirstLine, IsCandidateLine, IsReaderRefusal};
 ghost use Rattle.exchange.specs.section.Trickled.{IsTrickled, trickled_as_line};
 ghost use Rattle.std.specs.Prelude.{◌≡◌, IfOk, [], string_bytes};
 
@@ -56,7 +56,7 @@ fn only_candidate(alloc: Global, line: &str) -> Result<Candidate, SdpError>
 /// empty text, by which browsers say that no candidate follows. `Memory` where a growth was refused.
 pub fn trickled_candidate(alloc: Global, text: &str) -> Result<Candidate, SdpError>
     ensures read { Answers (λ candidate. candidate) result (IsTrickled text.now) }
-    ensures one { AtMostOne (IsTrickled text.now) }
+    ensures one { AtMostOneAnswer (IsTrickled text.now) }
 {
     let line = trickled_as_line(alloc, text)?;
     only_candidate(alloc, line.as_str())

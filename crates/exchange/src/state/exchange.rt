@@ -8,17 +8,17 @@ ghost use Rattle.exchange.specs.offer.FreshNames.{AreFresh};
 ghost use Rattle.exchange.specs.offer.MadeOffer.{MakesOffer, offer_placed_as, offer_ready_with};
 ghost use Rattle.exchange.specs.offer.OfferRules.{IsNewOfferName, IsOffered, IsOfferedWith, KeepsOfferPlaces};
 ghost use Rattle.exchange.specs.state.Exchange.{ExchangeRefusesChannels, RefusesMedia, RefusesToOffer};
-ghost use Rattle.exchange.specs.state.ExchangeFollows.{Follows, IsSound};
+ghost use Rattle.exchange.specs.state.ExchangeFollows.{Follows, IsExchangeSound};
 ghost use Rattle.exchange.specs.state.OwnSide.{with_own_side_entry};
 ghost use Rattle.exchange.specs.state.ReadBack.{IsReadBack};
-ghost use Rattle.exchange.specs.state.State.{pending_sdp, sections_of, state_of, taken_names};
+ghost use Rattle.exchange.specs.state.State.{pending_sdp, sections_of, state_of, exchange_taken_names};
 ghost use Rattle.std.specs.Prelude.{All, ◌≡◌, ◌≢◌, ◌+◌, ◌-◌, ◌^◌, [], ℕ, true, IfErr, IfOk, MatchOption, OnErr, OnOk, None, Some, length, min, option_copied};
 
 use crate::answer::offered::{negotiate, rounds_of};
 use crate::offer::Offer;
 use crate::offer::added::Added;
 use crate::offer::fresh_names::fresh_names;
-use crate::offer::made_offer::{made_offer, offer_placed_as, taken_names};
+use crate::offer::made_offer::{exchange_taken_names, made_offer, offer_placed_as};
 use crate::offer::offer_section::has_rows;
 use crate::offer::pending::Pending;
 use crate::section::places::sections_of;
@@ -59,7 +59,7 @@ struct Offering {
 const USUAL_EXCHANGE_ROOM: usize = 4096;
 
 /// A copy of a description, where the other side reads the text that it prints with this version as what it says.
-pub(crate) fn read_back_copy(
+pub(crate) fn exchange_copy_read_back(
     alloc: Global,
     sdp: &Sdp,
     version: u64,
@@ -120,7 +120,7 @@ impl Exchange {
     #[tactic(auto, using(crate::proofs::state::ExchangeFollowLaws::exchange_sound_new))]
     pub fn new(own: OwnSide, config: CodecConfig) -> Exchange
         ensures is { result ≡ record { own = own; config = config; local = None; remote = None; pending = None; version = 1; added = []; names = [] } }
-        ensures sound { IsSound result }
+        ensures sound { IsExchangeSound result }
     {
         let alloc = *config.allocator();
         Exchange {
@@ -186,7 +186,7 @@ impl Exchange {
     #[tactic(auto, using(crate::proofs::state::ExchangeFollowLaws::follows_same))]
     pub fn restart_ice(&mut self, creds: IceCreds)
         ensures is { self.new ≡ record self.old { own = record self.old.own { creds = creds } } }
-        ensures sound { IsSound self.old → IsSound self.new }
+        ensures sound { IsExchangeSound self.old → IsExchangeSound self.new }
         ensures follows { Follows self.old self.new }
     {
         self.own.creds = creds;
@@ -202,7 +202,7 @@ impl Exchange {
             directions = with_own_side_entry mid direction self.old.own.directions;
           };
         }) }
-        ensures sound { IsSound self.old → IsSound self.new }
+        ensures sound { IsExchangeSound self.old → IsExchangeSound self.new }
         ensures follows { Follows self.old self.new }
         ensures refused { IfErr result (λ error. error ≡ Memory) }
         ensures unchanged { OnErr result (self.new ≡ self.old) }
@@ -225,7 +225,7 @@ impl Exchange {
     pub fn add_media(&mut self, kind: MediaKind, direction: Direction) -> Result<(), ExchangeError>
         ensures ok { OnOk result (self.new ≡ with_media kind direction self.old) }
         ensures has_rows { OnOk result (kind_rows kind true self.old.config.params.items ≢ []) }
-        ensures sound { IsSound self.old → IsSound self.new }
+        ensures sound { IsExchangeSound self.old → IsExchangeSound self.new }
         ensures follows { Follows self.old self.new }
         ensures refused { IfErr result (RefusesMedia self.old kind) }
         ensures unchanged { OnErr result (self.new ≡ self.old) }
@@ -246,7 +246,7 @@ impl Exchange {
     pub fn add_channels(&mut self) -> Result<(), ExchangeError>
         ensures ok { OnOk result (self.new ≡ offer_with_channels self.old) }
         ensures has_channels { OnOk result (self.old.own.channels ≢ None) }
-        ensures sound { IsSound self.old → IsSound self.new }
+        ensures sound { IsExchangeSound self.old → IsExchangeSound self.new }
         ensures follows { Follows self.old self.new }
         ensures refused { IfErr result (ExchangeRefusesChannels self.old) }
         ensures unchanged { OnErr result (self.new ≡ self.old) }
@@ -263,7 +263,7 @@ impl Exchange {
     #[tactic(auto, using(crate::proofs::state::ExchangeFollowLaws::follows_same, crate::proofs::state::ExchangeFollowLaws::follows_self))]
     pub fn rollback(&mut self)
         ensures is { self.new ≡ record self.old { pending = None } }
-        ensures sound { IsSound self.old → IsSound self.new }
+        ensures sound { IsExchangeSound self.old → IsExchangeSound self.new }
         ensures follows { Follows self.old self.new }
     {
         self.pending = None;
@@ -288,7 +288,7 @@ impl Exchange {
     #[tactic(auto, using(crate::proofs::state::ExchangeFollowLaws::follows_same, crate::proofs::state::ExchangeFollowLaws::follows_self))]
     pub fn create_offer(&mut self) -> Result<Offer, ExchangeError>
         ensures stable { IfOk result (λ offer. state_of self.old ≡ Stable) }
-        ensures names { IfOk result (λ offer. (to : ℕ) × AreFresh (taken_names self.old) 0 offer.added to) }
+        ensures names { IfOk result (λ offer. (to : ℕ) × AreFresh (exchange_taken_names self.old) 0 offer.added to) }
         ensures as_many { IfOk result (λ offer. length offer.added ≡ length self.old.added) }
         ensures new { IfOk result (λ offer. All (IsNewOfferName self.old) offer.added) }
         // Section by section, and as a whole with its bundle.
@@ -302,7 +302,7 @@ impl Exchange {
           pending = Some (record { sdp = offer.sdp; placed = offer_placed_as self.old offer.added });
           version = min (self.old.version + 1) (2 ^ 64 - 1);
         }) }
-        ensures sound { IsSound self.old → IsSound self.new }
+        ensures sound { IsExchangeSound self.old → IsExchangeSound self.new }
         ensures follows { Follows self.old self.new }
         ensures refused { IfErr result (RefusesToOffer self.old) }
         ensures unchanged { OnErr result (self.new ≡ self.old) }
@@ -321,10 +321,10 @@ impl Exchange {
     {
         self.check_stable()?;
         let (alloc, version) = (*self.config.allocator(), self.version);
-        let taken = taken_names(self)?;
+        let taken = exchange_taken_names(self)?;
         let added = fresh_names(alloc, taken.as_slice(), self.added.len())?;
         let sdp = made_offer(self, added.as_slice())?;
-        let Some(copy) = read_back_copy(alloc, &sdp, version)? else {
+        let Some(copy) = exchange_copy_read_back(alloc, &sdp, version)? else {
             return Err(ExchangeError::NotPrintable);
         };
         let placed = offer_placed_as(self, added.as_slice())?;

@@ -79,7 +79,7 @@ fn is_section_read_as(said: &MediaLine, read: &MediaLine) -> bool
 }
 
 /// Whether there are as many sections, each read as the one in its place.
-fn are_read_as(said: &[MediaLine], read: &[MediaLine]) -> bool
+fn are_sections_read_as(said: &[MediaLine], read: &[MediaLine]) -> bool
     ensures { IsTrue result ↔ AllZip IsSectionReadAs said.now read.now }
 {
     let mut left = said;
@@ -94,18 +94,18 @@ fn are_read_as(said: &[MediaLine], read: &[MediaLine]) -> bool
     reads.is_empty()
 }
 
-fn is_read_as(said: &Sdp, read: &Sdp) -> bool
+fn is_whole_read_as(said: &Sdp, read: &Sdp) -> bool
     ensures { IsTrue result ↔ IsWholeReadAs said.now read.now }
 {
     is_same_session(&read.session, &said.session)
-        && are_read_as(said.media_lines.as_slice(), read.media_lines.as_slice())
+        && are_sections_read_as(said.media_lines.as_slice(), read.media_lines.as_slice())
 }
 
 /// Whether what was read is this description, with nothing left.
 fn is_read_back_whole(said: &Sdp, read: &Sdp, rest: &str) -> bool
     ensures { IsTrue result ↔ ((rest.now ≡ []) × IsWholeReadAs said.now read.now) }
 {
-    rest.is_empty() && is_read_as(said, read)
+    rest.is_empty() && is_whole_read_as(said, read)
 }
 
 /// What was read, where it is this description with nothing left.

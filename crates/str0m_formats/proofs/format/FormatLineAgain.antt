@@ -40,9 +40,9 @@ use Rattle.str0m_formats.specs.format.PairsReading.{triple_read, joined_pairs_re
 
 -- ---- lists of fields
 
-abbrev pub line_all_field_pieces : List Field → FormatParams → List (List ℕ)
-line_all_field_pieces [] p = []
-line_all_field_pieces (f ∷ fs) p = shown_pieces_at f p ++ line_all_field_pieces fs p
+abbrev pub format_pieces_of_fields : List Field → FormatParams → List (List ℕ)
+format_pieces_of_fields [] p = []
+format_pieces_of_fields (f ∷ fs) p = shown_pieces_at f p ++ format_pieces_of_fields fs p
 
 abbrev pub all_pairs : List Field → FormatParams → List (List ℕ × List ℕ)
 all_pairs [] p = []
@@ -52,15 +52,15 @@ all_pairs (f ∷ fs) p = given_pair_slots (shown_slots_at f p) ++ all_pairs fs p
 abbrev pub printed_pairs : FormatParams → List (List ℕ × List ℕ)
 printed_pairs p = all_pairs FIELDS p
 
-abbrev pub line_all_slots : List Field → FormatParams → PairSlots
-line_all_slots [] p = []
-line_all_slots (f ∷ fs) p = shown_slots_at f p ++ line_all_slots fs p
+abbrev pub format_slots_of_fields : List Field → FormatParams → PairSlots
+format_slots_of_fields [] p = []
+format_slots_of_fields (f ∷ fs) p = shown_slots_at f p ++ format_slots_of_fields fs p
 
-abbrev line_all_bare_params : List Field → FormatParams → List (List ℕ)
-line_all_bare_params [] p = []
-line_all_bare_params (f ∷ fs) p = bare_params_at f p ++ line_all_bare_params fs p
+abbrev format_bare_params_of_fields : List Field → FormatParams → List (List ℕ)
+format_bare_params_of_fields [] p = []
+format_bare_params_of_fields (f ∷ fs) p = bare_params_at f p ++ format_bare_params_of_fields fs p
 
-pairs_slots : (fs : List Field) (p : FormatParams) → all_pairs fs p ≡ given_pair_slots (line_all_slots fs p)
+pairs_slots : (fs : List Field) (p : FormatParams) → all_pairs fs p ≡ given_pair_slots (format_slots_of_fields fs p)
 pairs_slots [] p = refl
 pairs_slots (f ∷ fs) p = grind (arith, pairs_slots fs p, given_pair_slots-append)
 
@@ -70,37 +70,38 @@ AllFormatFieldsWithin p = (f : Field) → IfSome (get f p) (IsFormatFieldWithin 
 
 -- ---- the text is the pieces, joined
 
-abbrev pub line_linked_texts : List (List ℕ) → List ℕ
-line_linked_texts texts = join_with_byte 59 texts
+abbrev pub format_linked_texts : List (List ℕ) → List ℕ
+format_linked_texts texts = join_with_byte 59 texts
 
-line_join_cons : (text : List ℕ) (texts : List (List ℕ)) → 0 < length texts
-    → line_linked_texts (text ∷ texts) ≡ text ++ (59 ∷ line_linked_texts texts)
-line_join_cons text texts some = grind arith
+format_linked_texts_cons : (text : List ℕ) (texts : List (List ℕ)) → 0 < length texts
+    → format_linked_texts (text ∷ texts) ≡ text ++ (59 ∷ format_linked_texts texts)
+format_linked_texts_cons text texts some = grind arith
 
-line_join_append : (first : List ℕ) (more ys : List (List ℕ)) → 0 < length ys
-    → line_linked_texts ((first ∷ more) ++ ys) ≡ line_linked_texts (first ∷ more) ++ (59 ∷ line_linked_texts ys)
-line_join_append first [] ys some = line_join_cons first ys some
-line_join_append first (next ∷ more) ys some = grind (arith, line_join_append next more ys some, append_assoc)
+format_linked_texts_append : (first : List ℕ) (more ys : List (List ℕ)) → 0 < length ys
+    → format_linked_texts ((first ∷ more) ++ ys) ≡ format_linked_texts (first ∷ more) ++ (59 ∷ format_linked_texts ys)
+format_linked_texts_append first [] ys some = format_linked_texts_cons first ys some
+format_linked_texts_append first (next ∷ more) ys some = grind (arith, format_linked_texts_append next more ys some, append_assoc)
 
-abbrev pub AreLineTextsAlike : List (List ℕ) → List (List ℕ) → Type 0
-AreLineTextsAlike texts pieces = ((texts ≡ []) × (pieces ≡ [])) ⊎
-    ((0 < length texts) × (0 < length pieces) × (line_linked_texts texts ≡ line_linked_texts pieces))
+abbrev pub AreFormatTextsAlike : List (List ℕ) → List (List ℕ) → Type 0
+AreFormatTextsAlike texts pieces = ((texts ≡ []) × (pieces ≡ [])) ⊎
+    ((0 < length texts) × (0 < length pieces) × (format_linked_texts texts ≡ format_linked_texts pieces))
 
-line_texts_alike_step : (o : Option FormatParam) (qs : List FormatParam) (own rest : List (List ℕ)) → IsShown o own
-    → AreLineTextsAlike (map param_text qs) rest
-    → AreLineTextsAlike (map param_text (cons_option o qs)) (own ++ rest)
-line_texts_alike_step o qs own rest shown alike = grind (arith, append-nil, line_join_cons, line_join_append)
+format_texts_alike_step : (o : Option FormatParam) (qs : List FormatParam) (own rest : List (List ℕ)) → IsShown o own
+    → AreFormatTextsAlike (map param_text qs) rest
+    → AreFormatTextsAlike (map param_text (cons_option o qs)) (own ++ rest)
+format_texts_alike_step o qs own rest shown alike = grind (arith, append-nil, format_linked_texts_cons, format_linked_texts_append)
 
-pub line_texts_alike : (fs : List Field) (p : FormatParams) → AllFormatFieldsWithin p
-    → AreLineTextsAlike (map param_text (filter_map (λ f. param_at f p) fs)) (line_all_field_pieces fs p)
-line_texts_alike [] p h = inl (refl, refl)
-line_texts_alike (f ∷ fs) p h = grind (arith, line_texts_alike_step, format_field_shows, line_texts_alike fs p h)
+pub format_texts_alike : (fs : List Field) (p : FormatParams) → AllFormatFieldsWithin p
+    → AreFormatTextsAlike (map param_text (filter_map (λ f. param_at f p) fs)) (format_pieces_of_fields fs p)
+format_texts_alike [] p h = inl (refl, refl)
+format_texts_alike (f ∷ fs) p h = grind (arith, format_texts_alike_step, format_field_shows, format_texts_alike fs p h)
 
 -- ---- and is cut into them
 
-line_free_append : (xs ys : List (List ℕ)) → AreParamTextsFreeOf 59 xs → AreParamTextsFreeOf 59 ys → AreParamTextsFreeOf 59 (xs ++ ys)
-line_free_append [] ys h k = k
-line_free_append (x ∷ xs) ys h k = (h.0, line_free_append xs ys h.1 k)
+format_texts_free_append : (xs ys : List (List ℕ)) → AreParamTextsFreeOf 59 xs → AreParamTextsFreeOf 59 ys
+    → AreParamTextsFreeOf 59 (xs ++ ys)
+format_texts_free_append [] ys h k = k
+format_texts_free_append (x ∷ xs) ys h k = (h.0, format_texts_free_append xs ys h.1 k)
 
 free_pairs : (pairs : List (List ℕ × List ℕ)) → AllByRecursion IsSolidPair pairs → AreParamTextsFreeOf 59 (map joined_pair pairs)
 free_pairs [] h = tt
@@ -114,23 +115,24 @@ free_pairs (pair ∷ pairs) h =
       free_pairs pairs h.1,
     )
 
-line_free_bare_params : (texts : List (List ℕ)) → AllByRecursion IsSolid texts → AreParamTextsFreeOf 59 texts
-line_free_bare_params [] h = tt
-line_free_bare_params (text ∷ texts) h = (pair_text_lacks_free 59 text (solid_lacks 59 text refl h.0), line_free_bare_params texts h.1)
+format_bare_params_free : (texts : List (List ℕ)) → AllByRecursion IsSolid texts → AreParamTextsFreeOf 59 texts
+format_bare_params_free [] h = tt
+format_bare_params_free (text ∷ texts) h = (pair_text_lacks_free 59 text (solid_lacks 59 text refl h.0), format_bare_params_free texts h.1)
 
-line_free_pieces : (fs : List Field) (p : FormatParams) → AllFormatFieldsWithin p → AreParamTextsFreeOf 59 (line_all_field_pieces fs p)
-line_free_pieces [] p h = tt
-line_free_pieces (f ∷ fs) p h =
+format_pieces_free : (fs : List Field) (p : FormatParams) → AllFormatFieldsWithin p → AreParamTextsFreeOf 59 (format_pieces_of_fields fs p)
+format_pieces_free [] p h = tt
+format_pieces_free (f ∷ fs) p h =
     let own = format_field_shows f p (h f) in
-    line_free_append (shown_pieces_at f p) (line_all_field_pieces fs p)
-    (line_free_append (map joined_pair (given_pair_slots (shown_slots_at f p))) (bare_params_at f p)
+    format_texts_free_append (shown_pieces_at f p) (format_pieces_of_fields fs p)
+    (format_texts_free_append (map joined_pair (given_pair_slots (shown_slots_at f p))) (bare_params_at f p)
     (free_pairs (given_pair_slots (shown_slots_at f p)) own.plain)
-    (line_free_bare_params (bare_params_at f p) own.bare)) (line_free_pieces fs p h)
+    (format_bare_params_free (bare_params_at f p) own.bare)) (format_pieces_free fs p h)
 
-line_cut_pieces : (texts : List (List ℕ)) (all : List (List ℕ)) → AreLineTextsAlike texts all → AreParamTextsFreeOf 59 all
-    → (pieces (line_linked_texts texts) ≡ all) ⊎ ((all ≡ []) × (pieces (line_linked_texts texts) ≡ [] ∷ []))
-line_cut_pieces texts [] alike free = elim alike [ inl none ↦ inr (refl, rw none.0 refl) | inr some ↦ absurd (omega (arith, some.1)) ]
-line_cut_pieces texts (first ∷ more) alike free = elim alike
+format_line_cut_pieces : (texts : List (List ℕ)) (all : List (List ℕ)) → AreFormatTextsAlike texts all → AreParamTextsFreeOf 59 all
+    → (pieces (format_linked_texts texts) ≡ all) ⊎ ((all ≡ []) × (pieces (format_linked_texts texts) ≡ [] ∷ []))
+format_line_cut_pieces texts [] alike free = elim alike
+    [ inl none ↦ inr (refl, rw none.0 refl) | inr some ↦ absurd (omega (arith, some.1)) ]
+format_line_cut_pieces texts (first ∷ more) alike free = elim alike
     [ inl none ↦ absurd cc | inr some ↦ inl (ap pieces some.2 ∙ slice_split-join 59 first more free) ]
 
 -- ---- keys and values of pieces
@@ -162,25 +164,26 @@ bare_params_found : (texts : List (List ℕ)) → AllByRecursion IsSolid texts
 bare_params_found [] h = (refl, refl)
 bare_params_found (text ∷ texts) h = grind (arith, bare_params_found texts h.1, no_pair, bare_param_found)
 
-line_pieces_found : (fs : List Field) (p : FormatParams) → AllFormatFieldsWithin p
-    → (pairs_in (line_all_field_pieces fs p) ≡ all_pairs fs p) × (bare_params_in (line_all_field_pieces fs p) ≡ line_all_bare_params fs p)
+format_pieces_found : (fs : List Field) (p : FormatParams) → AllFormatFieldsWithin p
+    → (pairs_in (format_pieces_of_fields fs p) ≡ all_pairs fs p)
+    × (bare_params_in (format_pieces_of_fields fs p) ≡ format_bare_params_of_fields fs p)
 unfolding pairs_in bare_params_in
-line_pieces_found [] p h = (refl, refl)
-line_pieces_found (f ∷ fs) p h =
+format_pieces_found [] p h = (refl, refl)
+format_pieces_found (f ∷ fs) p h =
     let own = format_field_shows f p (h f) in
     let keyed = map joined_pair (given_pair_slots (shown_slots_at f p)) in
     let pairs = piece_pairs_found (given_pair_slots (shown_slots_at f p)) own.plain in
     let bares = bare_params_found (bare_params_at f p) own.bare in
-    let rest = line_pieces_found fs p h in (
-      filter_map-append pair_in (keyed ++ bare_params_at f p) (line_all_field_pieces fs p)
-          ∙ ap (λ (t : List (List ℕ × List ℕ)). t ++ filter_map pair_in (line_all_field_pieces fs p))
+    let rest = format_pieces_found fs p h in (
+      filter_map-append pair_in (keyed ++ bare_params_at f p) (format_pieces_of_fields fs p)
+          ∙ ap (λ (t : List (List ℕ × List ℕ)). t ++ filter_map pair_in (format_pieces_of_fields fs p))
           (filter_map-append pair_in keyed (bare_params_at f p)
           ∙ ap (λ (t : List (List ℕ × List ℕ)). t ++ filter_map pair_in (bare_params_at f p))
           pairs.0 ∙ ap (λ (t : List (List ℕ × List ℕ)). given_pair_slots (shown_slots_at f p) ++ t) bares.0
           ∙ append-nil (given_pair_slots (shown_slots_at f p)))
           ∙ ap (λ (t : List (List ℕ × List ℕ)). given_pair_slots (shown_slots_at f p) ++ t) rest.0,
-      filter_map-append bare_param_in (keyed ++ bare_params_at f p) (line_all_field_pieces fs p)
-          ∙ ap (λ (t : List (List ℕ)). t ++ filter_map bare_param_in (line_all_field_pieces fs p))
+      filter_map-append bare_param_in (keyed ++ bare_params_at f p) (format_pieces_of_fields fs p)
+          ∙ ap (λ (t : List (List ℕ)). t ++ filter_map bare_param_in (format_pieces_of_fields fs p))
           (filter_map-append bare_param_in keyed (bare_params_at f p)
           ∙ ap (λ (t : List (List ℕ)). t ++ filter_map bare_param_in (bare_params_at f p)) pairs.1
           ∙ bares.1)
@@ -193,34 +196,34 @@ abbrev single_format_fields : List Field
 single_format_fields = filter shown_is_single FIELDS
 
 -- the fields with one key that may stand beside a profile, tier and level: all but the profile
-abbrev line_is_beside_triple : Field → Bool
-line_is_beside_triple (field.Key key.ProfileId) = false
-line_is_beside_triple f = shown_is_single f
+abbrev is_format_field_beside_triple : Field → Bool
+is_format_field_beside_triple (field.Key key.ProfileId) = false
+is_format_field_beside_triple f = shown_is_single f
 
-abbrev rest : List Field
-rest = filter line_is_beside_triple FIELDS
+abbrev format_fields_beside_triple : List Field
+format_fields_beside_triple = filter is_format_field_beside_triple FIELDS
 
-line_cons_append : {A : Type 0} (o : Option A) (xs : List A) → cons_option o [] ++ xs ≡ cons_option o xs
-line_cons_append o xs = grind arith
+format_option_append : {A : Type 0} (o : Option A) (xs : List A) → cons_option o [] ++ xs ≡ cons_option o xs
+format_option_append o xs = grind arith
 
-line_reads_all_fields : (fs : List Field) (p : FormatParams) → AllFormatFieldsWithin p → list_all shown_is_single fs ≡ true
+format_fields_all_read : (fs : List Field) (p : FormatParams) → AllFormatFieldsWithin p → list_all shown_is_single fs ≡ true
     → map param_of (all_pairs fs p) ≡ filter_map (λ f. param_at f p) fs
-line_reads_all_fields [] p h single = refl
-line_reads_all_fields (f ∷ fs) p h single =
+format_fields_all_read [] p h single = refl
+format_fields_all_read (f ∷ fs) p h single =
     let k = and_parts (shown_is_single f) (list_all shown_is_single fs) single in
     map-append param_of (given_pair_slots (shown_slots_at f p)) (all_pairs fs p)
     ∙ ap (λ (t : List FormatParam). t ++ map param_of (all_pairs fs p)) (format_field_reads f p k.0 (h f))
-    ∙ ap (λ (t : List FormatParam). cons_option (param_at f p) [] ++ t) (line_reads_all_fields fs p h k.1)
-    ∙ line_cons_append (param_at f p) (filter_map (λ f. param_at f p) fs)
+    ∙ ap (λ (t : List FormatParam). cons_option (param_at f p) [] ++ t) (format_fields_all_read fs p h k.1)
+    ∙ format_option_append (param_at f p) (filter_map (λ f. param_at f p) fs)
 
-pub line_pairs_unmarked : (pairs : List (List ℕ × List ℕ)) → has_triple_mark pairs ≡ false → params_read pairs ≡ map param_of pairs
+pub format_pairs_unmarked : (pairs : List (List ℕ × List ℕ)) → has_triple_mark pairs ≡ false → params_read pairs ≡ map param_of pairs
 unfolding params_read
-line_pairs_unmarked pairs e = rw e refl
+format_pairs_unmarked pairs e = rw e refl
 
-pub marked : (pairs : List (List ℕ × List ℕ)) → has_triple_mark pairs ≡ true → pairs_merged pairs ≡ pairs
+pub format_pairs_marked : (pairs : List (List ℕ × List ℕ)) → has_triple_mark pairs ≡ true → pairs_merged pairs ≡ pairs
     → params_read pairs ≡ joined_pairs_read pairs
 unfolding params_read
-marked pairs e same = rw (e, same) refl
+format_pairs_marked pairs e same = rw (e, same) refl
 
 without_triple : (p : FormatParams) → AllFormatFieldsWithin p → p.h265_profile_tier_level ≡ None → p.h266_profile_tier_level ≡ None
     → params_read (all_pairs FIELDS p) ≡ filter_map (λ f. param_at f p)
@@ -229,35 +232,38 @@ without_triple p h e5 e6 =
     grind (
       arith,
       pairs_slots single_format_fields p,
-      mark_given_pair_slots (line_all_slots single_format_fields p),
-      line_pairs_unmarked (all_pairs single_format_fields p),
-      line_reads_all_fields single_format_fields p h,
+      mark_given_pair_slots (format_slots_of_fields single_format_fields p),
+      format_pairs_unmarked (all_pairs single_format_fields p),
+      format_fields_all_read single_format_fields p h,
     )
 
 abbrev triple_first : List Field
-triple_first = field.H265ProfileTierLevel ∷ field.H266ProfileTierLevel ∷ field.Key key.ProfileId ∷ rest
+triple_first = field.H265ProfileTierLevel ∷ field.H266ProfileTierLevel ∷ field.Key key.ProfileId ∷ format_fields_beside_triple
 
 -- ---- with a triple
 
 -- the keys of a triple in the place of H265's, among those of the other fields
-abbrev line_slots_beside : List ℕ → List ℕ → List ℕ → FormatParams → Field → PairSlots
-line_slots_beside a b c p field.H265ProfileTierLevel = (PROFILE_ID.now, Some a) ∷ (TIER_FLAG.now, Some b) ∷ (LEVEL_ID.now, Some c) ∷ []
-line_slots_beside a b c p f = cond (line_is_beside_triple f) (shown_slots_at f p) []
+abbrev format_slots_beside_triple : List ℕ → List ℕ → List ℕ → FormatParams → Field → PairSlots
+format_slots_beside_triple a b c p field.H265ProfileTierLevel = (PROFILE_ID.now, Some a) ∷ (TIER_FLAG.now, Some b) ∷ (LEVEL_ID.now, Some c)
+    ∷ []
+format_slots_beside_triple a b c p f = cond (is_format_field_beside_triple f) (shown_slots_at f p) []
 
-abbrev line_slots_with : List ℕ → List ℕ → List ℕ → FormatParams → PairSlots
-line_slots_with a b c p = flat_map (line_slots_beside a b c p) FIELDS
+abbrev format_slots_with_triple : List ℕ → List ℕ → List ℕ → FormatParams → PairSlots
+format_slots_with_triple a b c p = flat_map (format_slots_beside_triple a b c p) FIELDS
 
 with_triple : (q : FormatParam) (a b c : List ℕ) (p : FormatParams) → AllFormatFieldsWithin p
-    → all_pairs FIELDS p ≡ given_pair_slots (line_slots_with a b c p)
-    → triple_read (Some a, Some b, Some c) ≡ Some q → params_read (all_pairs FIELDS p) ≡ q ∷ filter_map (λ f. param_at f p) rest
+    → all_pairs FIELDS p ≡ given_pair_slots (format_slots_with_triple a b c p)
+    → triple_read (Some a, Some b, Some c) ≡ Some q → params_read (all_pairs FIELDS p) ≡ q
+    ∷ filter_map (λ f. param_at f p) format_fields_beside_triple
 with_triple q a b c p h own read =
-    let rows = line_slots_with a b c p in
+    let rows = format_slots_with_triple a b c p in
     let texts : triple_texts_of (given_pair_slots rows) ≡ (Some a, Some b, Some c) =
     λ i. (pair_slot_look_given PROFILE_ID.now rows i, pair_slot_look_given TIER_FLAG.now rows i, pair_slot_look_given LEVEL_ID.now rows i)
     in
-    let others_are : map param_of (other_pairs (given_pair_slots rows)) ≡ filter_map (λ f. param_at f p) rest =
-    ap (map param_of) (others_given_pair_slots rows ∙ sym (pairs_slots rest p)) ∙ line_reads_all_fields rest p h refl in
-    ap params_read own ∙ marked (given_pair_slots rows) (mark_given_pair_slots rows) (merged_given_pair_slots rows refl)
+    let others_are : map param_of (other_pairs (given_pair_slots rows)) ≡ filter_map (λ f. param_at f p) format_fields_beside_triple =
+    ap (map param_of) (others_given_pair_slots rows ∙ sym (pairs_slots format_fields_beside_triple p))
+    ∙ format_fields_all_read format_fields_beside_triple p h refl in
+    ap params_read own ∙ format_pairs_marked (given_pair_slots rows) (mark_given_pair_slots rows) (merged_given_pair_slots rows refl)
     ∙ ap (λ (o : Option FormatParam). cons_option o (map param_of (other_pairs (given_pair_slots rows)))) (ap triple_read texts ∙ read)
     ∙ ap (λ (qs : List FormatParam). q ∷ qs) others_are
 
@@ -301,15 +307,15 @@ no_events o e = grind arith
 
 -- ---- the whole
 
-line_some_not_none : {A C : Type 0} (o : Option A) (x : A) → o ≡ Some x → o ≡ None → C
-line_some_not_none o x e f = absurd (none-some x (sym f ∙ e))
+format_some_not_none : {A C : Type 0} (o : Option A) (x : A) → o ≡ Some x → o ≡ None → C
+format_some_not_none o x e f = absurd (none-some x (sym f ∙ e))
 
 format_concluded : (order : List Field) (p r : FormatParams) (bares params : List FormatParam)
     → are_format_fields_fresh (field.TelephoneEvents ∷ order) p empty ≡ true
     → format_fields_filled (field.TelephoneEvents ∷ order) p empty ≡ p
     → set_all empty bares ≡ set_all empty (cons_option (param_at field.TelephoneEvents p) [])
     → params ≡ filter_map (λ f. param_at f p) order → r ≡ set_all empty (bares ++ params) → r ≡ p
-format_concluded order p r bares params fresh whole first second e = grind (arith, set_all-append, line_cons_append, set_each)
+format_concluded order p r bares params fresh whole first second e = grind (arith, set_all-append, format_option_append, set_each)
 
 -- the order in which the parameters of a printed line are set
 pub record FormatFieldOrder (p : FormatParams) : Type 0 where
@@ -326,23 +332,26 @@ format_field_order_of p h (Some t) None e5 e6 = record {
   order = triple_first;
   fresh = refl;
   whole = refl;
-  read = with_h265 p t h.values e5 e6 (elim h.profile [ inl e ↦ e | inr both ↦ line_some_not_none p.h265_profile_tier_level t e5 both.0 ]);
+  read = with_h265 p t h.values e5 e6
+      (elim h.profile [ inl e ↦ e | inr both ↦ format_some_not_none p.h265_profile_tier_level t e5 both.0 ]);
 }
 format_field_order_of p h None (Some u) e5 e6 = record {
   order = triple_first;
   fresh = refl;
   whole = refl;
-  read = with_h266 p u h.values e6 e5 (elim h.profile [ inl e ↦ e | inr both ↦ line_some_not_none p.h266_profile_tier_level u e6 both.1 ]);
+  read = with_h266 p u h.values e6 e5
+      (elim h.profile [ inl e ↦ e | inr both ↦ format_some_not_none p.h266_profile_tier_level u e6 both.1 ]);
 }
 format_field_order_of p h (Some t) (Some u) e5 e6 = grind arith
 
 -- the values without a key that are printed
-bare_params_printed : (p : FormatParams) → line_all_bare_params FIELDS p ≡ bare_params_at field.TelephoneEvents p
+bare_params_printed : (p : FormatParams) → format_bare_params_of_fields FIELDS p ≡ bare_params_at field.TelephoneEvents p
 bare_params_printed p = append-nil (bare_params_at field.TelephoneEvents p)
 
-line_texts : (p : FormatParams) → params_text p ≡ line_linked_texts (map param_text (filter_map (λ f. param_at f p) FIELDS))
+format_params_text_linked : (p : FormatParams) → params_text p
+    ≡ format_linked_texts (map param_text (filter_map (λ f. param_at f p) FIELDS))
 unfolding params_text params_of
-line_texts p = refl
+format_params_text_linked p = refl
 
 no_piece_pairs : pairs_in ([] ∷ []) ≡ []
 unfolding pairs_in
@@ -356,22 +365,22 @@ pub format_itself : (line : List ℕ) (p r : FormatParams) → CanFormatBeReadBa
 unfolding pairs_in bare_params_in
 format_itself line p r h printed reading =
     let order = format_field_order_of p h p.h265_profile_tier_level p.h266_profile_tier_level refl refl in
-    let is = line_pieces_found FIELDS p h.values in
+    let is = format_pieces_found FIELDS p h.values in
     let events = h.values field.TelephoneEvents in
     let params_are : pairs_in (pieces line) ≡ all_pairs FIELDS p → reading.params ≡ filter_map (λ f. param_at f p) order.order =
     λ same. pairs_read_only (pairs_in (pieces line)) reading.params reading.params_are ∙ ap params_read same ∙ order.read in
-    elim (line_cut_pieces (map param_text (filter_map (λ f. param_at f p) FIELDS)) (line_all_field_pieces FIELDS p)
-    (line_texts_alike FIELDS p h.values)
-    (line_free_pieces FIELDS p h.values)) [
+    elim (format_line_cut_pieces (map param_text (filter_map (λ f. param_at f p) FIELDS)) (format_pieces_of_fields FIELDS p)
+    (format_texts_alike FIELDS p h.values)
+    (format_pieces_free FIELDS p h.values)) [
       | inl same ↦
-          let whole : pieces line ≡ line_all_field_pieces FIELDS p = ap pieces (printed ∙ line_texts p) ∙ same in
+          let whole : pieces line ≡ format_pieces_of_fields FIELDS p = ap pieces (printed ∙ format_params_text_linked p) ∙ same in
           let bares_are = bares_set p.telephone_event_max reading.bares events
           (subst (λ (ts : List (List ℕ)). AllZip IsBareParam ts reading.bares) (ap bare_params_in whole ∙ is.1 ∙ bare_params_printed p)
           reading.bares_are) in
           format_concluded order.order p r reading.bares reading.params order.fresh order.whole (ap (set_all empty) bares_are)
           (params_are (ap pairs_in whole ∙ is.0)) reading.format
       | inr empty_text ↦
-          let whole : pieces line ≡ [] ∷ [] = ap pieces (printed ∙ line_texts p) ∙ empty_text.1 in
+          let whole : pieces line ≡ [] ∷ [] = ap pieces (printed ∙ format_params_text_linked p) ∙ empty_text.1 in
           let none : p.telephone_event_max ≡ None =
           no_events p.telephone_event_max (sym (bare_params_printed p) ∙ sym is.1 ∙ ap bare_params_in empty_text.0) in
           let pairs_are : pairs_in (pieces line) ≡ all_pairs FIELDS p =

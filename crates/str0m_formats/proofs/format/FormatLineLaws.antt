@@ -7,8 +7,8 @@ use Rattle.str0m_formats.specs.declared.codec.Codec.TheVariants.{AmrWb}
 use Rattle.str0m_formats.specs.declared.format.format_param.FormatParam.{FormatParam}
 use Rattle.str0m_formats.specs.declared.format.format_params.FormatParams.{FormatParams}
 use Rattle.str0m_formats.specs.format.FormatLine.{pair_in, bare_param_in, pairs_in, bare_params_in, pieces, IsFormatOfBares, IsFormatOfLine}
-use Rattle.str0m_formats.specs.format.FormatLine.{is_unsupported_param, line_asks_absent, line_without_event_ranges, params_of_lines}
-use Rattle.str0m_formats.specs.format.FormatLine.{line_values}
+use Rattle.str0m_formats.specs.format.FormatLine.{is_unsupported_param, format_lines_ask_absent, line_without_event_ranges, params_of_lines}
+use Rattle.str0m_formats.specs.format.FormatLine.{format_line_values}
 use Rattle.str0m_formats.specs.format.FormatParam.{IsBareParam, pair_texts}
 use Rattle.str0m_formats.specs.format.FormatParams.{empty, set, set_all}
 use Rattle.str0m_formats.specs.format.Pairs.{ArePairsRead}
@@ -17,13 +17,13 @@ pub set_all-append : (xs ys : List FormatParam) (p : FormatParams) → set_all p
 set_all-append [] ys p = refl
 set_all-append (x ∷ xs) ys p = set_all-append xs ys (set x p)
 
-pub line_asks_absent_answer : (lines : List (Bor (List FormatParam))) (answer : Bool)
+pub format_lines_ask_answer : (lines : List (Bor (List FormatParam))) (answer : Bool)
     → answer ≡ list_any (λ line. list_any is_unsupported_param line.now) lines
-    → answer ≡ line_asks_absent AmrWb (line_values lines)
-unfolding line_asks_absent
-line_asks_absent_answer lines answer e = e ∙ sym (go lines)
+    → answer ≡ format_lines_ask_absent AmrWb (format_line_values lines)
+unfolding format_lines_ask_absent
+format_lines_ask_answer lines answer e = e ∙ sym (go lines)
   where
-    go : (lines : List (Bor (List FormatParam))) → list_any (λ line. list_any is_unsupported_param line) (line_values lines)
+    go : (lines : List (Bor (List FormatParam))) → list_any (λ line. list_any is_unsupported_param line) (format_line_values lines)
         ≡ list_any (λ line. list_any is_unsupported_param line.now) lines
     go [] = refl
     go (line ∷ lines) = ap (λ b. list_any is_unsupported_param line.now || b) (go lines)
@@ -38,20 +38,20 @@ pub bare_params_more : (pieces : List (List ℕ)) (piece : List ℕ) → bare_pa
 unfolding bare_params_in
 bare_params_more pieces piece = filter_map-append bare_param_in pieces (piece ∷ [])
 
-line_values-push : (lines : List (List FormatParam)) (line : List FormatParam)
+format_params_of_lines-push : (lines : List (List FormatParam)) (line : List FormatParam)
     → params_of_lines (lines ++ line ∷ []) ≡ params_of_lines lines ++ line_without_event_ranges line
-line_values-push [] line = append-nil (line_without_event_ranges line)
-line_values-push (l ∷ lines) line = grind (arith, line_values-push lines line, append_assoc)
+format_params_of_lines-push [] line = append-nil (line_without_event_ranges line)
+format_params_of_lines-push (l ∷ lines) line = grind (arith, format_params_of_lines-push lines line, append_assoc)
 
 -- one more line
-pub line_values_more : (lines : List (Bor (List FormatParam))) (i : ℕ) (d : Bor (List FormatParam)) → i < length lines
-    → set_all (set_all empty (params_of_lines (line_values (take i lines)))) (line_without_event_ranges (get_or lines i d).now)
-    ≡ set_all empty (params_of_lines (line_values (take (i + 1) lines)))
-line_values_more lines i d lt =
-    sym (set_all-append (params_of_lines (line_values (take i lines))) (line_without_event_ranges (get_or lines i d).now) empty)
-    ∙ ap (set_all empty) (sym (line_values-push (line_values (take i lines)) (get_or lines i d).now)
+pub format_line_values_more : (lines : List (Bor (List FormatParam))) (i : ℕ) (d : Bor (List FormatParam)) → i < length lines
+    → set_all (set_all empty (params_of_lines (format_line_values (take i lines)))) (line_without_event_ranges (get_or lines i d).now)
+    ≡ set_all empty (params_of_lines (format_line_values (take (i + 1) lines)))
+format_line_values_more lines i d lt =
+    sym (set_all-append (params_of_lines (format_line_values (take i lines))) (line_without_event_ranges (get_or lines i d).now) empty)
+    ∙ ap (set_all empty) (sym (format_params_of_lines-push (format_line_values (take i lines)) (get_or lines i d).now)
     ∙ ap params_of_lines (sym (map-append (λ line. line.now) (take i lines) (get_or lines i d ∷ []))
-    ∙ ap line_values (sym (take_more lines i d lt))))
+    ∙ ap format_line_values (sym (take_more lines i d lt))))
 
 -- ---- pieces
 

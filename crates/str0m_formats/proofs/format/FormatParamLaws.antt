@@ -15,7 +15,7 @@ use Rattle.str0m_formats.specs.format.FormatKey.{key_text}
 use Rattle.str0m_formats.specs.format.FormatParam.{Kind, flag, number, hex, modes, exactly, anything, HeldParamValue, ReadsKind, kind}
 use Rattle.str0m_formats.specs.format.FormatParam.{keyed}
 use Rattle.str0m_formats.specs.format.FormatParam.{ParamHoldsValue, SpellsParam, IsParsedParam, AreParsedParams, IsEventRange, IsBareParam}
-use Rattle.str0m_formats.specs.format.FormatParamReading.{param_hex_read, keys, key_read, is_flag_one, kind_read, param_value_read}
+use Rattle.str0m_formats.specs.format.FormatParamReading.{param_hex_read, keys, key_read, is_param_flag_one, kind_read, param_value_read}
 use Rattle.str0m_formats.specs.format.FormatParamReading.{param_of}
 use Rattle.str0m_formats.specs.format.FormatParamReading.{bare_param}
 
@@ -33,7 +33,7 @@ key_only text = search (rules, codec_if_some_map, codec_find_passes, same_codec_
 
 -- a kind reads exactly what it is
 kind_complete : (k : Kind) (text : List ℕ) (x : HeldParamValue k) → ReadsKind k text x → kind_read k text ≡ Some x
-kind_complete flag text b h = ap (λ b. Some b) (one_answer (is_flag_one text) b (bytes_eq-Decides text (codes "1")) h)
+kind_complete flag text b h = ap (λ b. Some b) (one_answer (is_param_flag_one text) b (bytes_eq-Decides text (codes "1")) h)
 kind_complete (number limit) text n h = num_reads limit text n h
 kind_complete hex text n h = param_hex_both.complete text n h
 kind_complete modes text mask h = (modes_only text).only mask h

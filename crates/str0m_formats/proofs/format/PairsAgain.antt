@@ -5,7 +5,7 @@ use Rattle.str0m_formats.proofs.Common.{join_with_byte, keys_of, bytes_eq, lt-lt
 use Rattle.str0m_formats.proofs.Common.{IsDistinct-head, IsDistinct-tail, bytes_eq-Decides, ProfileTierLevel, decimal_nonempty}
 use Rattle.str0m_formats.proofs.format.FormatKeyAgain.{IsKeyed, AreKeyed, pair_of, key_param_prints, key_unmarked, own_key, keyed_or_hidden}
 use Rattle.str0m_formats.proofs.format.FormatKeyAgain.{keyed_shown, shown_keyed, keyed_params, keyed_texts, keyed_pairs, keyed_unmarked}
-use Rattle.str0m_formats.proofs.format.FormatLineAgain.{line_pairs_unmarked, marked}
+use Rattle.str0m_formats.proofs.format.FormatLineAgain.{format_pairs_unmarked, format_pairs_marked}
 use Rattle.str0m_formats.proofs.format.FormatParamsShown.{IsSolidPair, joined_pair, param_decimal_solid}
 use Rattle.str0m_formats.proofs.format.MergedPairsKeys.{IsLowKey, AreLowKeys, AreKeysApart, merged_apart, merged_others_all}
 use Rattle.str0m_formats.proofs.format.MergedPairsKeys.{merged_others_apart, merged_others_other}
@@ -31,7 +31,7 @@ pub record IsPairsLine (shown : List FormatParam) : Type 0 where
 -- ---- parameters of the table alone
 
 keyed_line : (params : List FormatParam) → AreKeyed params → IsPairsLine params
-keyed_line params keyed = grind (arith, keyed_pairs, keyed_texts, line_pairs_unmarked, keyed_unmarked, keyed_params)
+keyed_line params keyed = grind (arith, keyed_pairs, keyed_texts, format_pairs_unmarked, keyed_unmarked, keyed_params)
 
 pairs_read_alone : (pairs : List (List ℕ × List ℕ)) (params : List FormatParam) → AreParsedParams pairs params
     → IsPairsLine (filter key_param_prints params)
@@ -133,7 +133,7 @@ triple_line q a b c params text plain read h = record {
   plain = (plain.0, (plain.1.0, (plain.1.1.0, keyed_pairs params h.keyed)));
   text = pairs_whole_triple_text q a b c params h.keyed text;
   read =
-      marked pairs (pairs_whole_triple_marked a b c (map pair_of params))
+      format_pairs_marked pairs (pairs_whole_triple_marked a b c (map pair_of params))
       (merged_same pairs (refl, (refl, (refl, h.low))) (pairs_whole_triple_apart a b c params h))
       ∙ (λ i. cons_option (read i) (map param_of (merged_others_same (map pair_of params) h.other i)))
       ∙ ap (λ (ps : List FormatParam). q ∷ ps) (keyed_params params h.keyed);

@@ -2,7 +2,7 @@
 use Rattle.str0m_formats.proofs.Common.{◌≡◌, ◌≤◌, ℕ, List, Option, Some, None, refl, sym, subst, ◌∙◌, inl, inr, arith, rules, Bor, decimal}
 use Rattle.str0m_formats.proofs.Common.{none-some, IsTheOnly, ◌<|>◌, ProfileTierLevel, num_found, num_reads, only_read, cuts_bind_some}
 use Rattle.str0m_formats.proofs.Common.{cuts_some_is}
-use Rattle.str0m_formats.proofs.Common.{cuts_reads_none, option_map, IsGivenNumber, lay, cuts_none_reads, Reads}
+use Rattle.str0m_formats.proofs.Common.{cuts_reads_none, option_map, IsGivenNumber, part_text_of, cuts_none_reads, Reads}
 use Rattle.str0m_formats.proofs.format.FormatParamAgain.{param_decimal_reads}
 use Rattle.str0m_formats.proofs.format.FormatParamOnly.{only_same}
 use Rattle.str0m_formats.specs.declared.format.format_param.FormatParam.{FormatParam}
@@ -79,8 +79,9 @@ module _ {P T L : Type 0} (tables : ProfileTables P T L) (are : AreTripleTables 
 
   triple_of_texts : (profile tier level : Option (Bor (List ℕ))) (answer : Option (ProfileTierLevel P T L))
       → IsTheOnly (HasNumbersOfTexts tables.profile_id tables.tier_flag tables.level_id tables.defaults profile tier level) answer
-      → answer ≡ read_triple tables (lay profile, lay tier, lay level)
-  triple_of_texts profile tier level answer h = only_same answer _ h (only_read triple_both (lay profile, lay tier, lay level) _ refl)
+      → answer ≡ read_triple tables (part_text_of profile, part_text_of tier, part_text_of level)
+  triple_of_texts profile tier level answer h = only_same answer _ h
+      (only_read triple_both (part_text_of profile, part_text_of tier, part_text_of level) _ refl)
 
   triple_small : (t : ProfileTierLevel P T L) → AreTripleBytes tables t
   triple_small t = (are.profiles.byte t.profile, are.tiers.byte t.tier, are.levels.byte t.level)
@@ -108,12 +109,12 @@ module _ {P T L : Type 0} (tables : ProfileTables P T L) (are : AreTripleTables 
 
 pub h265_is : (profile tier level : Option (Bor (List ℕ))) (answer : Option h265_triple)
     → IsTheOnly (HasNumbersOfTexts h265.profile_id h265.tier_flag h265.level_id h265.h265_defaults profile tier level) answer
-    → answer ≡ read_triple h265_tables (lay profile, lay tier, lay level)
+    → answer ≡ read_triple h265_tables (part_text_of profile, part_text_of tier, part_text_of level)
 h265_is = triple_of_texts h265_tables h265_are
 
 pub h266_is : (profile tier level : Option (Bor (List ℕ))) (answer : Option h266_triple)
     → IsTheOnly (HasNumbersOfTexts h266.profile_id h266.tier_flag h266.level_id h266.h266_defaults profile tier level) answer
-    → answer ≡ read_triple h266_tables (lay profile, lay tier, lay level)
+    → answer ≡ read_triple h266_tables (part_text_of profile, part_text_of tier, part_text_of level)
 h266_is = triple_of_texts h266_tables h266_are
 
 pub h265_small : (t : h265_triple) → AreTripleBytes h265_tables t

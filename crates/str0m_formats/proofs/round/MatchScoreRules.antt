@@ -17,9 +17,9 @@ score_none_both t = grind arith
 score_of_unknown : (c : Codec) (a b : CodecSpec) → c ≡ Unknown → codec_score c a b ≡ None
 score_of_unknown c a b e = ap (λ d. codec_score d a b) e ∙ score_none_both (given_numbers_match a.channels b.channels)
 
-of_channels : (c : Codec) (a b : CodecSpec) → given_numbers_match a.channels b.channels ≡ false → c ≢ Tele → c ≢ AmrWb
+score_of_channels : (c : Codec) (a b : CodecSpec) → given_numbers_match a.channels b.channels ≡ false → c ≢ Tele → c ≢ AmrWb
     → codec_score c a b ≡ None
-of_channels c a b e t m = grind arith
+score_of_channels c a b e t m = grind arith
 
 module _ (a b : CodecSpec) where
   specs_differ : (a ≡ b → ⊥) → same_spec a b ≡ false
@@ -52,7 +52,7 @@ module _ (a b : CodecSpec) where
         let r = param_equality_fails (a.clock_rate == b.clock_rate) (unsigned_Decides a.clock_rate b.clock_rate) n in
         rw (s, r, and-false) refl;
     channels_differ = λ n t m. let s = specs_differ (λ e. n (ap (λ (x : CodecSpec). x.channels) e)) in
-        let own = of_channels a.codec a b
+        let own = score_of_channels a.codec a b
         (param_equality_fails (given_numbers_match a.channels b.channels) (param_options_decided a.channels b.channels) n) t m
         in
         rw (s, own) (score_none_both _);

@@ -18,7 +18,7 @@ use Rattle.str0m_formats.specs.round.Claimed.{TypeSet, has, with_type, claimed_w
 use Rattle.str0m_formats.specs.round.Narrowing.{narrowed}
 use Rattle.str0m_formats.specs.round.Rounds.{then_in_round, role_type, rtx_type, locked_to, placed, types_taken_by, types_taken_after}
 use Rattle.str0m_formats.specs.round.Rounds.{settled_row}
-use Rattle.str0m_formats.specs.round.Rounds.{kept_or_free_claim, kept_red, kept_rtx, StopsFirstPass, StopsSecondPass, Refused}
+use Rattle.str0m_formats.specs.round.Rounds.{kept_or_free_claim, kept_red, kept_rtx, StopsFirstPass, StopsSecondPass, RoundRefused}
 use Rattle.str0m_formats.specs.row.PayloadParams.{types_of, types, locked_types, open_types}
 
 -- ---- a list without repeats that stands in another is no longer
@@ -221,9 +221,9 @@ second_pass_room (m ∷ mid) (d ∷ done) row same next is_open =
         ap (λ b. length (types (cond (not b) (d ∷ filter (λ x. not x.locked) done) (filter (λ x. not x.locked) done)))) (f ∙ e) in
         omega (arith, rec, l, o, length-append (types_of d) (open_types done), length-types_of d)
 
-line_without_event_ranges-fails : (locked taken unlocked : TypeSet) (receives : Bool) (t : ℕ)
+round_kept_role-fails : (locked taken unlocked : TypeSet) (receives : Bool) (t : ℕ)
     → IfErr (ok_or (kept_or_free_claim locked taken unlocked t) Exhausted) (RoundFails taken unlocked receives)
-line_without_event_ranges-fails locked taken unlocked receives t = grind arith
+round_kept_role-fails locked taken unlocked receives t = grind arith
 
 kept_rtx-fails : (locked taken unlocked : TypeSet) (receives : Bool) (own : Option ℕ)
     → IfErr (kept_rtx locked taken unlocked own) (RoundFails taken unlocked receives)
@@ -244,7 +244,7 @@ settled-fails locked taken unlocked receives row = go row.locked where
       round_step_then_err (ok_or (kept_or_free_claim locked taken unlocked row.pt) Exhausted) _ (RowFails taken unlocked receives)
       (round_fails_beside (ok_or (kept_or_free_claim locked taken unlocked row.pt) Exhausted) taken taken unlocked receives []
       (either_types_no_more taken)
-      (omega arith) (line_without_event_ranges-fails locked taken unlocked receives row.pt))
+      (omega arith) (round_kept_role-fails locked taken unlocked receives row.pt))
       (λ pt.
       let red = kept_red locked (with_type taken pt) unlocked row.red in
       let two = claimed_with_option (with_type taken pt) red in
@@ -297,7 +297,7 @@ RoundOfFewRefused before remote receives cause = HasLargeClaim before remote cau
     (HasClaimRepeat before remote cause ⊎ RoundDemands receives cause)
 
 pub round_of_few_refused : (before remote : List PayloadParams) (receives : Bool) (cause : NegotiationError) → length before ≤ 14
-    → Refused before remote receives cause → RoundOfFewRefused before remote receives cause
+    → RoundRefused before remote receives cause → RoundOfFewRefused before remote receives cause
 round_of_few_refused before remote receives cause few f = go (round_refusal_cases_of before remote receives cause f) where
   go : RoundRefusalCases before remote receives cause → RoundOfFewRefused before remote receives cause
   go (inl h) = inl h
@@ -307,6 +307,6 @@ round_of_few_refused before remote receives cause few f = go (round_refusal_case
 
 -- so not for want of a type
 pub round_never_exhausted : (before remote : List PayloadParams) (receives : Bool) → length before ≤ 14
-    → Refused before remote receives Exhausted
+    → RoundRefused before remote receives Exhausted
     → ⊥
 round_never_exhausted before remote receives few f = grind (arith, round_of_few_refused)

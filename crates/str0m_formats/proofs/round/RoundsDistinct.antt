@@ -11,7 +11,7 @@ use Rattle.str0m_formats.proofs.round.RoundsRowCounts.{type_times-split}
 use Rattle.str0m_formats.proofs.round.RoundsRowCounts.{RoundStandingTimes, round_standing_step}
 use Rattle.str0m_formats.proofs.round.RoundsWhole.{row_before, round_begun_open}
 use Rattle.str0m_formats.proofs.round.SettlingPass.{settled-locked, SettledParts, settled_parts, settled-same}
-use Rattle.str0m_formats.proofs.round.SettlingRows.{row-held, row-once}
+use Rattle.str0m_formats.proofs.round.SettlingRows.{settled_row-held, settled_row-once}
 use Rattle.str0m_formats.specs.declared.row.payload_params.PayloadParams.{PayloadParams}
 use Rattle.str0m_formats.specs.round.Claimed.{has, either_set, type_times, AllTypesDistinct}
 use Rattle.str0m_formats.specs.round.Rounds.{types_taken_after, AllRoundsBegun, Settled, RoundLeaves}
@@ -60,7 +60,7 @@ module _ (before remote : List PayloadParams) (receives : Bool) (mid after : Lis
         go : (either_set (types_taken_after mid (take i after)) (has (open_types before)) t ≡ true) ⊎
             (either_set (types_taken_after mid (take i after)) (has (open_types before)) t ≡ false)
             → RoundStandingTimes distinct_is_open mid after (suc i) t ≤ 1
-        go (inl h) = omega (arith, changed, rec, row-held _ _ _ row new parts t h)
+        go (inl h) = omega (arith, changed, rec, settled_row-held _ _ _ row new parts t h)
         go (inr h) =
             let apart = or_parts (types_taken_after mid (take i after) t) (has (open_types before) t) h in
             let none_before = type_times-none (open_types before) t apart.1 in
@@ -76,7 +76,7 @@ module _ (before remote : List PayloadParams) (receives : Bool) (mid after : Lis
               fewer,
               round_times_where-drop distinct_is_open mid i t,
               type_times-append (locked_types mid) (open_types (take i after)) t,
-              row-once _ _ _ row new parts t none_row,
+              settled_row-once _ _ _ row new parts t none_row,
             )
 
   distinct_open_next : (i : ℕ) → i < length after → length after ≡ length mid → RoundStandingTimes distinct_is_open mid after i t ≤ 1

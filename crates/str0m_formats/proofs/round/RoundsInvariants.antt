@@ -12,7 +12,7 @@ use Rattle.str0m_formats.proofs.round.RoundsRowCounts.{RoundStandingTimes, round
 use Rattle.str0m_formats.proofs.round.RoundsRowSteps.{round_role-given, rtx-given, red-given}
 use Rattle.str0m_formats.proofs.round.RoundsWhole.{row_before}
 use Rattle.str0m_formats.proofs.round.SettlingPass.{settled-locked, settled-same, settled_parts}
-use Rattle.str0m_formats.proofs.round.SettlingRows.{row-apart}
+use Rattle.str0m_formats.proofs.round.SettlingRows.{settled_row-apart}
 use Rattle.str0m_formats.proofs.row.PayloadParamsSets.{row_types_has-append}
 use Rattle.str0m_formats.specs.codec.Codec.{CodecContent, audio, codec_content}
 use Rattle.str0m_formats.specs.declared.row.payload_params.PayloadParams.{PayloadParams}
@@ -230,7 +230,7 @@ locked_alone before remote receives after r t h =
     let open_row = round_open_none after t (λ i row at_row is_open.
     let between = row_before r.mid after i row r.whole at_row in
     let s = r.second.each i between.0 row between.1 at_row in
-    row-apart locked (types_taken_after r.mid (take i after)) (has (open_types before)) between.0 row
+    settled_row-apart locked (types_taken_after r.mid (take i after)) (has (open_types before)) between.0 row
     (settled_parts _ _ _ between.0 row s (sym (settled-locked _ _ _ between.0 row s) ∙ is_open)) t l
     (ap (λ f. f t) (row_types_has-append (locked_types r.mid) (open_types (take i after)))
     ∙ or_left (locked t) (has (open_types (take i after)) t) l)) in

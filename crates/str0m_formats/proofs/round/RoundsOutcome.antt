@@ -14,7 +14,7 @@ use Rattle.str0m_formats.specs.round.Rounds.{types_taken_by, types_taken_after, 
 use Rattle.str0m_formats.specs.round.Rounds.{Settled, StopsFirstPass}
 use Rattle.str0m_formats.specs.round.Rounds.{StopsSettling, StopsSecondPass, RoundLeaves, IsFirstClaimRepeat, RoundLeavesOnly}
 use Rattle.str0m_formats.specs.round.Rounds.{RoundRefusedOnly}
-use Rattle.str0m_formats.specs.round.Rounds.{Refused}
+use Rattle.str0m_formats.specs.round.Rounds.{RoundRefused}
 use Rattle.str0m_formats.specs.row.PayloadParams.{AllTypesSmall, types, locked_types, open_types}
 
 -- ---- two splits of one list
@@ -35,16 +35,17 @@ score_of o P n e h = let Q : Option ℕ → Type 0 = λ v. IfSome v P in subst Q
 
 -- ---- one choice
 
-pub choice_unique : (points : PayloadParams → Option ℕ) (rows : List PayloadParams) (a b : Option PayloadParams) → IsChoice points rows a
+pub round_choice_unique : (points : PayloadParams → Option ℕ) (rows : List PayloadParams) (a b : Option PayloadParams)
+    → IsChoice points rows a
     → IsChoice points rows b → a ≡ b
-choice_unique points rows None None ha hb = refl
-choice_unique points rows None (Some b) ha hb =
+round_choice_unique points rows None None ha hb = refl
+round_choice_unique points rows None (Some b) ha hb =
     let none : points b ≡ None = rows_all_at_split (λ r. points r ≡ None) rows hb.before b hb.after hb.split ha in
     absurd (none-some hb.most (sym none ∙ hb.has_most))
-choice_unique points rows (Some a) None ha hb =
+round_choice_unique points rows (Some a) None ha hb =
     let none : points a ≡ None = rows_all_at_split (λ r. points r ≡ None) rows ha.before a ha.after ha.split hb in
     absurd (none-some ha.most (sym none ∙ ha.has_most))
-choice_unique points rows (Some a) (Some b) ha hb = go
+round_choice_unique points rows (Some a) (Some b) ha hb = go
     (pass_split_order ha.before hb.before a b ha.after hb.after (sym ha.split ∙ hb.split))
   where
     go : ((ha.before ≡ hb.before) × (a ≡ b)) ⊎
@@ -68,7 +69,7 @@ choice_unique points rows (Some a) (Some b) ha hb = go
 round_becomes_unique : (taken unlocked : TypeSet) (remote : List PayloadParams) (receives : Bool) (row : PayloadParams)
     (x y : Result PayloadParams NegotiationError) → RowBecomes taken unlocked remote receives row x
     → RowBecomes taken unlocked remote receives row y → x ≡ y
-round_becomes_unique taken unlocked remote receives row x y hx hy = grind (arith, choice_unique)
+round_becomes_unique taken unlocked remote receives row x y hx hy = grind (arith, round_choice_unique)
 
 -- ---- one end of a pass
 
@@ -206,7 +207,7 @@ RoundRefusalCases before remote receives cause = HasLargeClaim before remote cau
     (HasClaimRepeat before remote cause ⊎ (StopsFirstPass before remote receives cause ⊎ StopsSecondPass before remote receives cause))
 
 pub round_refusal_cases_of : (before remote : List PayloadParams) (receives : Bool) (cause : NegotiationError)
-    → Refused before remote receives cause
+    → RoundRefused before remote receives cause
     → RoundRefusalCases before remote receives cause
 round_refusal_cases_of before remote receives cause o = grind arith
 
@@ -231,7 +232,7 @@ second_pass_whole unlocked mid after cause s m w =
     (omega (arith, slice_get_within mid (length s.done) s.row s.next, w))
 
 pub round_not_refused : (before remote : List PayloadParams) (receives : Bool) (after : List PayloadParams) (cause : NegotiationError)
-    → RoundLeaves before remote receives after → Refused before remote receives cause → ⊥
+    → RoundLeaves before remote receives after → RoundRefused before remote receives cause → ⊥
 round_not_refused before remote receives after cause r f = go (round_refusal_cases_of before remote receives cause f) where
   go : RoundRefusalCases before remote receives cause → ⊥
   go (inl h) = claim_large_or_small (types before ++ types remote) h.0 h.1 r.first.may.small
@@ -241,8 +242,8 @@ round_not_refused before remote receives after cause r f = go (round_refusal_cas
       (pass_stops_over before remote receives r.mid h.mid cause r.first h.first h.second) r.second r.whole
 
 pub round_refused_unique : (before remote : List PayloadParams) (receives : Bool) (x y : NegotiationError)
-    → Refused before remote receives x
-    → Refused before remote receives y → x ≡ y
+    → RoundRefused before remote receives x
+    → RoundRefused before remote receives y → x ≡ y
 round_refused_unique before remote receives x y fx fy = go (round_refusal_cases_of before remote receives x fx)
     (round_refusal_cases_of before remote receives y fy) where
       small_of : (c : NegotiationError) → StopsFirstPass before remote receives c ⊎ StopsSecondPass before remote receives c
@@ -280,6 +281,6 @@ pub round_leaves_only : (before remote : List PayloadParams) (receives : Bool) (
 round_leaves_only before remote receives after r = search (rules, round_unique, round_not_refused)
 
 pub round_refused_only : (before remote : List PayloadParams) (receives : Bool) (cause : NegotiationError)
-    → Refused before remote receives cause
+    → RoundRefused before remote receives cause
     → RoundRefusedOnly before remote receives cause
 round_refused_only before remote receives cause f = search (rules, round_refused_unique, round_not_refused)

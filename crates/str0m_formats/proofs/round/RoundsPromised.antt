@@ -15,9 +15,9 @@ use Rattle.str0m_formats.specs.declared.round.negotiation_error.NegotiationError
 use Rattle.str0m_formats.specs.declared.round.negotiation_error.NegotiationError.TheVariants.{Memory}
 use Rattle.str0m_formats.specs.declared.row.codec_config.CodecConfig.{CodecConfig}
 use Rattle.str0m_formats.specs.declared.row.payload_params.PayloadParams.{PayloadParams}
-use Rattle.str0m_formats.specs.round.Rounds.{RoundLeaves, Refused}
+use Rattle.str0m_formats.specs.round.Rounds.{RoundLeaves, RoundRefused}
 use Rattle.str0m_formats.specs.round.RoundsPromises.{RoundPromises, Negotiates}
-use Rattle.str0m_formats.specs.round.RoundsRuns.{Outcome}
+use Rattle.str0m_formats.specs.round.RoundsRuns.{OutcomeOfRound}
 
 pub round_promised : (before remote : List PayloadParams) (receives : Bool) (after : List PayloadParams)
     → RoundLeaves before remote receives after
@@ -37,9 +37,10 @@ round_promised before remote receives after r =
 
 -- ---- what one call answers
 
-negotiated_round : (remote : List PayloadParams) (receives : Bool) (old new : CodecConfig) (result : Outcome)
+negotiated_round : (remote : List PayloadParams) (receives : Bool) (old new : CodecConfig) (result : OutcomeOfRound)
     → OnOk result (RoundLeaves old.params.items remote receives new.params.items)
-    → IfErr result (λ cause. cause ≢ Memory → Refused old.params.items remote receives cause) → new ≡ record old { params = new.params }
+    → IfErr result (λ cause. cause ≢ Memory → RoundRefused old.params.items remote receives cause)
+    → new ≡ record old { params = new.params }
     → OnErr result (new ≡ old)
     → Negotiates remote receives old new result
 negotiated_round remote receives old new result ok cause same err =
@@ -60,8 +61,9 @@ pub leaves_round : (remote : List PayloadParams) (receives : Bool) (old new : Co
     → Negotiates remote receives old new (Ok tt)
 leaves_round remote receives old new leaves same = negotiated_round remote receives old new (Ok tt) leaves tt same tt
 
-pub refused_round : (remote : List PayloadParams) (receives : Bool) (config : CodecConfig) (result : Outcome) (cause : NegotiationError)
-    → result ≡ Err cause → (cause ≢ Memory → Refused config.params.items remote receives cause)
+pub refused_round : (remote : List PayloadParams) (receives : Bool) (config : CodecConfig) (result : OutcomeOfRound)
+    (cause : NegotiationError)
+    → result ≡ Err cause → (cause ≢ Memory → RoundRefused config.params.items remote receives cause)
     → Negotiates remote receives config config result
 refused_round remote receives config result cause is refused =
     grind (arith, negotiated_round remote receives config config (Err cause) tt refused)

@@ -59,9 +59,9 @@ module _ (Q : ℕ → Type 0) (taken unlocked : TypeSet) (given : (t : ℕ) → 
   unfolding red_type
   red-given receives asked own is_asked = grind arith
 
-  pub line_without_event_ranges-given : (locked : TypeSet) (own : Option ℕ) → IfSome own (λ t. locked t ≡ false → Q t)
+  pub round_kept_role-given : (locked : TypeSet) (own : Option ℕ) → IfSome own (λ t. locked t ≡ false → Q t)
       → IfSome (kept_red locked taken unlocked own) Q
-  line_without_event_ranges-given locked own is_own = grind arith
+  round_kept_role-given locked own is_own = grind arith
 
 -- the row between the passes, and what each pass does
 pub record RowSteps (before remote : List PayloadParams) (receives : Bool) (mid after : List PayloadParams) (i : ℕ)

@@ -16,7 +16,7 @@ use Rattle.str0m_formats.specs.declared.row.payload_params.PayloadParams.{Payloa
 use Rattle.str0m_formats.specs.round.Claimed.{AllTypesDistinct}
 use Rattle.str0m_formats.specs.round.Rounds.{RoundLeaves}
 use Rattle.str0m_formats.specs.round.RoundsPromises.{AtEachRow, StaysLocked, RoundPromises, RoundFailsOnlyForMemory, RoundsRunPromises}
-use Rattle.str0m_formats.specs.round.RoundsRuns.{Outcome, RoundRan, RunReached, AtEachOkRound}
+use Rattle.str0m_formats.specs.round.RoundsRuns.{OutcomeOfRound, RoundRan, RunReached, AtEachOkRound}
 use Rattle.str0m_formats.specs.row.PayloadParams.{AllTypesSmall, types, locked_types}
 use Rattle.str0m_formats.specs.row.PlainRow.{IsPlain}
 use Rattle.str0m_formats.specs.row.PlainRowBounds.{IsBounded}
@@ -29,7 +29,7 @@ refused_round_unchanged : (before remote : List PayloadParams) (dir : Bool) (cau
 refused_round_unchanged before remote dir cause after ran = grind arith
 
 -- each accepted round of a list keeps its promises
-pub promised_each_round : (before : List PayloadParams) (rounds : List Round) (outcomes : List Outcome) (after : List PayloadParams)
+pub promised_each_round : (before : List PayloadParams) (rounds : List Round) (outcomes : List OutcomeOfRound) (after : List PayloadParams)
     → RunReached before rounds outcomes after → AtEachOkRound RoundPromises before rounds outcomes after
 promised_each_round before [] [] after h = h
 promised_each_round before [] (o ∷ outcomes) after h = h
@@ -45,11 +45,11 @@ runs_along : (Holds : List PayloadParams → List PayloadParams → Type 0) (May
     → ((a b c : List PayloadParams) → Holds a b → Holds b c → Holds a c)
     → ((a : List PayloadParams) (round : Round) (b : List PayloadParams) → May round
     → RoundPromises a round.remote.items (receives round.direction) b → Holds a b)
-    → (before : List PayloadParams) (rounds : List Round) (outcomes : List Outcome) (after : List PayloadParams)
+    → (before : List PayloadParams) (rounds : List Round) (outcomes : List OutcomeOfRound) (after : List PayloadParams)
     → RunReached before rounds outcomes after → All May rounds → Holds before after
 runs_along Holds May same next one before rounds outcomes after reached = go before rounds outcomes after
     (promised_each_round before rounds outcomes after reached) where
-      go : (rows : List PayloadParams) (rounds : List Round) (outcomes : List Outcome) (end : List PayloadParams)
+      go : (rows : List PayloadParams) (rounds : List Round) (outcomes : List OutcomeOfRound) (end : List PayloadParams)
           → AtEachOkRound RoundPromises rows rounds outcomes end → All May rounds → Holds rows end
       go rows [] [] end h may = subst (Holds rows) (sym h) (same rows)
       go rows [] (o ∷ outcomes) end h may = absurd h
@@ -86,19 +86,19 @@ module _ (holds : PayloadParams → PayloadParams → Type 0) where
 -- ---- why rounds are refused
 
 -- what each round tells of its outcome, by what holds of the rows before it and after it
-each_round_outcome : (Holds : List PayloadParams → Type 0) (May : Round → Type 0) (Tells : Outcome → Type 0)
-    → ((before : List PayloadParams) (round : Round) (outcome : Outcome) (after : List PayloadParams) → Holds before → May round
+each_round_outcome : (Holds : List PayloadParams → Type 0) (May : Round → Type 0) (Tells : OutcomeOfRound → Type 0)
+    → ((before : List PayloadParams) (round : Round) (outcome : OutcomeOfRound) (after : List PayloadParams) → Holds before → May round
     → RoundRan before round.remote.items (receives round.direction) outcome after → Tells outcome)
     → ((before : List PayloadParams) (round : Round) (after : List PayloadParams)
     → RoundLeaves before round.remote.items (receives round.direction) after → Holds before → Holds after)
-    → (before : List PayloadParams) (rounds : List Round) (outcomes : List Outcome) (after : List PayloadParams)
+    → (before : List PayloadParams) (rounds : List Round) (outcomes : List OutcomeOfRound) (after : List PayloadParams)
     → RunReached before rounds outcomes after → Holds before → All May rounds → All Tells outcomes
 each_round_outcome Holds May Tells tells keeps before rounds [] after h held may = All-nil Tells
 each_round_outcome Holds May Tells tells keeps before [] (o ∷ outcomes) after h held may = absurd h
 each_round_outcome Holds May Tells tells keeps before (round ∷ rounds) (outcome ∷ outcomes) after h held may =
     All-cons Tells outcome outcomes (tells before round outcome h.0 held (All-head May round rounds may) h.1)
     (each_round_outcome Holds May Tells tells keeps h.0 rounds outcomes after h.2 (on outcome h.1) (All-tail May round rounds may)) where
-      on : (o : Outcome) → RoundRan before round.remote.items (receives round.direction) o h.0 → Holds h.0
+      on : (o : OutcomeOfRound) → RoundRan before round.remote.items (receives round.direction) o h.0 → Holds h.0
       on (Ok done) ran = keeps before round h.0 ran held
       on (Err cause) ran = subst Holds (sym (refused_round_unchanged before round.remote.items (receives round.direction) cause h.0 ran))
           held
@@ -108,22 +108,22 @@ run_as_few : (before remote : List PayloadParams) (dir : Bool) (after : List Pay
 run_as_few before remote dir after r few = omega (arith, few, r.whole, r.first.whole)
 
 -- with at most fourteen rows no round is refused for want of a type
-pub run_never_exhausted : (before : List PayloadParams) (rounds : List Round) (outcomes : List Outcome) (after : List PayloadParams)
+pub run_never_exhausted : (before : List PayloadParams) (rounds : List Round) (outcomes : List OutcomeOfRound) (after : List PayloadParams)
     → RunReached before rounds outcomes after → length before ≤ 14 → All (λ outcome. outcome ≢ Err Exhausted) outcomes
 run_never_exhausted before rounds outcomes after h few =
     each_round_outcome (λ rows. length rows ≤ 14) WhateverRoundRan (λ outcome. outcome ≢ Err Exhausted) not_exhausted
     (λ now round next r. run_as_few now round.remote.items (receives round.direction) next r) before rounds outcomes after h few
     (λ k d lt. tt)
   where
-    not_exhausted : (now : List PayloadParams) (round : Round) (outcome : Outcome) (next : List PayloadParams) → length now ≤ 14
+    not_exhausted : (now : List PayloadParams) (round : Round) (outcome : OutcomeOfRound) (next : List PayloadParams) → length now ≤ 14
         → Unit {0} → RoundRan now round.remote.items (receives round.direction) outcome next → outcome ≢ Err Exhausted
     not_exhausted now round outcome next few may ran e =
-        let At : Outcome → Type 0 = λ o. RoundRan now round.remote.items (receives round.direction) o next in
+        let At : OutcomeOfRound → Type 0 = λ o. RoundRan now round.remote.items (receives round.direction) o next in
         round_never_exhausted now round.remote.items (receives round.direction) few (subst At e ran).0
 
 -- if also types on both sides have seven bits, no two locked rows share one, and no remote receives, then each round that
 -- is refused is refused for memory alone
-pub run_only_for_memory : (before : List PayloadParams) (rounds : List Round) (outcomes : List Outcome) (after : List PayloadParams)
+pub run_only_for_memory : (before : List PayloadParams) (rounds : List Round) (outcomes : List OutcomeOfRound) (after : List PayloadParams)
     → RunReached before rounds outcomes after
     → length before ≤ 14 → AllTypesSmall (types before) → AllTypesDistinct (locked_types before)
     → All (λ round. AllTypesSmall (types round.remote.items)) rounds → All (λ round. receives round.direction ≡ false) rounds
@@ -143,7 +143,7 @@ run_only_for_memory before rounds outcomes after h few small distinct remotes di
 
 -- ---- all of it
 
-pub run_promised : (before : List PayloadParams) (rounds : List Round) (outcomes : List Outcome) (after : List PayloadParams)
+pub run_promised : (before : List PayloadParams) (rounds : List Round) (outcomes : List OutcomeOfRound) (after : List PayloadParams)
     → RunReached before rounds outcomes after → RoundsRunPromises before rounds outcomes after
 run_promised before rounds outcomes after r = record {
   each = promised_each_round before rounds outcomes after r;

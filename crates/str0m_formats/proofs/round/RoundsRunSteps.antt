@@ -5,7 +5,7 @@ use Rattle.str0m_formats.specs.declared.round.negotiation_error.NegotiationError
 use Rattle.str0m_formats.specs.declared.round.negotiation_error.NegotiationError.TheVariants.{Memory}
 use Rattle.str0m_formats.specs.declared.round.rounds.Round.{Round}
 use Rattle.str0m_formats.specs.declared.row.payload_params.PayloadParams.{PayloadParams}
-use Rattle.str0m_formats.specs.round.Rounds.{RoundLeaves, Refused}
+use Rattle.str0m_formats.specs.round.Rounds.{RoundLeaves, RoundRefused}
 use Rattle.str0m_formats.specs.round.RoundsRuns.{RoundRan, RunReached}
 
 pub run_reached_push : (before : List PayloadParams) (rounds : List Round) (outcomes : List (Result (Unit {0}) NegotiationError))
@@ -20,7 +20,7 @@ run_reached_push before (x ∷ rounds) (o ∷ outcomes) mid after round outcome 
 
 -- what the clauses of one round say together
 pub rounds_ran_from : (before remote after : List PayloadParams) (dir : Bool) (result : Result (Unit {0}) NegotiationError)
-    → OnOk result (RoundLeaves before remote dir after) → IfErr result (λ cause. cause ≢ Memory → Refused before remote dir cause)
+    → OnOk result (RoundLeaves before remote dir after) → IfErr result (λ cause. cause ≢ Memory → RoundRefused before remote dir cause)
     → OnErr result (after ≡ before) → RoundRan before remote dir result after
 rounds_ran_from before remote after dir result ok cause err = grind arith
 

@@ -8,7 +8,7 @@ use Rattle.str0m_formats.proofs.round.FirstPass.{placed-open_row}
 use Rattle.str0m_formats.proofs.round.FirstPass.{first_pass_placed-no_choice}
 use Rattle.str0m_formats.proofs.round.FirstPass.{locked_parts}
 use Rattle.str0m_formats.proofs.round.RoundsInvariants.{locked_once}
-use Rattle.str0m_formats.proofs.round.RoundsRowSteps.{row_steps, round_role-given, rtx-given, red-given, line_without_event_ranges-given}
+use Rattle.str0m_formats.proofs.round.RoundsRowSteps.{row_steps, round_role-given, rtx-given, red-given, round_kept_role-given}
 use Rattle.str0m_formats.proofs.round.RoundsWhole.{row_before}
 use Rattle.str0m_formats.proofs.round.SettlingPass.{settled_parts, new_red, new_resend, with_red, settled-same}
 use Rattle.str0m_formats.specs.codec.Codec.{CodecContent, codec_content}
@@ -99,11 +99,11 @@ settled-small locked taken unlocked row new h s = go row.locked refl where
       let Fits : Option ℕ → Type 0 = λ o. IfSome o Small in
       ap (λ r. find (nat_lt 127) (types_of r)) (sym parts.all)
       ∙ round_small_of_roles parts.pt (new_resend locked taken unlocked row parts.pt) (new_red locked taken unlocked row parts.pt)
-      (subst Fits parts.pt_is (line_without_event_ranges-given Small taken unlocked (round_free-fits taken unlocked) locked (Some row.pt)
+      (subst Fits parts.pt_is (round_kept_role-given Small taken unlocked (round_free-fits taken unlocked) locked (Some row.pt)
       (λ _. own.0)))
-      (line_without_event_ranges-given Small two unlocked (round_free-fits two unlocked) locked row.resend
+      (round_kept_role-given Small two unlocked (round_free-fits two unlocked) locked row.resend
       (type_small_anyway locked row.resend own.1))
-      (line_without_event_ranges-given Small one unlocked (round_free-fits one unlocked) locked row.red
+      (round_kept_role-given Small one unlocked (round_free-fits one unlocked) locked row.red
       (type_small_anyway locked row.red own.2))
 
 -- ---- a round

@@ -13,7 +13,7 @@ use Rattle.str0m_formats.specs.declared.row.payload_params.PayloadParams.{Payloa
 use Rattle.str0m_formats.specs.round.Claimed.{TypeSet, has, AllTypesDistinct}
 use Rattle.str0m_formats.specs.round.Claims.{claim_each}
 use Rattle.str0m_formats.specs.round.Rounds.{types_taken_by, RoundBegun, RoundMayBegin, AllRoundsBegun, Settled, StopsSettling, RoundLeaves}
-use Rattle.str0m_formats.specs.round.Rounds.{Refused, too_large}
+use Rattle.str0m_formats.specs.round.Rounds.{RoundRefused, too_large}
 use Rattle.str0m_formats.specs.round.Rounds.{twice_before, in_second}
 use Rattle.str0m_formats.specs.row.PayloadParams.{AllTypesSmall, types_of, types, locked_types, open_types}
 
@@ -103,12 +103,12 @@ claimed_is_locked before set h = (claimed_all [] (locked_types before) set types
 
 pub round_refused_before : (before remote : List PayloadParams) (receives : Bool) (cause : NegotiationError)
     → AllTypesSmall (types before ++ types remote) → claim_each (has []) (locked_types before) ≡ Err cause
-    → Refused before remote receives cause
+    → RoundRefused before remote receives cause
 round_refused_before before remote receives cause small h = grind (arith, claimed_twice, types_distinct_nil, twice_before)
 
 pub round_refused_large : (before remote : List PayloadParams) (receives : Bool) (cause : NegotiationError)
     → (t : ℕ) × (find (nat_lt 127) (types before ++ types remote) ≡ Some t) × (cause ≡ TypeTooLarge t)
-    → Refused before remote receives cause
+    → RoundRefused before remote receives cause
 round_refused_large before remote receives cause h = grind (arith, too_large)
 
 all_rounds_begun : (before remote : List PayloadParams) (receives claims_receive : Bool) (mid : List PayloadParams) (set : TypeSet)
@@ -122,19 +122,19 @@ pub round_done : (before remote : List PayloadParams) (receives claims_receive :
     → AllTypesSmall (types before ++ types remote) → claim_each (has []) (locked_types before) ≡ Ok set → claims_receive ≡ receives
     → RoundBegun before remote claims_receive mid → length mid ≡ length before → unlocked ≡ has (open_types before)
     → OnOk result (Settled unlocked mid after) → length after ≡ length mid → IfErr result (StopsSettling unlocked mid)
-    → OnOk result (RoundLeaves before remote receives after) × IfErr result (Refused before remote receives)
+    → OnOk result (RoundLeaves before remote receives after) × IfErr result (RoundRefused before remote receives)
 round_done before remote receives claims_receive mid after set unlocked result small h r begun whole u = go result where
   first : AllRoundsBegun before remote receives mid
   first = all_rounds_begun before remote receives claims_receive mid set small h r begun whole
 
   go : (result : Result (Unit {0}) NegotiationError) → OnOk result (Settled unlocked mid after) → length after ≡ length mid
       → IfErr result (StopsSettling unlocked mid) → OnOk result (RoundLeaves before remote receives after)
-      × IfErr result (Refused before remote receives)
+      × IfErr result (RoundRefused before remote receives)
   go (Ok x) s l e = (record { mid = mid; first = first; second = subst (λ (un : TypeSet). Settled un mid after) u s; whole = l }, tt)
   go (Err c) s l e = (tt, in_second c (record { mid = mid; first = first; second = subst (λ (un : TypeSet). StopsSettling un mid c) u e }))
 
 -- what refuses a copy of the rows refuses the rows
 pub round_refused_as_copied : (before copied now remote : List PayloadParams) (receives now_receives : Bool) (cause : NegotiationError)
-    → now ≡ copied → copied ≡ before → now_receives ≡ receives → Refused now remote now_receives cause
-    → Refused before remote receives cause
+    → now ≡ copied → copied ≡ before → now_receives ≡ receives → RoundRefused now remote now_receives cause
+    → RoundRefused before remote receives cause
 round_refused_as_copied before copied now remote receives now_receives cause same_now same_copy same_receives refused = grind arith

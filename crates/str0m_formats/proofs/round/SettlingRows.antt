@@ -20,17 +20,17 @@ settling_free-none : (used : TypeSet) (t : ℕ) → used t ≡ true → type_tim
 settling_free-none used t h = grind (arith, type_times-nil, settling_none-other, free_claim-small)
 
 -- a type in use is there after a role is settled only where it was there before
-line_without_event_ranges-held : (locked taken unlocked : TypeSet) (own : Option ℕ) (t : ℕ) → either_set taken unlocked t ≡ true
+settled_role-held : (locked taken unlocked : TypeSet) (own : Option ℕ) (t : ℕ) → either_set taken unlocked t ≡ true
     → type_times (option_to_list (kept_red locked taken unlocked own)) t ≤ type_times (option_to_list own) t
-line_without_event_ranges-held locked taken unlocked None t h = omega arith
-line_without_event_ranges-held locked taken unlocked (Some x) t h = grind (arith, settling_free-none (either_set taken unlocked) t h)
+settled_role-held locked taken unlocked None t h = omega arith
+settled_role-held locked taken unlocked (Some x) t h = grind (arith, settling_free-none (either_set taken unlocked) t h)
 
 -- a type of a locked row isn't there
-line_without_event_ranges-apart : (locked taken unlocked : TypeSet) (own : Option ℕ) (t : ℕ) → locked t ≡ true
+settled_role-apart : (locked taken unlocked : TypeSet) (own : Option ℕ) (t : ℕ) → locked t ≡ true
     → either_set taken unlocked t ≡ true
     → type_times (option_to_list (kept_red locked taken unlocked own)) t ≡ 0
-line_without_event_ranges-apart locked taken unlocked None t l h = type_times-nil t
-line_without_event_ranges-apart locked taken unlocked (Some x) t l h = go (locked x) refl where
+settled_role-apart locked taken unlocked None t l h = type_times-nil t
+settled_role-apart locked taken unlocked (Some x) t l h = go (locked x) refl where
   go : (b : Bool) → locked x ≡ b → type_times (option_to_list (cond b (free (either_set taken unlocked)) (Some x))) t ≡ 0
   go true e = settling_free-none (either_set taken unlocked) t h
   go false e = settling_none-other locked x t e l
@@ -61,44 +61,44 @@ type_times-settled : (locked taken unlocked : TypeSet) (row new : PayloadParams)
 type_times-settled locked taken unlocked row new parts t = grind arith
 
 -- a type in use stands in it no more often than before
-pub row-held : (locked taken unlocked : TypeSet) (row new : PayloadParams) → SettledParts locked taken unlocked row new → (t : ℕ)
+pub settled_row-held : (locked taken unlocked : TypeSet) (row new : PayloadParams) → SettledParts locked taken unlocked row new → (t : ℕ)
     → either_set taken unlocked t ≡ true → type_times (types_of new) t ≤ type_times (types_of row) t
-row-held locked taken unlocked row new parts t h =
+settled_row-held locked taken unlocked row new parts t h =
     let h1 = settling_wider taken unlocked (Some parts.pt) t h in
     let h2 = settling_wider (with_type taken parts.pt) unlocked (new_red locked taken unlocked row parts.pt) t h1 in
     let Held : Option ℕ → Type 0 = λ o. type_times (option_to_list o) t ≤ type_times (row.pt ∷ []) t in
     let primary : type_times (parts.pt ∷ []) t ≤ type_times (row.pt ∷ []) t =
-    subst Held parts.pt_is (line_without_event_ranges-held locked taken unlocked (Some row.pt) t h) in
+    subst Held parts.pt_is (settled_role-held locked taken unlocked (Some row.pt) t h) in
     omega (
       arith,
       type_times-settled locked taken unlocked row new parts t,
       type_times-roles row.pt row.resend row.red t,
       primary,
-      line_without_event_ranges-held locked (with_type taken parts.pt) unlocked row.red t h1,
-      line_without_event_ranges-held locked (with_red locked taken unlocked row parts.pt) unlocked row.resend t h2,
+      settled_role-held locked (with_type taken parts.pt) unlocked row.red t h1,
+      settled_role-held locked (with_red locked taken unlocked row parts.pt) unlocked row.resend t h2,
     )
 
 -- a type of a locked row, which is taken, isn't there
-pub row-apart : (locked taken unlocked : TypeSet) (row new : PayloadParams) → SettledParts locked taken unlocked row new → (t : ℕ)
+pub settled_row-apart : (locked taken unlocked : TypeSet) (row new : PayloadParams) → SettledParts locked taken unlocked row new → (t : ℕ)
     → locked t ≡ true → taken t ≡ true → type_times (types_of new) t ≡ 0
-row-apart locked taken unlocked row new parts t l k =
+settled_row-apart locked taken unlocked row new parts t l k =
     let h = or_left (taken t) (unlocked t) k in
     let h1 = settling_wider taken unlocked (Some parts.pt) t h in
     let h2 = settling_wider (with_type taken parts.pt) unlocked (new_red locked taken unlocked row parts.pt) t h1 in
     let primary : type_times (parts.pt ∷ []) t ≡ 0 = ap (λ o. type_times (option_to_list o) t) (sym parts.pt_is)
-    ∙ line_without_event_ranges-apart locked taken unlocked (Some row.pt) t l h in
+    ∙ settled_role-apart locked taken unlocked (Some row.pt) t l h in
     omega (
       arith,
       type_times-settled locked taken unlocked row new parts t,
       primary,
-      line_without_event_ranges-apart locked (with_type taken parts.pt) unlocked row.red t l h1,
-      line_without_event_ranges-apart locked (with_red locked taken unlocked row parts.pt) unlocked row.resend t l h2,
+      settled_role-apart locked (with_type taken parts.pt) unlocked row.red t l h1,
+      settled_role-apart locked (with_red locked taken unlocked row parts.pt) unlocked row.resend t l h2,
     )
 
 -- a type that it didn't have stands in it once at most
-pub row-once : (locked taken unlocked : TypeSet) (row new : PayloadParams) → SettledParts locked taken unlocked row new → (t : ℕ)
+pub settled_row-once : (locked taken unlocked : TypeSet) (row new : PayloadParams) → SettledParts locked taken unlocked row new → (t : ℕ)
     → type_times (types_of row) t ≡ 0 → type_times (types_of new) t ≤ 1
-row-once locked taken unlocked row new parts t none = primary (cases_Bool (either_set (with_type taken parts.pt) unlocked t)) where
+settled_row-once locked taken unlocked row new parts t none = primary (cases_Bool (either_set (with_type taken parts.pt) unlocked t)) where
   none_own : (type_times (row.pt ∷ []) t ≡ 0) × (type_times (option_to_list row.resend) t ≡ 0) × (type_times (option_to_list row.red) t ≡ 0)
   none_own = let sum = type_times-roles row.pt row.resend row.red t in
       (omega (arith, sum, none), omega (arith, sum, none), omega (arith, sum, none))
@@ -107,7 +107,7 @@ row-once locked taken unlocked row new parts t none = primary (cases_Bool (eithe
       → type_times (option_to_list (new_resend locked taken unlocked row parts.pt)) t ≡ 0
   no_resend h = omega (
     arith,
-    line_without_event_ranges-held locked (with_red locked taken unlocked row parts.pt) unlocked row.resend t h,
+    settled_role-held locked (with_red locked taken unlocked row parts.pt) unlocked row.resend t h,
     none_own.1,
   )
 
@@ -140,7 +140,7 @@ row-once locked taken unlocked row new parts t none = primary (cases_Bool (eithe
         arith,
         type_times-settled locked taken unlocked row new parts t,
         settling_one_role (Some parts.pt) t,
-        line_without_event_ranges-held locked (with_type taken parts.pt) unlocked row.red t h,
+        settled_role-held locked (with_type taken parts.pt) unlocked row.red t h,
         no_rtx,
         none_own.2,
       )

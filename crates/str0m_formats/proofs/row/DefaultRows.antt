@@ -53,13 +53,13 @@ default_rows_once_new : (codec : Codec) (use_red : Bool)
     × (all_claimed_apart (default_primaries (default_rows codec use_red)) ≡ true)
 default_rows_once_new codec use_red = grind arith
 
-rows_known : (rows : List PayloadParams) → list_all is_known_default rows ≡ true → AllByRecursion KnownDefault rows
-rows_known [] all = tt
-rows_known (row ∷ rows) all = grind (arith, and_parts, rows_known rows)
+default_rows_all_known : (rows : List PayloadParams) → list_all is_known_default rows ≡ true → AllByRecursion KnownDefault rows
+default_rows_all_known [] all = tt
+default_rows_all_known (row ∷ rows) all = grind (arith, and_parts, default_rows_all_known rows)
 
 known_default : (row : PayloadParams) → IsDefault row → KnownDefault row
 known_default row d = let rows = default_rows d.0 d.1 in
-    All-contains KnownDefault rows row (All-from_recursion KnownDefault rows (rows_known rows (default_rows_known d.0 d.1))) d.2
+    All-contains KnownDefault rows row (All-from_recursion KnownDefault rows (default_rows_all_known rows (default_rows_known d.0 d.1))) d.2
 
 default_all_known : (rows : List PayloadParams) → All IsDefault rows → AllByRecursion KnownDefault rows
 default_all_known rows d = recursion_from_All KnownDefault rows (All-weaker IsDefault KnownDefault known_default rows d)

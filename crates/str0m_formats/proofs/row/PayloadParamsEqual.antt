@@ -12,8 +12,8 @@ use Rattle.str0m_formats.specs.row.PayloadParams.{SameRow}
 abbrev SeenRow : Type 0
 SeenRow = ℕ × Option ℕ × Option ℕ × CodecSpec × Bool × Bool × Bool × Bool × Bool
 
-abbrev as_seen : PayloadParams → SeenRow
-as_seen r = (r.pt, r.resend, r.red, r.spec, r.fb_transport_cc, r.fb_fir, r.fb_nack, r.fb_pli, r.fb_remb)
+abbrev as_seen_row : PayloadParams → SeenRow
+as_seen_row r = (r.pt, r.resend, r.red, r.spec, r.fb_transport_cc, r.fb_fir, r.fb_nack, r.fb_pli, r.fb_remb)
 
 abbrev open_row : SeenRow → PayloadParams
 open_row s = record {
@@ -34,8 +34,8 @@ eq_seen_row = hlevel (spec, param_equality)
 
 pub row_Decides : (a b : PayloadParams) → Decides (row.eq-value.it a b) (SameRow a b)
 row_Decides a b =
-    Decides-like _ (λ (e : as_seen a ≡ as_seen b). ap open_row e) (λ (e : SameRow a b). ap as_seen e)
-    (eq_seen_row.decides (as_seen a) (as_seen b))
+    Decides-like _ (λ (e : as_seen_row a ≡ as_seen_row b). ap open_row e) (λ (e : SameRow a b). ap as_seen_row e)
+    (eq_seen_row.decides (as_seen_row a) (as_seen_row b))
 
 pub row_equivalence : IsEquivalence row.eq-value.it
 row_equivalence = equiv (record { symm = symmetric; trans = transitive }) (λ a. (row_Decides a a).1 refl)

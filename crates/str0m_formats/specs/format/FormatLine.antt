@@ -79,14 +79,14 @@ params_of_lines [] = []
 params_of_lines (line ∷ lines) = line_without_event_ranges line ++ params_of_lines lines
 
 -- whether a line of AMR-WB asks for what isn't there
-unfoldable pub line_asks_absent : Codec → List (List FormatParam) → Bool
-line_asks_absent codec lines = is_amr_wb codec && list_any (λ line. list_any is_unsupported_param line) lines
+unfoldable pub format_lines_ask_absent : Codec → List (List FormatParam) → Bool
+format_lines_ask_absent codec lines = is_amr_wb codec && list_any (λ line. list_any is_unsupported_param line) lines
 
 -- the format that the lines say of the codec, where they don't ask for what isn't there
 abbrev pub format_of_fmtp : Codec → List (List FormatParam) → Option FormatParams
 format_of_fmtp Tele lines = option_map (λ max. record empty { telephone_event_max = Some max }) (events_end lines)
-format_of_fmtp codec lines = if line_asks_absent codec lines then None else Some (set_all empty (params_of_lines lines))
+format_of_fmtp codec lines = if format_lines_ask_absent codec lines then None else Some (set_all empty (params_of_lines lines))
 
 -- lines without where they lie in memory
-abbrev pub line_values : List (Bor (List FormatParam)) → List (List FormatParam)
-line_values lines = map (λ line. line.now) lines
+abbrev pub format_line_values : List (Bor (List FormatParam)) → List (List FormatParam)
+format_line_values lines = map (λ line. line.now) lines

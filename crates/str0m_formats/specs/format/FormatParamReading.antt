@@ -39,12 +39,12 @@ keys = map (λ it. it.0) KEYS
 unfoldable pub key_read : List ℕ → Option FormatKey
 key_read text = find (λ key. str_eq_ignore_ascii_case text (key_text key)) keys
 
-abbrev pub is_flag_one : List ℕ → Bool
-is_flag_one value = bytes_eq value (codes "1")
+abbrev pub is_param_flag_one : List ℕ → Bool
+is_param_flag_one value = bytes_eq value (codes "1")
 
 -- the value of a kind
 abbrev pub kind_read : (kind : Kind) → List ℕ → Option (HeldParamValue kind)
-kind_read flag text = Some (is_flag_one text)
+kind_read flag text = Some (is_param_flag_one text)
 kind_read (number limit) text = num limit text
 kind_read hex text = param_hex_read text
 kind_read modes text = modes_read text

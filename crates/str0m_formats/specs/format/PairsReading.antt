@@ -3,7 +3,7 @@ use Rattle.std.specs.Borrow.{Bor}
 use Rattle.std.specs.List.{cons_option}
 use Rattle.std.specs.Prelude.{ℕ, String, List, map, Option, Some, None, option_map, if◌then◌else◌, string_bytes}
 use Rattle.str0m_formats.specs.Prelude.{num, ◌<|>◌, ◌>>=◌}
-pub use Rattle.str0m_values.specs.CutsParts.{lay}
+pub use Rattle.str0m_values.specs.CutsParts.{part_text_of}
 pub use Rattle.str0m_values.specs.H265.{h265_tables}
 pub use Rattle.str0m_values.specs.H266.{h266_tables}
 pub use Rattle.str0m_values.specs.ProfileTierLevel.{ProfileTables}

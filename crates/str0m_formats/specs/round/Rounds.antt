@@ -168,19 +168,19 @@ pub record StopsSecondPass (before remote : List PayloadParams) (receives : Bool
   pub second : StopsSettling (has (open_types before)) mid cause
 
 -- why a round is refused
-pub data Refused (before remote : List PayloadParams) (receives : Bool) : NegotiationError → Type 0 where
-  too_large : (t : ℕ) → find (nat_lt 127) (types before ++ types remote) ≡ Some t → Refused before remote receives (TypeTooLarge t)
-  twice_before : (t : ℕ) → AllTypesSmall (types before ++ types remote) → IsFirstClaimRepeat (locked_types before) t → Refused before remote receives (ClaimedTwice t)
-  in_first : (cause : NegotiationError) → StopsFirstPass before remote receives cause → Refused before remote receives cause
-  in_second : (cause : NegotiationError) → StopsSecondPass before remote receives cause → Refused before remote receives cause
+pub data RoundRefused (before remote : List PayloadParams) (receives : Bool) : NegotiationError → Type 0 where
+  too_large : (t : ℕ) → find (nat_lt 127) (types before ++ types remote) ≡ Some t → RoundRefused before remote receives (TypeTooLarge t)
+  twice_before : (t : ℕ) → AllTypesSmall (types before ++ types remote) → IsFirstClaimRepeat (locked_types before) t → RoundRefused before remote receives (ClaimedTwice t)
+  in_first : (cause : NegotiationError) → StopsFirstPass before remote receives cause → RoundRefused before remote receives cause
+  in_second : (cause : NegotiationError) → StopsSecondPass before remote receives cause → RoundRefused before remote receives cause
 
 -- a round has one outcome: these rows and no others, and no cause; or this cause and no other, and no rows
 abbrev pub RoundLeavesOnly : List PayloadParams → List PayloadParams → Bool → List PayloadParams → Type 0
 RoundLeavesOnly before remote receives after =
     ((other : List PayloadParams) → RoundLeaves before remote receives other → other ≡ after)
-    × ((cause : NegotiationError) → Refused before remote receives cause → ⊥)
+    × ((cause : NegotiationError) → RoundRefused before remote receives cause → ⊥)
 
 abbrev pub RoundRefusedOnly : List PayloadParams → List PayloadParams → Bool → NegotiationError → Type 0
 RoundRefusedOnly before remote receives cause =
-    ((other : NegotiationError) → Refused before remote receives other → other ≡ cause)
+    ((other : NegotiationError) → RoundRefused before remote receives other → other ≡ cause)
     × ((after : List PayloadParams) → RoundLeaves before remote receives after → ⊥)

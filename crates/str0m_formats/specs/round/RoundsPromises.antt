@@ -10,8 +10,8 @@ use Rattle.str0m_formats.specs.round.Choices.{IsBestChoice}
 use Rattle.str0m_formats.specs.round.Claimed.{has, type_times, AllTypesDistinct}
 use Rattle.str0m_formats.specs.round.MatchScore.{score}
 use Rattle.str0m_formats.specs.round.Narrowing.{telephone_max}
-use Rattle.str0m_formats.specs.round.Rounds.{RoundLeaves, Refused, RoundLeavesOnly, RoundRefusedOnly}
-use Rattle.str0m_formats.specs.round.RoundsRuns.{Outcome, RunReached, AtEachOkRound}
+use Rattle.str0m_formats.specs.round.Rounds.{RoundLeaves, RoundRefused, RoundLeavesOnly, RoundRefusedOnly}
+use Rattle.str0m_formats.specs.round.RoundsRuns.{OutcomeOfRound, RunReached, AtEachOkRound}
 use Rattle.str0m_formats.specs.row.PayloadParams.{types, locked_types, AllTypesSmall}
 use Rattle.str0m_formats.specs.row.PlainRow.{IsPlain}
 use Rattle.str0m_formats.specs.row.PlainRowBounds.{IsBounded}
@@ -92,14 +92,14 @@ abbrev pub KeepsRowBounds : List PayloadParams → List PayloadParams → Type 0
 KeepsRowBounds rows remote = AllTypesSmall (types rows ++ types remote) × AllTypesDistinct (locked_types rows)
 
 -- a round is accepted, or refused for memory alone
-abbrev pub RoundFailsOnlyForMemory : Outcome → Type 0
+abbrev pub RoundFailsOnlyForMemory : OutcomeOfRound → Type 0
 RoundFailsOnlyForMemory (Ok done) = Unit {0}
 RoundFailsOnlyForMemory (Err cause) = cause ≡ Memory
 
 -- what a call does that runs one round
-pub record Negotiates (remote : List PayloadParams) (receives : Bool) (old new : CodecConfig) (result : Outcome) : Type 0 where
+pub record Negotiates (remote : List PayloadParams) (receives : Bool) (old new : CodecConfig) (result : OutcomeOfRound) : Type 0 where
   pub ok : OnOk result (RoundLeaves old.params.items remote receives new.params.items)
-  pub cause : IfErr result (λ cause. cause ≢ Memory → Refused old.params.items remote receives cause)
+  pub cause : IfErr result (λ cause. cause ≢ Memory → RoundRefused old.params.items remote receives cause)
   -- there is one outcome: these rows alone and no cause, or this cause alone and no rows
   pub alone : OnOk result (RoundLeavesOnly old.params.items remote receives new.params.items)
   pub one_cause : IfErr result (λ cause. cause ≢ Memory → RoundRefusedOnly old.params.items remote receives cause)
@@ -112,7 +112,7 @@ pub record Negotiates (remote : List PayloadParams) (receives : Bool) (old new :
   pub err : OnErr result (new ≡ old)
 
 -- what a run of rounds promises: at each accepted round, and from its first rows to its last
-pub record RoundsRunPromises (before : List PayloadParams) (rounds : List Round) (outcomes : List Outcome) (after : List PayloadParams) : Type 0 where
+pub record RoundsRunPromises (before : List PayloadParams) (rounds : List Round) (outcomes : List OutcomeOfRound) (after : List PayloadParams) : Type 0 where
   pub each : AtEachOkRound RoundPromises before rounds outcomes after
   pub rows : length after ≡ length before
   pub stay : LockedStay before after
@@ -130,5 +130,5 @@ pub record RoundsRunPromises (before : List PayloadParams) (rounds : List Round)
 
 -- every run that begins with these rows, of whatever rounds and with whatever outcomes, keeps its promises
 abbrev pub EveryRoundsRunPromises : List PayloadParams → Type 0
-EveryRoundsRunPromises before = (rounds : List Round) (outcomes : List Outcome) (after : List PayloadParams)
+EveryRoundsRunPromises before = (rounds : List Round) (outcomes : List OutcomeOfRound) (after : List PayloadParams)
     → RunReached before rounds outcomes after → RoundsRunPromises before rounds outcomes after

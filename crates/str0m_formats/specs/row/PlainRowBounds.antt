@@ -30,14 +30,14 @@ abbrev pub IsU32 : ℕ → Type 0
 IsU32 n = n ≤ 4294967295
 
 -- the greatest number of the type that holds a number up to the limit: of `u8`, `u16` and `u32` the first that reaches it
-abbrev pub most : ℕ → ℕ
-most limit = if nat_le limit 255 then 255 else if nat_le limit 65535 then 65535 else 4294967295
+abbrev pub type_bound_of : ℕ → ℕ
+type_bound_of limit = if nat_le limit 255 then 255 else if nat_le limit 65535 then 65535 else 4294967295
 
 -- the value of a kind fits the type in which it is held
 abbrev pub FitsType : (kind : Kind) → HeldParamValue kind → Type 0
-FitsType (number limit) n = n ≤ most limit
-FitsType hex n = n ≤ most 4294967295
-FitsType modes mask = mask ≤ most 511
+FitsType (number limit) n = n ≤ type_bound_of limit
+FitsType hex n = n ≤ type_bound_of 4294967295
+FitsType modes mask = mask ≤ type_bound_of 511
 FitsType kind x = Unit {0}
 
 -- the numbers of a format fit the types of its fields, as they do in every format that a program holds

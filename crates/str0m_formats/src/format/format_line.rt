@@ -3,7 +3,7 @@ ghost use Rattle.std.specs.List.{list_any};
 ghost use Rattle.std.specs.Prelude.{◌≡◌, ◌∷◌, [], IfOk, option_map};
 ghost use Rattle.str0m_formats.specs.declared.codec.Codec.TheVariants.{AmrWb};
 ghost use Rattle.str0m_formats.specs.declared.format.format_params.FormatParams.{FormatParams};
-ghost use Rattle.str0m_formats.specs.format.FormatLine.{pieces, pair_in, bare_param_in, pairs_in, IsFormatOfLine, IsFormatOfBares, is_event, is_unsupported_param, events_end, line_asks_absent, line_without_event_ranges, params_of_lines, format_of_fmtp, line_values};
+ghost use Rattle.str0m_formats.specs.format.FormatLine.{pieces, pair_in, bare_param_in, pairs_in, IsFormatOfLine, IsFormatOfBares, is_event, is_unsupported_param, events_end, format_lines_ask_absent, line_without_event_ranges, params_of_lines, format_of_fmtp, format_line_values};
 ghost use Rattle.str0m_formats.specs.format.FormatParam.{pair_texts};
 ghost use Rattle.str0m_formats.specs.format.FormatParams.{empty, set_all, params_text, CanFormatBeReadBack};
 ghost use Rattle.str0m_formats.specs.round.Narrowing.{telephone_max};
@@ -126,9 +126,9 @@ impl FormatParams {
     /// for ranges of events; a line of AMR-WB is refused where it asks for `crc`, `robust-sorting`,
     /// any `interleaving` or a `mode-change-period` of 2 (RFC 4867, section 8.2). `None` where it is
     /// refused.
-    #[tactic(auto, unfolding(crate::specs::format::FormatLine::line_asks_absent))]
+    #[tactic(auto, unfolding(crate::specs::format::FormatLine::format_lines_ask_absent))]
     pub fn from_sdp_fmtp(codec: Codec, lines: &[&[FormatParam]]) -> Option<FormatParams>
-        ensures format { result ≡ format_of_fmtp codec (line_values lines.now) }
+        ensures format { result ≡ format_of_fmtp codec (format_line_values lines.now) }
         ensures default { FormatParams.DEFAULT_TELEPHONE_EVENT_MAX ≡ 16 }
     {
         match codec {
@@ -169,16 +169,16 @@ fn any_unsupported_param(lines: &[&[FormatParam]]) -> bool
 }
 
 /// Whether a line asks for what isn't there of AMR-WB.
-#[tactic(auto, using(crate::proofs::format::FormatLineLaws::line_asks_absent_answer))]
+#[tactic(auto, using(crate::proofs::format::FormatLineLaws::format_lines_ask_answer))]
 fn asks_unsupported_param(lines: &[&[FormatParam]]) -> bool
-    ensures { result ≡ line_asks_absent AmrWb (line_values lines.now) }
+    ensures { result ≡ format_lines_ask_absent AmrWb (format_line_values lines.now) }
 {
     any_unsupported_param(lines)
 }
 
 /// What lines of AMR-WB say, where they don't ask for what isn't there.
 fn amr_wb_format(lines: &[&[FormatParam]]) -> Option<FormatParams>
-    ensures { result ≡ format_of_fmtp AmrWb (line_values lines.now) }
+    ensures { result ≡ format_of_fmtp AmrWb (format_line_values lines.now) }
 {
     if asks_unsupported_param(lines) {
         return None;
@@ -188,7 +188,7 @@ fn amr_wb_format(lines: &[&[FormatParam]]) -> Option<FormatParams>
 
 /// The highest event of the lines of telephone events.
 fn events_end(lines: &[&[FormatParam]]) -> Option<u8>
-    ensures { result ≡ events_end (line_values lines.now) }
+    ensures { result ≡ events_end (format_line_values lines.now) }
 {
     match lines {
         [] => Some(FormatParams::DEFAULT_TELEPHONE_EVENT_MAX),
@@ -208,7 +208,7 @@ fn event_range_end(line: &[FormatParam]) -> Option<u8>
 }
 
 fn format_of_values(lines: &[&[FormatParam]]) -> FormatParams
-    ensures { result ≡ set_all empty (params_of_lines (line_values lines.now)) }
+    ensures { result ≡ set_all empty (params_of_lines (format_line_values lines.now)) }
 {
     let mut format = FormatParams::default();
     for line in lines {

@@ -80,7 +80,7 @@ fn is_key_text(text: &str, other: &str) -> bool
     text == other
 }
 
-fn is_flag_one(value: &str) -> bool
+fn is_param_flag_one(value: &str) -> bool
     ensures { result ≡ bytes_eq value.now (codes "1") }
 {
     is_key_text(value, "1")
@@ -146,12 +146,12 @@ impl FormatKey {
     {
         match self {
             FormatKey::MinPTime => Some(FormatParam::MinPTime(num_u8(value, 255)?)),
-            FormatKey::Stereo => Some(FormatParam::Stereo(is_flag_one(value))),
-            FormatKey::SpropStereo => Some(FormatParam::SpropStereo(is_flag_one(value))),
-            FormatKey::UseInbandFec => Some(FormatParam::UseInbandFec(is_flag_one(value))),
-            FormatKey::UseDtx => Some(FormatParam::UseDtx(is_flag_one(value))),
+            FormatKey::Stereo => Some(FormatParam::Stereo(is_param_flag_one(value))),
+            FormatKey::SpropStereo => Some(FormatParam::SpropStereo(is_param_flag_one(value))),
+            FormatKey::UseInbandFec => Some(FormatParam::UseInbandFec(is_param_flag_one(value))),
+            FormatKey::UseDtx => Some(FormatParam::UseDtx(is_param_flag_one(value))),
             FormatKey::LevelAsymmetryAllowed => {
-                Some(FormatParam::LevelAsymmetryAllowed(is_flag_one(value)))
+                Some(FormatParam::LevelAsymmetryAllowed(is_param_flag_one(value)))
             }
             FormatKey::PacketizationMode => {
                 Some(FormatParam::PacketizationMode(num_u8(value, 255)?))
@@ -164,11 +164,11 @@ impl FormatKey {
             FormatKey::LevelIdx => Some(FormatParam::LevelIdx(num_u8(value, 255)?)),
             FormatKey::Tier => Some(FormatParam::Tier(num_u8(value, 255)?)),
             FormatKey::SpropMaxDonDiff => Some(FormatParam::SpropMaxDonDiff(distance(value)?)),
-            FormatKey::OctetAlign => Some(FormatParam::OctetAlign(is_flag_one(value))),
+            FormatKey::OctetAlign => Some(FormatParam::OctetAlign(is_param_flag_one(value))),
             FormatKey::ModeSet => Some(FormatParam::ModeSet(modes(value)?)),
             FormatKey::Apt => Some(FormatParam::Apt(Pt::new_with_value(num_u8(value, 255)?))),
-            FormatKey::Crc => unsupported_param(is_flag_one(value)),
-            FormatKey::RobustSorting => unsupported_param(is_flag_one(value)),
+            FormatKey::Crc => unsupported_param(is_param_flag_one(value)),
+            FormatKey::RobustSorting => unsupported_param(is_param_flag_one(value)),
             FormatKey::ModeChangePeriod => unsupported_param(is_key_text(value, "2")),
             FormatKey::Interleaving => Some(FormatParam::AmrWbUnsupported),
         }

@@ -24,7 +24,7 @@ fn lower_key(alloc: Global, text: &str) -> Result<String, AllocError>
 }
 
 /// The pairs with their keys in lower case, in order.
-pub(crate) fn lowered<'a>(
+pub(crate) fn lowered_pairs<'a>(
     alloc: Global,
     pairs: &[(&str, &'a str)],
 ) -> Result<Vec<(String, &'a str)>, AllocError>

@@ -4,11 +4,11 @@ ghost use Rattle.std.specs.Prelude.{◌≡◌, IfOk, map};
 ghost use Rattle.str0m_formats.specs.format.FormatParam.{pair_texts};
 ghost use Rattle.str0m_formats.specs.format.FormatParamReading.{param_of};
 ghost use Rattle.str0m_formats.specs.format.Pairs.{is_triple_mark, has_triple_mark, value_of_key, is_triple_key};
-ghost use Rattle.str0m_formats.specs.format.PairsReading.{lay, triple_read, joined_pairs_read, params_read};
+ghost use Rattle.str0m_formats.specs.format.PairsReading.{part_text_of, triple_read, joined_pairs_read, params_read};
 
 use crate::format::format_key::{LEVEL_ID, PROFILE_ID, TIER_FLAG};
 use crate::format::format_param::{FormatParam, param};
-use crate::format::merged_pairs::{key_place, lowered, merge};
+use crate::format::merged_pairs::{key_place, lowered_pairs, merge};
 use std::alloc::{AllocError, Global};
 use str0m_values::cuts::is_same_text;
 use str0m_values::{H265ProfileTierLevel, H266ProfileTierLevel};
@@ -35,7 +35,7 @@ fn has_triple_mark(pairs: &[(&str, &str)]) -> bool
 
 /// The value of a key.
 fn value_of_key<'a>(merged: &[(&str, &'a str)], key: &str) -> Option<&'a str>
-    ensures { lay result ≡ value_of_key key.now (pair_texts merged.now) }
+    ensures { part_text_of result ≡ value_of_key key.now (pair_texts merged.now) }
 {
     match key_place(merged, key) {
         Some(place) => Some(merged[place].1),
@@ -46,7 +46,7 @@ fn value_of_key<'a>(merged: &[(&str, &'a str)], key: &str) -> Option<&'a str>
 /// The profile, tier and level of the three values: H265's where they name one, else H266's.
 #[tactic(auto, using(crate::proofs::format::PairsTripleLaws::h265_is, crate::proofs::format::PairsTripleLaws::h266_is))]
 fn triple(profile: Option<&str>, tier: Option<&str>, level: Option<&str>) -> Option<FormatParam>
-    ensures { result ≡ triple_read (lay profile.entry, lay tier.entry, lay level.entry) }
+    ensures { result ≡ triple_read (part_text_of profile.entry, part_text_of tier.entry, part_text_of level.entry) }
 {
     if let Some(triple) = H265ProfileTierLevel::from_fmtp(profile, tier, level) {
         return Some(FormatParam::H265ProfileTierLevel(triple));
@@ -104,7 +104,7 @@ pub(crate) fn params(alloc: Global, pairs: &[(&str, &str)]) -> Result<Vec<Format
     if !has_triple_mark(pairs) {
         return each_param(alloc, pairs);
     }
-    let lowered = lowered(alloc, pairs)?;
+    let lowered = lowered_pairs(alloc, pairs)?;
     let merged = merge(alloc, &lowered)?;
     joined_params(alloc, &merged)
 }

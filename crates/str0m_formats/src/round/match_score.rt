@@ -235,7 +235,7 @@ fn codec_score(own: &CodecSpec, other: &CodecSpec) -> Option<usize>
 /// Whether two specs are equal. Most that meet are of two codecs, or of H264 in two profiles, levels or modes: that is looked
 /// at first, since the whole of two formats takes several times as long.
 #[tactic(auto, using(crate::proofs::format::FormatParamsEqual::other_codec, crate::proofs::format::FormatParamsEqual::other_level, crate::proofs::format::FormatParamsEqual::other_mode))]
-fn is_same(own: &CodecSpec, other: &CodecSpec) -> bool
+fn is_same_spec(own: &CodecSpec, other: &CodecSpec) -> bool
     ensures { result ≡ same_spec own.now other.now }
 {
     own.codec == other.codec
@@ -250,7 +250,7 @@ pub(crate) fn spec_score(own: &CodecSpec, other: &CodecSpec) -> Option<usize>
     ensures score { result ≡ score own.now other.now }
     ensures bound { IfSome result (λ n. n ≤ 100) }
 {
-    if is_same(own, other) && own.codec != Codec::AmrWb {
+    if is_same_spec(own, other) && own.codec != Codec::AmrWb {
         return Some(FULL_SCORE);
     }
     if own.codec == other.codec && own.clock_rate == other.clock_rate {

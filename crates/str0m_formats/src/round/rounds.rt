@@ -1,7 +1,7 @@
 //! Rounds of negotiation, one and many.
 ghost use Rattle.std.specs.Prelude.{◌≡◌, OnOk, OnErr, IfErr, IfOk};
 ghost use Rattle.str0m_formats.specs.Prelude.{receives};
-ghost use Rattle.str0m_formats.specs.round.Rounds.{RoundLeaves, Refused};
+ghost use Rattle.str0m_formats.specs.round.Rounds.{RoundLeaves, RoundRefused};
 ghost use Rattle.str0m_formats.specs.round.RoundsPromises.{Negotiates, RoundsRunPromises, EveryRoundsRunPromises};
 ghost use Rattle.str0m_formats.specs.round.RoundsRuns.{RunReached};
 
@@ -31,7 +31,7 @@ fn run_round<C: Claimed>(
     receives: bool,
 ) -> Result<(), NegotiationError>
     ensures ok { OnOk result (RoundLeaves rows.old remote.now receives rows.new) }
-    ensures err { IfErr result (Refused rows.old remote.now receives) }
+    ensures err { IfErr result (RoundRefused rows.old remote.now receives) }
 {
     check_types(rows, remote)?;
     let mut claims: Claims<C> = claims_of(rows, receives)?;

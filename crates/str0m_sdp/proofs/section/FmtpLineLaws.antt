@@ -1,7 +1,7 @@
 -- The fmtp lines of types, one attribute more.
 use Rattle.str0m_sdp.proofs.Common.{arith, ◌≡◌, ◌==◌, ◌<◌, ◌+◌, ◌++◌, ℕ, true, false, List, [], ◌∷◌, length, take, get_or, Option, Some}
 use Rattle.str0m_sdp.proofs.Common.{None, option_to_list, refl, sym, ap, ◌∙◌, inl, inr, Bor, cases_eq, eq-eqb, ne_eqb, append-nil}
-use Rattle.str0m_sdp.proofs.Common.{map-append, filter_map-append, line_values, FormatParam}
+use Rattle.str0m_sdp.proofs.Common.{map-append, filter_map-append, format_line_values, FormatParam}
 use Rattle.str0m_sdp.proofs.section.MappingsFilterMap.{map_one, map_more}
 use Rattle.str0m_sdp.specs.declared.attribute.MediaAttribute.{MediaAttribute}
 use Rattle.str0m_sdp.specs.declared.attribute.MediaAttribute.TheVariants.{Fmtp}
@@ -10,15 +10,16 @@ use Rattle.str0m_sdp.specs.section.SectionRows.{fmtp_values_in, fmtps_of}
 
 -- before any attribute there are none
 pub no_fmtp_lines : (lines : List (ℕ × Bor (List FormatParam))) (pt : ℕ) → lines ≡ []
-    → line_values (fmtp_lines_with pt lines) ≡ fmtps_of [] pt
+    → format_line_values (fmtp_lines_with pt lines) ≡ fmtps_of [] pt
 unfolding fmtps_of
-no_fmtp_lines lines pt empty = ap (λ (ls : List (ℕ × Bor (List FormatParam))). line_values (fmtp_lines_with pt ls)) empty
+no_fmtp_lines lines pt empty = ap (λ (ls : List (ℕ × Bor (List FormatParam))). format_line_values (fmtp_lines_with pt ls)) empty
 
 -- one line more, beside its type
 fmtp_line_with_more : (pt : ℕ) (lines : List (ℕ × Bor (List FormatParam))) (item : ℕ × Bor (List FormatParam))
     (o : Option (Bor (List FormatParam)))
     → fmtp_line_with pt item ≡ o
-    → line_values (fmtp_lines_with pt (lines ++ item ∷ [])) ≡ line_values (fmtp_lines_with pt lines) ++ line_values (option_to_list o)
+    → format_line_values (fmtp_lines_with pt (lines ++ item ∷ [])) ≡ format_line_values (fmtp_lines_with pt lines)
+    ++ format_line_values (option_to_list o)
 fmtp_line_with_more pt lines item o is = grind (arith, filter_map-append, map_one, map-append)
 
 fmtp_lines_more : (attrs : List MediaAttribute) (i : ℕ) (attr : MediaAttribute) (pt : ℕ) (o : Option (List FormatParam)) → i < length attrs
@@ -57,8 +58,8 @@ fmtp_lines_other attrs i attr pt lt is other = fmtp_lines_same attrs i attr pt l
 pub fmtp_lines_pushed : (attrs : List MediaAttribute) (lines : List (ℕ × Bor (List FormatParam))) (i n : ℕ) (line : Bor (List FormatParam))
     (attr : MediaAttribute) (pt : ℕ)
     → i < length attrs → attr ≡ get_or attrs i attr → attr ≡ Fmtp n line.now
-    → line_values (fmtp_lines_with pt lines) ≡ fmtps_of (take i attrs) pt
-    → line_values (fmtp_lines_with pt (lines ++ (n, line) ∷ [])) ≡ fmtps_of (take (i + 1) attrs) pt
+    → format_line_values (fmtp_lines_with pt lines) ≡ fmtps_of (take i attrs) pt
+    → format_line_values (fmtp_lines_with pt (lines ++ (n, line) ∷ [])) ≡ fmtps_of (take (i + 1) attrs) pt
 fmtp_lines_pushed attrs lines i n line attr pt lt is variant so_far =
     elim (cases_eq n pt) [
       | inl same ↦
@@ -68,7 +69,7 @@ fmtp_lines_pushed attrs lines i n line attr pt lt is variant so_far =
           (ap (fmtp_values_in pt) variant ∙ own_fmtp_values n pt line.now same))
       | inr ne ↦
           fmtp_line_with_more pt lines (n, line) None (fmtp_line_with_other n pt line ne)
-          ∙ append-nil (line_values (fmtp_lines_with pt lines))
+          ∙ append-nil (format_line_values (fmtp_lines_with pt lines))
           ∙ so_far ∙ sym (fmtp_lines_same attrs i attr pt lt is (ap (fmtp_values_in pt) variant ∙ other_fmtp_values n pt line.now ne))
     ]
 

@@ -4,7 +4,7 @@ use Rattle.str0m_sdp.proofs.Common.{◌≡◌, ◌≢◌, ◌≤◌, inl, ℕ, B
 use Rattle.str0m_sdp.proofs.Common.{◌∙◌, subst, arith, AllByRecursion, flat_map, All-from_recursion, codec_content, other, types}
 use Rattle.str0m_sdp.proofs.Common.{same_codec, has}
 use Rattle.str0m_sdp.proofs.Common.{AllTypesDistinct, Codec, FormatParam, Apt, BarePtList, PayloadParams, IsPlain, count_by, true≢false}
-use Rattle.str0m_sdp.proofs.Common.{type_times-some, line_all_of_both}
+use Rattle.str0m_sdp.proofs.Common.{type_times-some, format_all_of_both}
 use Rattle.str0m_sdp.proofs.section.MadeSectionFrame.{HasNoTypes, NameNoType, NamesNoType}
 use Rattle.str0m_sdp.proofs.section.MappingsBack.{IsMappingSaid, section, each_type}
 use Rattle.str0m_sdp.proofs.section.RowAttributesQuestions.{lines, row_attrs_of, row_apt_is, maps_are}
@@ -17,8 +17,8 @@ use Rattle.str0m_sdp.specs.declared.attribute.MediaAttribute.{MediaAttribute}
 use Rattle.str0m_sdp.specs.declared.attribute.MediaAttribute.TheVariants.{Fmtp}
 use Rattle.str0m_sdp.specs.declared.attribute.proto.Proto.TheVariants.{Srtp}
 use Rattle.str0m_sdp.specs.declared.section.media_line.MediaLine.{MediaLine}
-use Rattle.str0m_sdp.specs.section.Consistency.{is_mid, is_setup, is_direction, maps, IsMapped, first_section_apt, NamesNoOtherApt}
-use Rattle.str0m_sdp.specs.section.Consistency.{AgreesOnApt}
+use Rattle.str0m_sdp.specs.section.Consistency.{is_mid, is_setup, is_direction, maps, IsMapped, first_section_apt, NamesNoOtherSectionApt}
+use Rattle.str0m_sdp.specs.section.Consistency.{AgreesOnSectionApt}
 use Rattle.str0m_sdp.specs.section.Consistency.{Consistent}
 use Rattle.str0m_sdp.specs.section.MadeSection.{is_of_type}
 use Rattle.str0m_sdp.specs.section.Mappings.{mapped, is_mapped_to}
@@ -38,13 +38,13 @@ no_direction attr h = grind arith
 section_IfSome_all : {A : Type 0} (o : Option A) (P : A → Type 0) → ((x : A) → P x) → IfSome o P
 section_IfSome_all o P f = grind arith
 
-made_section_no_other : (first : ℕ) (v : List FormatParam) → AllByRecursion NamesNoType v → All (NamesNoOtherApt first) v
+made_section_no_other : (first : ℕ) (v : List FormatParam) → AllByRecursion NamesNoType v → All (NamesNoOtherSectionApt first) v
 made_section_no_other first v h = grind (arith, All-from_recursion, rows_all_weaker, NamesNoType)
 
 no_companion : (c : Codec) → codec_content c ≢ other → (same_codec c codec.Rtx ≡ false) × (same_codec c codec.Red ≡ false)
 no_companion c h = grind arith
 
-pub section_frame_agrees : (attrs : List MediaAttribute) (attr : MediaAttribute) → is_of_type attr ≡ false → AgreesOnApt attrs attr
+pub section_frame_agrees : (attrs : List MediaAttribute) (attr : MediaAttribute) → is_of_type attr ≡ false → AgreesOnSectionApt attrs attr
 section_frame_agrees attrs attr h = grind arith
 
 section_frame_names : (m : MediaLine) (attr : MediaAttribute) → is_of_type attr ≡ false → NamesOnePrimaryRow m attr
@@ -77,18 +77,18 @@ module _ (values : PayloadParams → List (List FormatParam)) where
             omega (arith, same, one, at_most)
 
     -- what an RTX type names agrees
-    pub made_section_agrees : All (AgreesOnApt (row_attrs_of values frame.attrs rows)) (row_attrs_of values frame.attrs rows)
+    pub made_section_agrees : All (AgreesOnSectionApt (row_attrs_of values frame.attrs rows)) (row_attrs_of values frame.attrs rows)
     made_section_agrees =
-        All-from_recursion (AgreesOnApt attrs) attrs
-        (line_all_of_both (AgreesOnApt attrs) frame.attrs (flat_map (lines values) rows)
-        (rows_all_weaker _ (AgreesOnApt attrs) (section_frame_agrees attrs) frame.attrs bare)
-        (rows_over_lines (AgreesOnApt attrs) (lines values) rows (rows_each_among _ rows one)))
+        All-from_recursion (AgreesOnSectionApt attrs) attrs
+        (format_all_of_both (AgreesOnSectionApt attrs) frame.attrs (flat_map (lines values) rows)
+        (rows_all_weaker _ (AgreesOnSectionApt attrs) (section_frame_agrees attrs) frame.attrs bare)
+        (rows_over_lines (AgreesOnSectionApt attrs) (lines values) rows (rows_each_among _ rows one)))
       where
         attrs : List MediaAttribute
         attrs = row_attrs_of values frame.attrs rows
 
         format : (row : PayloadParams) (vs : List (List FormatParam)) → NameNoType vs
-            → AllByRecursion (λ v. AgreesOnApt attrs (Fmtp row.pt v)) vs
+            → AllByRecursion (λ v. AgreesOnSectionApt attrs (Fmtp row.pt v)) vs
         format row [] h = tt
         format row (v ∷ vs) h = (
           section_IfSome_all (first_section_apt row.pt attrs) _ (λ first. made_section_no_other first v h.0),
@@ -96,20 +96,20 @@ module _ (values : PayloadParams → List (List FormatParam)) where
         )
 
         one : (before : List PayloadParams) (row : PayloadParams) (after : List PayloadParams) → rows ≡ before ++ row ∷ after
-            → AllByRecursion (AgreesOnApt attrs) (lines values row)
+            → AllByRecursion (AgreesOnSectionApt attrs) (lines values row)
         one before row after e =
-            row_lines_each (AgreesOnApt attrs) row (values row) (λ m. tt) (λ w. tt)
+            row_lines_each (AgreesOnSectionApt attrs) row (values row) (λ m. tt) (λ w. tt)
             (format row (values row) (rows_taken_apart (λ r. IsMappingSaid r (values r)) before row after
             (subst (AllByRecursion (λ r. IsMappingSaid r (values r))) e said)).1.silent)
             (λ n is. (
               λ m. tt,
-              subst (λ o. IfSome o (λ first. All (NamesNoOtherApt first) (Apt row.pt ∷ []))) (sym (first_is n is))
-                  (All-from_recursion (NamesNoOtherApt row.pt) (Apt row.pt ∷ []) (refl, tt)),
+              subst (λ o. IfSome o (λ first. All (NamesNoOtherSectionApt first) (Apt row.pt ∷ []))) (sym (first_is n is))
+                  (All-from_recursion (NamesNoOtherSectionApt row.pt) (Apt row.pt ∷ []) (refl, tt)),
             ))
             (λ n is. (
               λ m. tt,
               section_IfSome_all (first_section_apt n attrs) _
-                  (λ first. All-from_recursion (NamesNoOtherApt first) (BarePtList row.pt ∷ []) (tt, tt)),
+                  (λ first. All-from_recursion (NamesNoOtherSectionApt first) (BarePtList row.pt ∷ []) (tt, tt)),
             ))
           where
             first_is : (n : ℕ) → row.resend ≡ Some n → first_section_apt n attrs ≡ Some row.pt
@@ -136,7 +136,7 @@ module _ (values : PayloadParams → List (List FormatParam)) where
     pub names_one : AllByRecursion IsPlain rows → All (NamesOnePrimaryRow (section values frame rows)) (section values frame rows).attrs
     names_one plain =
         All-from_recursion (NamesOnePrimaryRow m) (row_attrs_of values frame.attrs rows)
-        (line_all_of_both (NamesOnePrimaryRow m) frame.attrs (flat_map (lines values) rows)
+        (format_all_of_both (NamesOnePrimaryRow m) frame.attrs (flat_map (lines values) rows)
         (rows_all_weaker _ (NamesOnePrimaryRow m) (section_frame_names m) frame.attrs bare)
         (rows_over_lines (NamesOnePrimaryRow m) (lines values) rows (rows_each_among _ rows one)))
       where

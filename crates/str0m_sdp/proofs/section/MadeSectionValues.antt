@@ -1,7 +1,7 @@
 -- What the fmtp lines of a plain row read as: its format, and no payload type.
 use Rattle.str0m_formats.proofs.{printed_pairs, IsOwnParam, IsFormatLineOf, format_said, line_of_pairs, plain_row_can_be_read_back}
 use Rattle.str0m_formats.specs.declared.codec.Codec.TheVariants as codec
-use Rattle.str0m_formats.specs.format.FormatLine.{line_asks_absent}
+use Rattle.str0m_formats.specs.format.FormatLine.{format_lines_ask_absent}
 use Rattle.str0m_formats.specs.format.Pairs.{has_triple_mark}
 use Rattle.str0m_formats.specs.format.PairsReading.{params_read}
 use Rattle.str0m_formats.specs.round.Narrowing.{telephone_max}
@@ -37,8 +37,8 @@ section_line_names_none : (pairs : List (List ℕ × List ℕ)) → AllByRecursi
     → NameNoType (section_pairs_line_read pairs)
 section_line_names_none pairs own = grind (arith, section_values_name_none)
 
-section_none_refused : (c : Codec) → line_asks_absent c [] ≡ false
-unfolding line_asks_absent
+section_none_refused : (c : Codec) → format_lines_ask_absent c [] ≡ false
+unfolding format_lines_ask_absent
 section_none_refused c = grind arith
 
 section_no_line_said : (c : Codec) → c ≢ codec.Tele → format_of_fmtp c [] ≡ Some empty

@@ -3,7 +3,7 @@ use Rattle.str0m_formats.specs.declared.codec.Codec.TheVariants as codec
 use Rattle.str0m_sdp.proofs.Common.{◌≡◌, ◌==◌, ℕ, true, false, not, List, [], ◌∷◌, ◌++◌, Option, Some, nat_eq, refl, arith, AllByRecursion}
 use Rattle.str0m_sdp.proofs.Common.{flat_map, list_any, or_left, or_right, append-nil, list_any-append, format_of_fmtp, types_of, types}
 use Rattle.str0m_sdp.proofs.Common.{same_codec, has, AllTypesDistinct, Codec, CodecSpec, FormatParam, PayloadParams, IsPlain, IsPlainG722}
-use Rattle.str0m_sdp.proofs.Common.{type_times-some, line_all_of_both}
+use Rattle.str0m_sdp.proofs.Common.{type_times-some, format_all_of_both}
 use Rattle.str0m_sdp.proofs.section.MadeSectionFrame.{HasNoTypes, NameNoType}
 use Rattle.str0m_sdp.proofs.section.RowAttributesAnswers.{MappingNamesItself, row_entries, rtx_entry, red_entry, row_eq_false_flipped}
 use Rattle.str0m_sdp.proofs.section.RowAttributesQuestions.{row_attrs_of, mappings_are, maps_are}
@@ -37,7 +37,7 @@ module _ (c : Codec) (t : ℕ) (row : PayloadParams) where
   mapping_entries_apart h = grind arith
 
   pub entry_pt : RowRoles row → t ≡ row.pt → list_any (stands_for_codec c t) (row_entries row) ≡ same_codec row.spec.codec c
-  entry_pt r same = grind (arith, rows_none_passes, line_all_of_both, rtx_fails, red_fails, row_type_is_itself, rows_or_false)
+  entry_pt r same = grind (arith, rows_none_passes, format_all_of_both, rtx_fails, red_fails, row_type_is_itself, rows_or_false)
 
   pub entry_rtx : RowRoles row → row.resend ≡ Some t → list_any (stands_for_codec c t) (row_entries row) ≡ same_codec codec.Rtx c
   entry_rtx r is = grind (arith, row_eq_false_flipped, list_any-append, rows_none_passes, red_fails, rows_or_false, row_type_is_itself)

@@ -4,7 +4,7 @@ use Rattle.str0m_sdp.proofs.Common.{arith, ◌≡◌, ◌==◌, ◌&&◌, ◌||�
 use Rattle.str0m_sdp.proofs.Common.{option_to_list, refl, sym, ap, ◌∙◌, AllByRecursion, list_any, ne_eqb, append-nil, list_any-append, when}
 use Rattle.str0m_sdp.proofs.Common.{has, types_of, codec_rtp_rate, empty, Codec, CodecSpec, Apt, BarePtList, FormatParam, PayloadParams}
 use Rattle.str0m_sdp.proofs.Common.{bytes_eq}
-use Rattle.str0m_sdp.proofs.Common.{filter_map, eqb-false, line_all_of_both}
+use Rattle.str0m_sdp.proofs.Common.{filter_map, eqb-false, format_all_of_both}
 use Rattle.str0m_sdp.proofs.section.MadeSectionFrame.{NameNoType, NamesNoType}
 use Rattle.str0m_sdp.proofs.section.RowAttributesReads.{fmtp_lines, red_reads, reads, row_lines_each, all_feedback, all_fmtp, all_rtx}
 use Rattle.str0m_sdp.proofs.section.RowAttributesReads.{all_red, row_lines_quiet}
@@ -139,9 +139,9 @@ feedback_own row vs words =
     quiet_rest : list_any (is_feedback row.pt words) rest ≡ false
     quiet_rest =
         rows_none_passes (is_feedback row.pt words) rest
-        (line_all_of_both (λ a. is_feedback row.pt words a ≡ false) _ _
+        (format_all_of_both (λ a. is_feedback row.pt words a ≡ false) _ _
         (all_fmtp (λ a. is_feedback row.pt words a ≡ false) row vs (rows_all_always _ (λ v. refl) vs))
-        (line_all_of_both (λ a. is_feedback row.pt words a ≡ false) _ _
+        (format_all_of_both (λ a. is_feedback row.pt words a ≡ false) _ _
         (all_rtx (λ a. is_feedback row.pt words a ≡ false) row row.resend (λ n e. (λ m. refl, refl)))
         (all_red (λ a. is_feedback row.pt words a ≡ false) row row.red (λ n e. (λ m. refl, refl)))))
 

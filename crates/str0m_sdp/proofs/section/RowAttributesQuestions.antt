@@ -13,7 +13,8 @@ use Rattle.str0m_sdp.proofs.section.RowAttributesAnswers.{MappingNamesItself, ro
 use Rattle.str0m_sdp.proofs.section.RowAttributesAnswers.{feedback_apart}
 use Rattle.str0m_sdp.proofs.section.RowAttributesAnswers.{feedback_own, mapping_own}
 use Rattle.str0m_sdp.proofs.section.RowAttributesReads.{reads, fmtp_lines, red_reads, row_lines_quiet, all_feedback, all_fmtp}
-use Rattle.str0m_sdp.proofs.section.SectionRowsApart.{LacksType, RowRoles, row_type_unique, roles, row_distinct, has_pt, has_rtx, pt_apart}
+use Rattle.str0m_sdp.proofs.section.SectionRowsApart.{LacksType, RowRoles, row_type_unique, row_roles_apart, row_distinct, has_pt, has_rtx}
+use Rattle.str0m_sdp.proofs.section.SectionRowsApart.{pt_apart}
 use Rattle.str0m_sdp.proofs.section.SectionRowsOwn.{AreRowsOpen, own_said}
 use Rattle.str0m_sdp.proofs.section.SectionRowsParts.{rows_all_always, rows_or_false, rows_all_weaker, rows_all_together, rows_taken_apart}
 use Rattle.str0m_sdp.proofs.section.SectionRowsParts.{rows_none_passes}
@@ -66,7 +67,7 @@ module _ (values : PayloadParams → List (List FormatParam)) where
   module _ (frame : List MediaAttribute) (bare : HasNoTypes frame) (before : List PayloadParams) (row : PayloadParams)
       (after : List PayloadParams) (d : AllTypesDistinct (types (before ++ row ∷ after))) where
     own_row_roles : RowRoles row
-    own_row_roles = roles row (row_distinct before row after d)
+    own_row_roles = row_roles_apart row (row_distinct before row after d)
 
     -- the values of its fmtp lines
     pub row_values_are : fmtps_of (row_attrs_of frame (before ++ row ∷ after)) row.pt ≡ values row

@@ -2,7 +2,7 @@
 use Rattle.str0m_formats.specs.declared.codec.Codec.TheVariants as codec
 use Rattle.str0m_sdp.proofs.Common.{arith, ◌≡◌, ℕ, Bool, List, [], ◌∷◌, ◌++◌, Option, Some, None, refl, ap, ◌∙◌, AllByRecursion}
 use Rattle.str0m_sdp.proofs.Common.{filter_map-append, codec_rtp_rate, FormatParam, Apt, BarePtList, PayloadParams, filter_map}
-use Rattle.str0m_sdp.proofs.Common.{line_all_of_both}
+use Rattle.str0m_sdp.proofs.Common.{format_all_of_both}
 use Rattle.str0m_sdp.specs.attribute.RtpMap.{map_of_spec}
 use Rattle.str0m_sdp.specs.declared.attribute.MediaAttribute.{MediaAttribute}
 use Rattle.str0m_sdp.specs.declared.attribute.MediaAttribute.TheVariants.{RtpMap, RtcpFb, Fmtp}
@@ -51,7 +51,7 @@ module _ (P : MediaAttribute → Type 0) (row : PayloadParams) where
       → ((n : ℕ) → row.resend ≡ Some n → ((m : Mapping) → P (RtpMap n m)) × P (Fmtp n (Apt row.pt ∷ [])))
       → ((n : ℕ) → row.red ≡ Some n → ((m : Mapping) → P (RtpMap n m)) × P (Fmtp n (BarePtList row.pt ∷ [])))
       → AllByRecursion P (reads row vs)
-  row_lines_each vs map feedback format rtx red = grind (arith, line_all_of_both, all_feedback, all_fmtp, all_rtx, all_red)
+  row_lines_each vs map feedback format rtx red = grind (arith, format_all_of_both, all_feedback, all_fmtp, all_rtx, all_red)
 
 -- ---- questions
 

@@ -12,7 +12,7 @@ use Rattle.str0m_sdp.proofs.section.MappingsBack.{IsMappingSaid, unlocked_row, s
 use Rattle.str0m_sdp.proofs.section.MappingsBack.{entry_red}
 use Rattle.str0m_sdp.proofs.section.RowAttributesAnswers.{row_entries, rtx_entry, red_entry}
 use Rattle.str0m_sdp.proofs.section.RowAttributesQuestions.{row_attrs_of, row_values_are, feedback_is, SayFeedback, rtx_is, red_is}
-use Rattle.str0m_sdp.proofs.section.SectionRowsApart.{RowRoles, roles, row_distinct, row_type_is_itself, has_pt, has_rtx, has_red}
+use Rattle.str0m_sdp.proofs.section.SectionRowsApart.{RowRoles, row_roles_apart, row_distinct, row_type_is_itself, has_pt, has_rtx, has_red}
 use Rattle.str0m_sdp.proofs.section.SectionRowsApart.{row_has_at-append}
 use Rattle.str0m_sdp.proofs.section.SectionRowsParts.{rows_all_weaker, rows_taken_apart, rows_each_among}
 use Rattle.str0m_sdp.specs.declared.section.media_line.MediaLine.{MediaLine}
@@ -66,7 +66,7 @@ module _ (values : PayloadParams → List (List FormatParam)) (frame : MediaLine
   module _ (before : List PayloadParams) (row : PayloadParams) (after : List PayloadParams)
       (plain : AllByRecursion IsPlain (before ++ row ∷ after)) (d : AllTypesDistinct (types (before ++ row ∷ after))) where
     row_roles : RowRoles row
-    row_roles = roles row (row_distinct before row after d)
+    row_roles = row_roles_apart row (row_distinct before row after d)
 
     -- what each of its types is mapped to
     pub pt_mapped : (c : Codec) → is_mapped_to c (mapped (section values frame (before ++ row ∷ after))) row.pt

@@ -60,14 +60,14 @@ bound_lines_within attrs pt keeps = all_mapped KeepsToRowLine (All IsRowInBounds
 
 -- ---- types
 
-companion_small_in : (codec : Codec) (types : List (ℕ × CodecSpec)) (pt : ℕ) (attr : MediaAttribute) → KeepsToRowLine attr
+bound_companion_small_in : (codec : Codec) (types : List (ℕ × CodecSpec)) (pt : ℕ) (attr : MediaAttribute) → KeepsToRowLine attr
     → IfSome (companion_in codec types pt attr) IsType
-companion_small_in codec types pt attr keeps = grind arith
+bound_companion_small_in codec types pt attr keeps = grind arith
 
-companion_small : (codec : Codec) (types : List (ℕ × CodecSpec)) (attrs : List MediaAttribute) (pt : ℕ) → All KeepsToRowLine attrs
+bound_companion_small : (codec : Codec) (types : List (ℕ × CodecSpec)) (attrs : List MediaAttribute) (pt : ℕ) → All KeepsToRowLine attrs
     → IfSome (companion codec types attrs pt) IsType
 unfolding companion
-companion_small codec types attrs pt keeps = search (rules, filter_map_last_of_all, all_mapped, companion_small_in)
+bound_companion_small codec types attrs pt keeps = search (rules, filter_map_last_of_all, all_mapped, bound_companion_small_in)
 
 bound_small_if : (b : Bool) (o : Option ℕ) → IfSome o IsType → IfSome (cond b o None) IsType
 bound_small_if b o small = grind arith
@@ -109,7 +109,7 @@ row_bounded m keeps (pt, spec) small =
     if_format RowFieldsWithin IsBounded (row_with m pt spec) (format_of_fmtp spec.codec (fmtps_of m.attrs pt))
     (λ format within. record {
       types = small_types pt (rtx_companion m pt) (red_companion m pt spec.codec) small
-          (companion_small _ (mapped m) m.attrs pt keeps) (bound_small_if _ _ (companion_small _ (mapped m) m.attrs pt keeps));
+          (bound_companion_small _ (mapped m) m.attrs pt keeps) (bound_small_if _ _ (bound_companion_small _ (mapped m) m.attrs pt keeps));
       modes = within.0;
       distance = within.1;
     })

@@ -11,7 +11,7 @@ use Rattle.str0m_sdp.specs.declared.attribute.proto.Proto.TheVariants.{Srtp, Sct
 use Rattle.str0m_sdp.specs.declared.section.media_line.MediaLine.{MediaLine}
 use Rattle.str0m_sdp.specs.declared.session.fault.Fault.{Fault}
 use Rattle.str0m_sdp.specs.declared.session.fault.Fault.TheVariants.{SecondSetup}
-use Rattle.str0m_sdp.specs.section.Consistency.{Consistent, NeedsNoMapping, NamesNoOtherApt, AgreesOnApt, IsMapped, FitsProto}
+use Rattle.str0m_sdp.specs.section.Consistency.{Consistent, NeedsNoMapping, NamesNoOtherSectionApt, AgreesOnSectionApt, IsMapped, FitsProto}
 use Rattle.str0m_sdp.specs.section.Consistency.{section_apt_of}
 use Rattle.str0m_sdp.specs.section.Consistency.{is_direction, is_mid, is_setup, maps as maps_to, mid_of}
 use Rattle.str0m_sdp.specs.session.Fault.{after_mid, apt_fault, apt_clash_fault, err_if_fault, fault_beside, first_fault, map_fault}
@@ -82,20 +82,22 @@ fault_apts_clash : (mid : List ℕ) (pt named : ℕ) (other : Option ℕ)
 fault_apts_clash mid pt named other = grind arith
 
 fault_values_agree : (mid : List ℕ) (pt : ℕ) (values : List FormatParam) (o : Option ℕ)
-    → (values_fault mid pt values o ≡ None) ↔ IfSome o (λ named. All (NamesNoOtherApt named) values)
+    → (values_fault mid pt values o ≡ None) ↔ IfSome o (λ named. All (NamesNoOtherSectionApt named) values)
 fault_values_agree mid pt values None = ((λ is. tt), λ is. refl)
 fault_values_agree mid pt values (Some named) =
-    no_fault_among (value_fault mid pt named) (NamesNoOtherApt named) (λ value. fault_apts_clash mid pt named (section_apt_of value)) values
+    no_fault_among (value_fault mid pt named) (NamesNoOtherSectionApt named) (λ value. fault_apts_clash mid pt named (section_apt_of value))
+    values
 
 fault_apts_agree : (attrs : List MediaAttribute) (mid : List ℕ) (attr : MediaAttribute)
-    → (apt_fault attrs mid attr ≡ None) ↔ AgreesOnApt attrs attr
+    → (apt_fault attrs mid attr ≡ None) ↔ AgreesOnSectionApt attrs attr
 fault_apts_agree attrs mid attr = grind (arith, fault_values_agree)
 
 -- ---- all of them
 
 -- what a consistent section has beside its mid
 abbrev ConsistentBesideMid : MediaLine → Type 0
-ConsistentBesideMid m = (count_by is_setup m.attrs ≤ 1) × (FitsProto m × (All (IsMapped m.attrs) m.pts × All (AgreesOnApt m.attrs) m.attrs))
+ConsistentBesideMid m = (count_by is_setup m.attrs ≤ 1)
+    × (FitsProto m × (All (IsMapped m.attrs) m.pts × All (AgreesOnSectionApt m.attrs) m.attrs))
 
 fault_beside_none : (m : MediaLine) (mid : List ℕ) → (fault_beside m mid ≡ None) ↔ ConsistentBesideMid m
 fault_beside_none m mid =
@@ -108,7 +110,7 @@ fault_beside_none m mid =
     let proto = proto_fits m mid m.proto in
     let mapping = no_fault_among (map_fault m.attrs mid) (IsMapped m.attrs) (λ pt. mapping_none mid pt (count_by (maps_to pt) m.attrs))
     m.pts in
-    let apt = no_fault_among (apt_fault m.attrs mid) (AgreesOnApt m.attrs) (fault_apts_agree m.attrs mid) m.attrs in (
+    let apt = no_fault_among (apt_fault m.attrs mid) (AgreesOnSectionApt m.attrs) (fault_apts_agree m.attrs mid) m.attrs in (
       (λ is. let p = a.0 is in let q = b.0 p.1 in let r = d.0 q.1 in (setup.0 p.0, (proto.0 q.0, (mapping.0 r.0, apt.0 r.1)))),
       λ holds. a.1 (setup.1 holds.0, b.1 (proto.1 holds.1.0, d.1 (mapping.1 holds.1.1.0, apt.1 holds.1.1.1))),
     )

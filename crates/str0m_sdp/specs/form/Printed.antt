@@ -2,13 +2,13 @@
 use Rattle.std.specs.Prelude.{ℕ, List, [], ◌∷◌, ◌++◌, codes}
 
 -- CR LF, by which every printed line ends (RFC 8866, section 5)
-abbrev pub line_end : List ℕ
-line_end = 13 ∷ 10 ∷ []
+abbrev pub printed_line_end : List ℕ
+printed_line_end = 13 ∷ 10 ∷ []
 
 -- the line of an attribute (RFC 8866, section 5.13)
 abbrev pub attribute_line : List ℕ → List ℕ
-attribute_line text = codes "a=" ++ (text ++ line_end)
+attribute_line text = codes "a=" ++ (text ++ printed_line_end)
 
 -- an attribute line of a label and a text right after it
 abbrev pub labelled_line : List ℕ → List ℕ → List ℕ
-labelled_line label text = codes "a=" ++ (label ++ (text ++ line_end))
+labelled_line label text = codes "a=" ++ (label ++ (text ++ printed_line_end))

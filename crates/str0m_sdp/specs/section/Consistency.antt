@@ -65,20 +65,20 @@ first_section_apt pt [] = None
 first_section_apt pt (attr ∷ attrs) = section_apt_in pt attr <|> first_section_apt pt attrs
 
 -- the value names no other type than this one
-abbrev pub NamesNoOtherApt : ℕ → FormatParam → Type 0
-NamesNoOtherApt first value = IfSome (section_apt_of value) (λ other. first ≡ other)
+abbrev pub NamesNoOtherSectionApt : ℕ → FormatParam → Type 0
+NamesNoOtherSectionApt first value = IfSome (section_apt_of value) (λ other. first ≡ other)
 
 -- no value of an fmtp line names another primary type than the first that is named for its payload type
-abbrev pub AgreesOnApt : List MediaAttribute → MediaAttribute → Type 0
-AgreesOnApt attrs (Fmtp pt values) = IfSome (first_section_apt pt attrs) (λ first. All (NamesNoOtherApt first) values)
-AgreesOnApt attrs _ = Unit {0}
+abbrev pub AgreesOnSectionApt : List MediaAttribute → MediaAttribute → Type 0
+AgreesOnSectionApt attrs (Fmtp pt values) = IfSome (first_section_apt pt attrs) (λ first. All (NamesNoOtherSectionApt first) values)
+AgreesOnSectionApt attrs _ = Unit {0}
 
 pub record Consistent (m : MediaLine) : Type 0 where
   pub mid : count_by is_mid m.attrs ≡ 1
   pub setup : count_by is_setup m.attrs ≤ 1
   pub proto : FitsProto m
   pub mapped : All (IsMapped m.attrs) m.pts
-  pub apt : All (AgreesOnApt m.attrs) m.attrs
+  pub apt : All (AgreesOnSectionApt m.attrs) m.attrs
 
 -- none where P holds, and a value where it doesn't
 abbrev pub NoSectionFaultIff : {A : Type 0} → Option A → Type 0 → Type 0

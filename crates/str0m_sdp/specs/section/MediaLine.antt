@@ -8,7 +8,7 @@ use Rattle.str0m_sdp.specs.attribute.Proto.{proto_text}
 use Rattle.str0m_sdp.specs.declared.attribute.media_type.MediaType.{MediaType}
 use Rattle.str0m_sdp.specs.declared.attribute.media_type.MediaType.TheVariants.{Audio, Video, Application, Unknown}
 use Rattle.str0m_sdp.specs.declared.section.media_line.MediaLine.{MediaLine}
-use Rattle.str0m_sdp.specs.form.Printed.{line_end}
+use Rattle.str0m_sdp.specs.form.Printed.{printed_line_end}
 
 -- 0 for a section that is rejected or stopped (RFC 8829, section 5.3.1), else the discard port,
 -- since ICE finds the port (RFC 8829, section 5.2.1)
@@ -33,10 +33,10 @@ formats_text (Unknown text) pts = m_line_pts_text pts
 abbrev pub m_line : MediaLine → List ℕ
 m_line m =
     codes "m=" ++ (media_type_text m.typ ++ (codes " " ++ (port_text m.disabled ++ (codes " "
-    ++ (proto_text m.proto ++ (codes " " ++ (formats_text m.typ m.pts ++ line_end)))))))
+    ++ (proto_text m.proto ++ (codes " " ++ (formats_text m.typ m.pts ++ printed_line_end)))))))
 
 -- the m-line, a `c=` line without an address (RFC 8829, section 5.2.1), bandwidth, attributes
 abbrev pub media_line_text : MediaLine → List ℕ
 media_line_text m =
-    m_line m ++ (codes "c=IN IP4 0.0.0.0" ++ (line_end
+    m_line m ++ (codes "c=IN IP4 0.0.0.0" ++ (printed_line_end
     ++ (bandwidth_line m.bw ++ flat_map media_attribute_text m.attrs)))

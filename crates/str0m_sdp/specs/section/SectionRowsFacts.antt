@@ -3,7 +3,7 @@ use Rattle.std.specs.Borrow.{Bor}
 use Rattle.std.specs.List.{list_any}
 use Rattle.std.specs.Prelude.{◌≡◌, ◌==◌, ◌<◌, ℕ, false, List, None, get_or, length, if◌then◌else◌}
 use Rattle.str0m_formats.specs.declared.codec.Codec.TheVariants.{Rtx, Red}
-use Rattle.str0m_sdp.specs.Prelude.{CodecSpec, FormatParam, PayloadParams, codec_content, row_content_has_audio, line_values, new_row}
+use Rattle.str0m_sdp.specs.Prelude.{CodecSpec, FormatParam, PayloadParams, codec_content, row_content_has_audio, format_line_values, new_row}
 use Rattle.str0m_sdp.specs.attribute.Feedback.{empty_feedback, feedback_of, with_feedback}
 use Rattle.str0m_sdp.specs.declared.attribute.MediaAttribute.{MediaAttribute}
 use Rattle.str0m_sdp.specs.declared.section.media_line.MediaLine.{MediaLine}
@@ -36,4 +36,4 @@ pub record RowTablesAreOf (types : List (ℕ × CodecSpec)) (attrs : List MediaA
   pub rtx : (pt : ℕ) → pt < 256 → get_or words.rtx pt None ≡ companion Rtx types attrs pt
   pub red : (pt : ℕ) → pt < 256 → get_or words.red pt None ≡ companion Red types attrs pt
   pub feedback : (pt : ℕ) → pt < 256 → get_or words.feedback pt empty_feedback ≡ feedback_of attrs pt
-  pub gathered : (pt : ℕ) → line_values (fmtp_lines_with pt lines) ≡ fmtps_of attrs pt
+  pub gathered : (pt : ℕ) → format_line_values (fmtp_lines_with pt lines) ≡ fmtps_of attrs pt

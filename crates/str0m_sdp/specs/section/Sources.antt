@@ -10,8 +10,8 @@ use Rattle.str0m_sdp.specs.declared.section.ssrc_info.SsrcInfo.{SsrcInfo}
 abbrev pub source_entries_of : List SsrcInfo → List (ℕ × SsrcInfo)
 source_entries_of infos = map (λ info. (info.ssrc, info)) infos
 
-abbrev pub entries : Sources → List (ℕ × SsrcInfo)
-entries sources = source_entries_of sources.infos.items
+abbrev pub source_entries : Sources → List (ℕ × SsrcInfo)
+source_entries sources = source_entries_of sources.infos.items
 
 -- the first place of a source
 abbrev pub source_place_in : ℕ → List SsrcInfo → Option ℕ
@@ -26,5 +26,5 @@ AreSourcesPlaced sources = (s : ℕ) → get nat_cmp sources.places s ≡ source
 abbrev pub IsPutAtSource : Sources → Sources → ℕ → ℕ → Type 0
 IsPutAtSource old new s place =
     (info : SsrcInfo) → info.ssrc ≡ s
-    → (source_entries_of (slice_set new.infos.items place info) ≡ insert_entry nat_eq (entries old) s info)
+    → (source_entries_of (slice_set new.infos.items place info) ≡ insert_entry nat_eq (source_entries old) s info)
     × ((q : ℕ) → get nat_cmp new.places q ≡ source_place_in q (slice_set new.infos.items place info))

@@ -1,7 +1,7 @@
 -- The fmtp lines of payload types, and what they say of codecs, once it is known.
 use Rattle.std.specs.Borrow.{Bor}
 use Rattle.std.specs.Prelude.{◌≡◌, ◌<◌, ℕ, List, [], All, get_or, length}
-use Rattle.str0m_sdp.specs.Prelude.{FormatParam, format_of_fmtp, line_values}
+use Rattle.str0m_sdp.specs.Prelude.{FormatParam, format_of_fmtp, format_line_values}
 use Rattle.str0m_sdp.specs.declared.attribute.MediaAttribute.{MediaAttribute}
 use Rattle.str0m_sdp.specs.declared.section.type_lines.KnownFormat.{KnownFormat}
 use Rattle.str0m_sdp.specs.declared.section.type_lines.TypeLines.{TypeLines}
@@ -14,7 +14,7 @@ IsKnownFormat lines known = known.format ≡ format_of_fmtp known.codec lines
 
 -- a group has these lines, and what is known of them is so
 abbrev pub IsTypeGroup : List (List FormatParam) → TypeLines → Type 0
-IsTypeGroup lines group = (line_values group.lines.items ≡ lines) × All (IsKnownFormat lines) group.known.items
+IsTypeGroup lines group = (format_line_values group.lines.items ≡ lines) × All (IsKnownFormat lines) group.known.items
 
 -- each group has the lines of its type among these attributes
 abbrev pub AreGroupsKnown : List MediaAttribute → List TypeLines → Type 0

@@ -9,7 +9,7 @@ use Rattle.str0m_sdp.specs.declared.attribute.media_type.MediaType.TheVariants.{
 use Rattle.str0m_sdp.specs.declared.section.media_line.MediaLine.{MediaLine}
 use Rattle.str0m_sdp.specs.declared.session.Sdp.{Sdp}
 use Rattle.str0m_sdp.specs.declared.session.Session.{Session}
-use Rattle.str0m_sdp.specs.form.Printed.{line_end}
+use Rattle.str0m_sdp.specs.form.Printed.{printed_line_end}
 use Rattle.str0m_sdp.specs.section.MediaLine.{media_line_text}
 
 -- the number of a session has 64 bits (RFC 8866, section 5.2)
@@ -18,7 +18,7 @@ IsSessionNumber n = n < 2 ^ 64
 
 -- the origin (RFC 8866, section 5.2): user, session id, version and no address
 abbrev pub versioned_origin : List ℕ → ℕ → List ℕ
-versioned_origin version id = codes "o=str0m-0.25.0 " ++ (decimal id ++ (codes " " ++ (version ++ (codes " IN IP4 0.0.0.0" ++ line_end))))
+versioned_origin version id = codes "o=str0m-0.25.0 " ++ (decimal id ++ (codes " " ++ (version ++ (codes " IN IP4 0.0.0.0" ++ printed_line_end))))
 
 -- that of a text without another version
 abbrev pub origin_line : ℕ → List ℕ
@@ -28,8 +28,8 @@ origin_line id = versioned_origin (codes "2") id
 -- without start and end (RFC 8866, section 5.9), attributes
 abbrev pub session_lines : List ℕ → Session → List ℕ
 session_lines origin session =
-    codes "v=0" ++ (line_end ++ (origin ++ (codes "s=-" ++ (line_end
-    ++ (bandwidth_line session.bw ++ (codes "t=0 0" ++ (line_end
+    codes "v=0" ++ (printed_line_end ++ (origin ++ (codes "s=-" ++ (printed_line_end
+    ++ (bandwidth_line session.bw ++ (codes "t=0 0" ++ (printed_line_end
     ++ flat_map session_attribute_text session.attrs)))))))
 
 abbrev pub session_text : Session → List ℕ

@@ -2,7 +2,7 @@
 ghost use Rattle.std.specs.Prelude.{Some};
 ghost use Rattle.str0m_sdp.specs.attribute.ExtMap.{ext_map_text};
 
-use crate::form::printed::Paired;
+use crate::form::printed::PrintedPaired;
 use crate::label;
 use std::fmt;
 use str0m_values::Extension;
@@ -21,6 +21,6 @@ impl<'a> fmt::Display for ExtMapLine<'a> {
         if !self.ext.serialized {
             return Ok(());
         }
-        Paired(label::EXTMAP, &self.id, &self.ext.uri).fmt(f)
+        PrintedPaired(label::EXTMAP, &self.id, &self.ext.uri).fmt(f)
     }
 }

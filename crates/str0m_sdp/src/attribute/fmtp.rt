@@ -4,7 +4,7 @@ ghost use Rattle.std.specs.Prelude.{◌≡◌, ◌∷◌, ◌++◌, [], Some, Ma
 ghost use Rattle.str0m_sdp.specs.Prelude.{param_text};
 ghost use Rattle.str0m_sdp.specs.attribute.Fmtp.{is_fmtp_shown, fmtp_text};
 
-use crate::form::printed::{Labelled, Pair, Printed};
+use crate::form::printed::{Printed, PrintedLabelled, PrintedPair};
 use crate::label;
 use std::fmt;
 use str0m_formats::FormatParam;
@@ -47,30 +47,30 @@ impl<'a> fmt::Display for FmtpLine<'a> {
         let Some((first, more)) = first_fmtp_shown(self.values) else {
             return Ok(());
         };
-        let shown = Shown { first, more };
+        let shown = FmtpShown { first, more };
         let pt = self.pt.value();
-        let value = Pair(&pt, &shown);
-        Labelled(label::FMTP, &value).fmt(f)
+        let value = PrintedPair(&pt, &shown);
+        PrintedLabelled(label::FMTP, &value).fmt(f)
     }
 }
 
 /// A value, and each shown one of those after it, parted by `;`.
 #[derive(Drop)]
-struct Shown<'a> {
+struct FmtpShown<'a> {
     first: FormatParam,
     more: &'a [FormatParam],
 }
 
-impl<'a> fmt::Display for Shown<'a> {
+impl<'a> fmt::Display for FmtpShown<'a> {
     ghost output = { λ shown. Some (join_by param_text (codes ";") (shown.first ∷ filter is_fmtp_shown shown.more.now)) };
 
     fn fmt<W: fmt::Write>(&self, f: &mut fmt::Formatter<W>) -> fmt::Result {
         self.first.fmt(f)?;
-        MoreShown(self.more).fmt(f)
+        MoreFmtpShown(self.more).fmt(f)
     }
 }
 
-impl<'a> Printed for Shown<'a> {
+impl<'a> Printed for FmtpShown<'a> {
     ghost text = { λ shown. join_by param_text (codes ";") (shown.first ∷ filter is_fmtp_shown shown.more.now) };
 
     ghost prints = { λ _. refl };
@@ -78,9 +78,9 @@ impl<'a> Printed for Shown<'a> {
 
 /// The values that are shown, each after `;`.
 #[derive(Drop)]
-struct MoreShown<'a>(&'a [FormatParam]);
+struct MoreFmtpShown<'a>(&'a [FormatParam]);
 
-impl<'a> fmt::Display for MoreShown<'a> {
+impl<'a> fmt::Display for MoreFmtpShown<'a> {
     ghost output = { λ more. Some (flat_map (λ value. codes ";" ++ param_text value) (filter is_fmtp_shown more.0.now)) };
 
     fn fmt<W: fmt::Write>(&self, f: &mut fmt::Formatter<W>) -> fmt::Result {

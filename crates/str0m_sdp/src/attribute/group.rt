@@ -2,7 +2,7 @@
 ghost use Rattle.std.specs.Prelude.{Some};
 ghost use Rattle.str0m_sdp.specs.attribute.Group.{group_text, msid_semantic_text};
 
-use crate::form::printed::{Led, Paired, printed_spaced};
+use crate::form::printed::{PrintedLed, PrintedPaired, printed_spaced};
 use crate::label;
 use std::fmt;
 use str0m_values::{Items, Mid, Text};
@@ -19,7 +19,7 @@ impl<'a> fmt::Display for GroupLine<'a> {
 
     fn fmt<W: fmt::Write>(&self, f: &mut fmt::Formatter<W>) -> fmt::Result {
         let typ = self.typ;
-        let mids = Led {
+        let mids = PrintedLed {
             items: self.mids.as_slice(),
             lead: " ",
         };
@@ -39,6 +39,6 @@ impl<'a> fmt::Display for MsidSemanticLine<'a> {
 
     fn fmt<W: fmt::Write>(&self, f: &mut fmt::Formatter<W>) -> fmt::Result {
         let ids = printed_spaced(self.ids.as_slice());
-        Paired("msid-semantic: ", self.semantic, &ids).fmt(f)
+        PrintedPaired("msid-semantic: ", self.semantic, &ids).fmt(f)
     }
 }

@@ -13,7 +13,7 @@ const MSID_LETTERS: [u8; 62] = *b"0123456789ABCDEFGHIJKLMNOPQRSTUVWXYZabcdefghij
 const MSID_ID_LENGTH: usize = 30;
 
 /// The letter that a word stands for.
-fn letter(word: u32) -> char
+fn msid_letter(word: u32) -> char
     ensures value { result ≡ msid_letter_of word }
     ensures ascii { result < 128 }
 {
@@ -28,7 +28,7 @@ fn draw_msid_id<R: Rng>(id: &mut String, rng: &mut R)
     ensures stream { R.stream rng.new ≡ after_msid_drawn_words 30 (R.stream rng.old) }
 {
     for _i in 0..MSID_ID_LENGTH {
-        let letter = letter(rng.next_u32());
+        let letter = msid_letter(rng.next_u32());
         id.push(letter).unwrap();
     }
 }

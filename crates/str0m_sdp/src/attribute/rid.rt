@@ -4,7 +4,7 @@ ghost use Rattle.std.specs.Prelude.{Some, codes};
 ghost use Rattle.str0m_sdp.specs.attribute.Rid.{restriction_text, rid_text, rid_pts_part, restrictions_part};
 
 use crate::attribute::simulcast::RestrictionId;
-use crate::form::printed::Joined;
+use crate::form::printed::PrintedJoined;
 use crate::form::word::Word;
 use crate::label;
 use std::fmt;
@@ -25,7 +25,7 @@ impl<'a> fmt::Display for RidLine<'a> {
     fn fmt<W: fmt::Write>(&self, f: &mut fmt::Formatter<W>) -> fmt::Result {
         let name = self.id.0.as_str();
         let direction = self.direction;
-        let pts = PtsPart(self.pts.as_slice());
+        let pts = RidPtsPart(self.pts.as_slice());
         let restrictions = RestrictionsPart {
             pts: self.pts.as_slice(),
             restrictions: self.restrictions.as_slice(),
@@ -40,9 +40,9 @@ impl<'a> fmt::Display for RidLine<'a> {
 
 /// The payload types that the stream may have, after their label; nothing where there is none.
 #[derive(Drop)]
-struct PtsPart<'a>(&'a [Pt]);
+struct RidPtsPart<'a>(&'a [Pt]);
 
-impl<'a> fmt::Display for PtsPart<'a> {
+impl<'a> fmt::Display for RidPtsPart<'a> {
     ghost output = { λ part. Some (rid_pts_part part.0.now) };
 
     fn fmt<W: fmt::Write>(&self, f: &mut fmt::Formatter<W>) -> fmt::Result {
@@ -50,7 +50,7 @@ impl<'a> fmt::Display for PtsPart<'a> {
         if items.is_empty() {
             return Ok(());
         }
-        let numbers = Joined {
+        let numbers = PrintedJoined {
             items,
             separator: ",",
         };
@@ -72,7 +72,7 @@ impl<'a> fmt::Display for RestrictionsPart<'a> {
         if self.restrictions.is_empty() {
             return Ok(());
         }
-        let pairs = Pairs(self.restrictions);
+        let pairs = RidPairs(self.restrictions);
         if self.pts.is_empty() {
             write!(f, " {pairs}")
         } else {
@@ -83,9 +83,9 @@ impl<'a> fmt::Display for RestrictionsPart<'a> {
 
 /// Restrictions with `;` between each two.
 #[derive(Drop)]
-struct Pairs<'a>(&'a [(Text, Text)]);
+struct RidPairs<'a>(&'a [(Text, Text)]);
 
-impl<'a> fmt::Display for Pairs<'a> {
+impl<'a> fmt::Display for RidPairs<'a> {
     ghost output = { λ pairs. Some (join_by restriction_text (codes ";") pairs.0.now) };
 
     fn fmt<W: fmt::Write>(&self, f: &mut fmt::Formatter<W>) -> fmt::Result {

@@ -27,7 +27,7 @@ impl fmt::Display for RtpMap {
         f.write_str(self.codec.word())?;
         f.write_str("/")?;
         fmt::Display::fmt(&hertz, f)?;
-        Channels(self.channels).fmt(f)
+        RtpMapChannels(self.channels).fmt(f)
     }
 }
 
@@ -39,9 +39,9 @@ impl Printed for RtpMap {
 
 /// How many channels a mapping counts, after `/`; nothing where it counts none.
 #[derive(Drop)]
-struct Channels(Option<u8>);
+struct RtpMapChannels(Option<u8>);
 
-impl fmt::Display for Channels {
+impl fmt::Display for RtpMapChannels {
     ghost output = { λ channels. Some (rtp_map_channels_text channels.0) };
 
     fn fmt<W: fmt::Write>(&self, f: &mut fmt::Formatter<W>) -> fmt::Result {

@@ -2,7 +2,7 @@
 ghost use Rattle.std.specs.Prelude.{◌≡◌, IfOk, Some, [], true, refl, string_bytes};
 ghost use Rattle.str0m_sdp.specs.attribute.Simulcast.{simulcast_id_text, inverted_simulcast, layer_text, layers_text, simulcast_sides_text, simulcast_text};
 
-use crate::form::printed::{Joined, Labelled, Printed};
+use crate::form::printed::{Printed, PrintedJoined, PrintedLabelled};
 use std::alloc::{AllocError, Global};
 use std::fmt;
 use std::ops::Deref;
@@ -129,7 +129,7 @@ impl fmt::Display for SimulcastGroups {
 
     fn fmt<W: fmt::Write>(&self, f: &mut fmt::Formatter<W>) -> fmt::Result {
         let items = self.0.as_slice();
-        let layers = Joined {
+        let layers = PrintedJoined {
             items,
             separator: ";",
         };
@@ -190,27 +190,27 @@ impl<'a> fmt::Display for SimulcastLine<'a> {
             return Ok(());
         }
         let (send, recv) = (&self.0.send, &self.0.recv);
-        let sides = Sides { send, recv };
+        let sides = SimulcastSides { send, recv };
         sides.fmt(f)
     }
 }
 
 /// The line of the sides that have layers; nothing where neither has one.
 #[derive(Drop)]
-struct Sides<'a> {
+struct SimulcastSides<'a> {
     send: &'a SimulcastGroups,
     recv: &'a SimulcastGroups,
 }
 
-impl<'a> fmt::Display for Sides<'a> {
+impl<'a> fmt::Display for SimulcastSides<'a> {
     ghost output = { λ sides. Some (simulcast_sides_text sides.send.now.0 sides.recv.now.0) };
 
     fn fmt<W: fmt::Write>(&self, f: &mut fmt::Formatter<W>) -> fmt::Result {
         let (send, recv) = (self.send, self.recv);
         match (send.is_empty(), recv.is_empty()) {
             (true, true) => Ok(()),
-            (true, false) => Labelled("simulcast:recv ", recv).fmt(f),
-            (false, true) => Labelled("simulcast:send ", send).fmt(f),
+            (true, false) => PrintedLabelled("simulcast:recv ", recv).fmt(f),
+            (false, true) => PrintedLabelled("simulcast:send ", send).fmt(f),
             (false, false) => write!(f, "a=simulcast:send {send} recv {recv}\r\n"),
         }
     }

@@ -4,7 +4,7 @@ ghost use Rattle.str0m_sdp.specs.form.AttributeLine.{form_line_text};
 
 use crate::attribute::setup::Setup;
 use crate::form::numbered_line::NumberedLine;
-use crate::form::printed::{Alone, Labelled, Paired};
+use crate::form::printed::{PrintedAlone, PrintedLabelled, PrintedPaired};
 use crate::form::structured_line::StructuredLine;
 use crate::label;
 use std::fmt;
@@ -33,13 +33,13 @@ impl<'a> fmt::Display for Line<'a> {
     #[inline(always)]
     fn fmt<W: fmt::Write>(&self, f: &mut fmt::Formatter<W>) -> fmt::Result {
         match self {
-            Line::Word(text) => Alone(*text).fmt(f),
-            Line::Text(name, text) => Labelled(*name, *text).fmt(f),
-            Line::Texts(name, first, second) => Paired(*name, *first, *second).fmt(f),
-            Line::Number(name, number) => Labelled(*name, number).fmt(f),
-            Line::Fingerprint(hash) => Labelled(label::FINGERPRINT, *hash).fmt(f),
-            Line::Setup(setup) => Labelled(label::SETUP, setup).fmt(f),
-            Line::Mid(mid) => Labelled(label::MID, *mid).fmt(f),
+            Line::Word(text) => PrintedAlone(*text).fmt(f),
+            Line::Text(name, text) => PrintedLabelled(*name, *text).fmt(f),
+            Line::Texts(name, first, second) => PrintedPaired(*name, *first, *second).fmt(f),
+            Line::Number(name, number) => PrintedLabelled(*name, number).fmt(f),
+            Line::Fingerprint(hash) => PrintedLabelled(label::FINGERPRINT, *hash).fmt(f),
+            Line::Setup(setup) => PrintedLabelled(label::SETUP, setup).fmt(f),
+            Line::Mid(mid) => PrintedLabelled(label::MID, *mid).fmt(f),
             Line::Candidate(candidate) => write!(f, "a={candidate}\r\n"),
             Line::Numbered(line) => line.fmt(f),
             Line::Structured(line) => line.fmt(f),

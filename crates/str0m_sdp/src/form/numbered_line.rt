@@ -3,7 +3,7 @@ ghost use Rattle.std.specs.Prelude.{◌++◌, Some, codes, refl};
 ghost use Rattle.str0m_sdp.specs.form.AttributeLine.{numbered_line_text};
 
 use crate::attribute::rtp_map::RtpMap;
-use crate::form::printed::{Paired, Printed};
+use crate::form::printed::{Printed, PrintedPaired};
 use crate::label;
 use std::fmt;
 use str0m_values::{Pt, Ssrc, Text};
@@ -23,11 +23,15 @@ impl<'a> fmt::Display for NumberedLine<'a> {
     #[inline(always)]
     fn fmt<W: fmt::Write>(&self, f: &mut fmt::Formatter<W>) -> fmt::Result {
         match *self {
-            NumberedLine::RtpMap(pt, map) => Paired(label::RTPMAP, &pt.value(), map).fmt(f),
-            NumberedLine::RtcpFb(pt, value) => Paired(label::RTCP_FB, &pt.value(), value).fmt(f),
+            NumberedLine::RtpMap(pt, map) => PrintedPaired(label::RTPMAP, &pt.value(), map).fmt(f),
+            NumberedLine::RtcpFb(pt, value) => PrintedPaired(
+                label::RTCP_FB,
+                &pt.value(),
+                value,
+            ).fmt(f),
             NumberedLine::Ssrc(ssrc, attr, value) => {
-                let said = Said { attr, value };
-                Paired(label::SSRC, &ssrc, &said).fmt(f)
+                let said = NumberedSaid { attr, value };
+                PrintedPaired(label::SSRC, &ssrc, &said).fmt(f)
             }
         }
     }
@@ -35,12 +39,12 @@ impl<'a> fmt::Display for NumberedLine<'a> {
 
 /// What is said of a source: a name and a value after a colon.
 #[derive(Drop)]
-struct Said<'a> {
+struct NumberedSaid<'a> {
     attr: &'a Text,
     value: &'a Text,
 }
 
-impl<'a> fmt::Display for Said<'a> {
+impl<'a> fmt::Display for NumberedSaid<'a> {
     ghost output = { λ said. Some (said.attr.now ++ (codes ":" ++ said.value.now)) };
 
     fn fmt<W: fmt::Write>(&self, f: &mut fmt::Formatter<W>) -> fmt::Result {
@@ -50,7 +54,7 @@ impl<'a> fmt::Display for Said<'a> {
     }
 }
 
-impl<'a> Printed for Said<'a> {
+impl<'a> Printed for NumberedSaid<'a> {
     ghost text = { λ said. said.attr.now ++ (codes ":" ++ said.value.now) };
 
     ghost prints = { λ _. refl };

@@ -58,9 +58,9 @@ impl Printed for Fingerprint {
 
 /// Items one right after the other.
 #[derive(Drop)]
-pub(crate) struct Each<'a, T>(pub(crate) &'a [T]);
+pub(crate) struct PrintedEach<'a, T>(pub(crate) &'a [T]);
 
-impl<'a, T: Printed> fmt::Display for Each<'a, T> {
+impl<'a, T: Printed> fmt::Display for PrintedEach<'a, T> {
     ghost output = { λ each. Some (flat_map T.text each.0.now) };
 
     fn fmt<W: fmt::Write>(&self, f: &mut fmt::Formatter<W>) -> fmt::Result {
@@ -73,12 +73,12 @@ impl<'a, T: Printed> fmt::Display for Each<'a, T> {
 
 /// Items, each after a lead.
 #[derive(Drop)]
-pub(crate) struct Led<'a, T> {
+pub(crate) struct PrintedLed<'a, T> {
     pub(crate) items: &'a [T],
     pub(crate) lead: &'a str,
 }
 
-impl<'a, T: Printed> fmt::Display for Led<'a, T> {
+impl<'a, T: Printed> fmt::Display for PrintedLed<'a, T> {
     ghost output = { λ led. Some (flat_map (λ item. led.lead.now ++ T.text item) led.items.now) };
 
     fn fmt<W: fmt::Write>(&self, f: &mut fmt::Formatter<W>) -> fmt::Result {
@@ -93,23 +93,23 @@ impl<'a, T: Printed> fmt::Display for Led<'a, T> {
 
 /// Items with a separator between each two.
 #[derive(Drop)]
-pub(crate) struct Joined<'a, T> {
+pub(crate) struct PrintedJoined<'a, T> {
     pub(crate) items: &'a [T],
     pub(crate) separator: &'a str,
 }
 
 /// Items with a space between each two.
-pub(crate) fn printed_spaced<T>(items: &[T]) -> Joined<T>
+pub(crate) fn printed_spaced<T>(items: &[T]) -> PrintedJoined<T>
     ensures items { result.items.now ≡ items.now }
     ensures separator { result.separator.now ≡ codes " " }
 {
-    Joined {
+    PrintedJoined {
         items,
         separator: " ",
     }
 }
 
-impl<'a, T: Printed> fmt::Display for Joined<'a, T> {
+impl<'a, T: Printed> fmt::Display for PrintedJoined<'a, T> {
     ghost output = { λ joined. Some (join_by T.text joined.separator.now joined.items.now) };
 
     fn fmt<W: fmt::Write>(&self, f: &mut fmt::Formatter<W>) -> fmt::Result {
@@ -118,11 +118,11 @@ impl<'a, T: Printed> fmt::Display for Joined<'a, T> {
             return Ok(());
         };
         first.fmt(f)?;
-        Led { items, lead }.fmt(f)
+        PrintedLed { items, lead }.fmt(f)
     }
 }
 
-impl<'a, T: Printed> Printed for Joined<'a, T> {
+impl<'a, T: Printed> Printed for PrintedJoined<'a, T> {
     ghost text = { λ joined. join_by T.text joined.separator.now joined.items.now };
 
     ghost prints = { λ _. refl };
@@ -130,9 +130,9 @@ impl<'a, T: Printed> Printed for Joined<'a, T> {
 
 /// Two values with a space between them.
 #[derive(Drop)]
-pub(crate) struct Pair<'a, A, B>(pub(crate) &'a A, pub(crate) &'a B);
+pub(crate) struct PrintedPair<'a, A, B>(pub(crate) &'a A, pub(crate) &'a B);
 
-impl<'a, A: Printed, B: Printed> fmt::Display for Pair<'a, A, B> {
+impl<'a, A: Printed, B: Printed> fmt::Display for PrintedPair<'a, A, B> {
     ghost output = { λ pair. Some (A.text pair.0.now ++ (codes " " ++ B.text pair.1.now)) };
 
     fn fmt<W: fmt::Write>(&self, f: &mut fmt::Formatter<W>) -> fmt::Result {
@@ -142,7 +142,7 @@ impl<'a, A: Printed, B: Printed> fmt::Display for Pair<'a, A, B> {
     }
 }
 
-impl<'a, A: Printed, B: Printed> Printed for Pair<'a, A, B> {
+impl<'a, A: Printed, B: Printed> Printed for PrintedPair<'a, A, B> {
     ghost text = { λ pair. A.text pair.0.now ++ (codes " " ++ B.text pair.1.now) };
 
     ghost prints = { λ _. refl };
@@ -150,9 +150,9 @@ impl<'a, A: Printed, B: Printed> Printed for Pair<'a, A, B> {
 
 /// The `a=` line of a text alone, with its end.
 #[derive(Drop)]
-pub(crate) struct Alone<'a>(pub(crate) &'a str);
+pub(crate) struct PrintedAlone<'a>(pub(crate) &'a str);
 
-impl<'a> fmt::Display for Alone<'a> {
+impl<'a> fmt::Display for PrintedAlone<'a> {
     ghost output = { λ line. Some (attribute_line line.0.now) };
 
     fn fmt<W: fmt::Write>(&self, f: &mut fmt::Formatter<W>) -> fmt::Result {
@@ -164,9 +164,9 @@ impl<'a> fmt::Display for Alone<'a> {
 
 /// The `a=` line of a label and a value right after it, with its end.
 #[derive(Drop)]
-pub(crate) struct Labelled<'a, T>(pub(crate) &'a str, pub(crate) &'a T);
+pub(crate) struct PrintedLabelled<'a, T>(pub(crate) &'a str, pub(crate) &'a T);
 
-impl<'a, T: Printed> fmt::Display for Labelled<'a, T> {
+impl<'a, T: Printed> fmt::Display for PrintedLabelled<'a, T> {
     ghost output = { λ line. Some (labelled_line line.0.now (T.text line.1.now)) };
 
     fn fmt<W: fmt::Write>(&self, f: &mut fmt::Formatter<W>) -> fmt::Result {
@@ -179,13 +179,13 @@ impl<'a, T: Printed> fmt::Display for Labelled<'a, T> {
 
 /// The `a=` line of a label, a value right after it and another after a space, with its end.
 #[derive(Drop)]
-pub(crate) struct Paired<'a, A, B>(pub(crate) &'a str, pub(crate) &'a A, pub(crate) &'a B);
+pub(crate) struct PrintedPaired<'a, A, B>(pub(crate) &'a str, pub(crate) &'a A, pub(crate) &'a B);
 
-impl<'a, A: Printed, B: Printed> fmt::Display for Paired<'a, A, B> {
+impl<'a, A: Printed, B: Printed> fmt::Display for PrintedPaired<'a, A, B> {
     ghost output = { λ line. Some (labelled_line line.0.now (A.text line.1.now ++ (codes " " ++ B.text line.2.now))) };
 
     fn fmt<W: fmt::Write>(&self, f: &mut fmt::Formatter<W>) -> fmt::Result {
-        let pair = Pair(self.1, self.2);
-        Labelled(self.0, &pair).fmt(f)
+        let pair = PrintedPair(self.1, self.2);
+        PrintedLabelled(self.0, &pair).fmt(f)
     }
 }

@@ -1,6 +1,6 @@
 //! What the fmtp lines of a payload type say of a codec, made once where the section says much in them.
 ghost use Rattle.std.specs.Prelude.{◌≡◌, ℕ, IfOk, List};
-ghost use Rattle.str0m_sdp.specs.Prelude.{format_of_fmtp, line_values};
+ghost use Rattle.str0m_sdp.specs.Prelude.{format_of_fmtp, format_line_values};
 ghost use Rattle.str0m_sdp.specs.declared.attribute.MediaAttribute.{MediaAttribute};
 ghost use Rattle.str0m_sdp.specs.section.FmtpLines.{fmtp_lines_with};
 ghost use Rattle.str0m_sdp.specs.section.SectionRows.{fmtps_of};
@@ -34,7 +34,7 @@ pub(crate) fn groups_of<'a>(
     alloc: Global,
     lines: &[(u8, &'a [FormatParam])],
 ) -> Result<Vec<TypeLines<'a>>, AllocError>
-    ensures { (attrs : List MediaAttribute) → ((pt : ℕ) → line_values (fmtp_lines_with pt lines.now) ≡ fmtps_of attrs pt) → IfOk result (λ groups. AreGroupsKnown attrs groups.items) }
+    ensures { (attrs : List MediaAttribute) → ((pt : ℕ) → format_line_values (fmtp_lines_with pt lines.now) ≡ fmtps_of attrs pt) → IfOk result (λ groups. AreGroupsKnown attrs groups.items) }
 {
     if are_format_lines_few(lines) {
         return Ok(Vec::new(alloc));
@@ -49,7 +49,7 @@ fn format_said<'a>(
     pt: Pt,
     codec: Codec,
 ) -> Result<Option<FormatParams>, AllocError>
-    ensures { IfOk result (λ format. format ≡ format_of_fmtp codec (line_values (fmtp_lines_with pt lines.now))) }
+    ensures { IfOk result (λ format. format ≡ format_of_fmtp codec (format_line_values (fmtp_lines_with pt lines.now))) }
 {
     find_fmtp_lines(found, lines, pt)?;
     Ok(FormatParams::from_sdp_fmtp(codec, found.as_slice()))
@@ -64,7 +64,7 @@ pub(crate) fn format_of<'a>(
     pt: Pt,
     codec: Codec,
 ) -> Result<Option<FormatParams>, AllocError>
-    ensures format { (attrs : List MediaAttribute) → AreGroupsKnown attrs groups.old.items → line_values (fmtp_lines_with pt lines.now) ≡ fmtps_of attrs pt →
+    ensures format { (attrs : List MediaAttribute) → AreGroupsKnown attrs groups.old.items → format_line_values (fmtp_lines_with pt lines.now) ≡ fmtps_of attrs pt →
         IfOk result (λ format. format ≡ format_of_fmtp codec (fmtps_of attrs pt)) }
     ensures known { (attrs : List MediaAttribute) → AreGroupsKnown attrs groups.old.items → AreGroupsKnown attrs groups.new.items }
 {

@@ -36,7 +36,10 @@ fn push_types(pts: &mut Vec<Pt>, row: &PayloadParams) -> Result<(), AllocError>
 }
 
 /// Copies of the lines that describe no payload type.
-fn kept(alloc: Global, attrs: &[MediaAttribute]) -> Result<Vec<MediaAttribute>, AllocError>
+fn kept_section_attrs(
+    alloc: Global,
+    attrs: &[MediaAttribute],
+) -> Result<Vec<MediaAttribute>, AllocError>
     ensures { IfOk result (λ kept. kept.items ≡ filter (λ attr. not (is_of_type attr)) attrs.now) }
 {
     let mut kept = Vec::new(alloc);
@@ -72,7 +75,7 @@ pub fn section_of(frame: &MediaLine, rows: &[PayloadParams]) -> Result<MediaLine
     ensures { IfOk result (λ section. section ≡ made frame.now rows.now) }
 {
     let pts = row_types(*frame.pts.allocator(), rows)?;
-    let own = kept(*frame.attrs.allocator(), frame.attrs.as_slice())?;
+    let own = kept_section_attrs(*frame.attrs.allocator(), frame.attrs.as_slice())?;
     let attrs = with_rows(own, rows)?;
     Ok(MediaLine {
         typ: frame.typ.clone()?,

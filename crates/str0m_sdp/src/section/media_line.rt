@@ -8,7 +8,7 @@ use crate::attribute::MediaAttribute;
 use crate::attribute::bandwidth::{Bandwidth, BandwidthLine};
 use crate::attribute::media_type::MediaType;
 use crate::attribute::proto::Proto;
-use crate::form::printed::{Each, Printed, printed_spaced};
+use crate::form::printed::{Printed, PrintedEach, printed_spaced};
 use std::alloc::{AllocError, Global};
 use std::fmt;
 use str0m_values::{Items, Pt};
@@ -129,7 +129,7 @@ impl fmt::Display for MediaLine {
     fn fmt<W: fmt::Write>(&self, f: &mut fmt::Formatter<W>) -> fmt::Result {
         let head = HeadLine(self);
         let bw = BandwidthLine(&self.bw);
-        let attrs = Each(self.attrs.as_slice());
+        let attrs = PrintedEach(self.attrs.as_slice());
         write!(f, "{head}c=IN IP4 0.0.0.0\r\n{bw}{attrs}")
     }
 }

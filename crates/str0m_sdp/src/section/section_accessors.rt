@@ -5,7 +5,7 @@ ghost use Rattle.str0m_sdp.specs.Common.{first, last};
 ghost use Rattle.str0m_sdp.specs.section.Consistency.{Consistent, NoSectionFaultIff, is_direction, is_mid, mid_of};
 ghost use Rattle.str0m_sdp.specs.section.SectionAccessors.{IsRidOf, ext_map_at, ext_map_of, section_max_message_size_of, msid_of, rid_name_of, sctp_init_of, simulcast_of};
 ghost use Rattle.str0m_sdp.specs.section.SectionDirection.{section_direction, with_direction};
-ghost use Rattle.str0m_sdp.specs.section.Sources.{AreSourcesPlaced, entries};
+ghost use Rattle.str0m_sdp.specs.section.Sources.{AreSourcesPlaced, source_entries};
 ghost use Rattle.str0m_sdp.specs.section.SsrcInfo.{infos, repair_source, source_of};
 ghost use Rattle.str0m_sdp.specs.section.SsrcInfoReading.{AreSourcesGathered};
 ghost use Rattle.str0m_sdp.specs.session.Candidates.{candidates_left, section_candidates};
@@ -23,7 +23,7 @@ use crate::section::section_direction::{direction_place, first_direction};
 use crate::section::sources::Sources;
 use crate::section::ssrc_info::SsrcInfo;
 use crate::session::candidates::Candidates;
-use crate::session::fault::Message;
+use crate::session::fault::FaultMessage;
 use crate::session::preferred_fingerprint::{copied_fingerprint, preferred};
 use crate::session::transport::{copied_transport_creds, ends, first_setup, first_transport_creds};
 use std::alloc::{AllocError, Global};
@@ -203,7 +203,7 @@ impl MediaLine {
 
     /// What the `Ssrc` attributes say of each source, in order of first appearance.
     fn gather_values(&self, alloc: Global) -> Result<Sources, AllocError>
-        ensures said { IfOk result (λ sources. AreSourcesGathered (filter_map source_of self.now.attrs) [] self.now.attrs (entries sources)) }
+        ensures said { IfOk result (λ sources. AreSourcesGathered (filter_map source_of self.now.attrs) [] self.now.attrs (source_entries sources)) }
         ensures placed { IfOk result AreSourcesPlaced }
     {
         let mut sources = Sources::new(alloc);
@@ -217,9 +217,9 @@ impl MediaLine {
 
     /// Adds which sources repair others. Those that have no entry yet come last.
     fn add_repairs(&self, sources: &mut Sources) -> Result<(), AllocError>
-        requires said { AreSourcesGathered (filter_map source_of self.now.attrs) [] self.now.attrs (entries sources.old) }
+        requires said { AreSourcesGathered (filter_map source_of self.now.attrs) [] self.now.attrs (source_entries sources.old) }
         requires placed { AreSourcesPlaced sources.old }
-        ensures { OnOk result (AreSourcesGathered (filter_map source_of self.now.attrs ++ filter_map repair_source self.now.attrs) self.now.attrs self.now.attrs (entries sources.new)) }
+        ensures { OnOk result (AreSourcesGathered (filter_map source_of self.now.attrs ++ filter_map repair_source self.now.attrs) self.now.attrs self.now.attrs (source_entries sources.new)) }
     {
         for line in self.attrs.as_slice() {
             if let Some((repaired, repairing)) = line.repair_pair() {
@@ -269,7 +269,7 @@ impl MediaLine {
             Ok(()) => Ok(None),
             Err(fault) => {
                 let section = self;
-                let message = Message { fault, section };
+                let message = FaultMessage { fault, section };
                 let alloc = *self.attrs.allocator();
                 Ok(Some(message.to_string(alloc)?))
             }

@@ -4,7 +4,7 @@
 ghost use Rattle.indexmap.specs.IndexMap.{insert_entry};
 ghost use Rattle.std.specs.Map.{values_of};
 ghost use Rattle.std.specs.Prelude.{◌≡◌, ◌<◌, [], length, nat_eq, slice_get, IfOk, OnOk, Some};
-ghost use Rattle.str0m_sdp.specs.section.Sources.{AreSourcesPlaced, IsPutAtSource, entries};
+ghost use Rattle.str0m_sdp.specs.section.Sources.{AreSourcesPlaced, IsPutAtSource, source_entries};
 ghost use Rattle.str0m_sdp.specs.section.SsrcInfoReading.{source_so_far, source_with_value};
 
 use crate::section::ssrc_info::SsrcInfo;
@@ -22,7 +22,7 @@ pub(crate) struct Sources {
 impl Sources {
     /// No source. Takes no memory.
     pub(crate) fn new(alloc: Global) -> Sources
-        ensures none { entries result ≡ [] }
+        ensures none { source_entries result ≡ [] }
         ensures placed { AreSourcesPlaced result }
     {
         Sources {
@@ -35,7 +35,7 @@ impl Sources {
     fn place_of(&mut self, ssrc: Ssrc) -> Result<usize, AllocError>
         requires { AreSourcesPlaced self.old }
         ensures within { IfOk result (λ place. place < length self.new.infos.items) }
-        ensures info { IfOk result (λ place. slice_get self.new.infos.items place ≡ Some (source_so_far (entries self.old) ssrc)) }
+        ensures info { IfOk result (λ place. slice_get self.new.infos.items place ≡ Some (source_so_far (source_entries self.old) ssrc)) }
         ensures put { IfOk result (λ place. IsPutAtSource self.old self.new ssrc place) }
     {
         if let Some(place) = self.places.get(&*ssrc) {
@@ -56,7 +56,7 @@ impl Sources {
         value: &str,
     ) -> Result<(), AllocError>
         requires { AreSourcesPlaced self.old }
-        ensures entries { OnOk result (entries self.new ≡ insert_entry nat_eq (entries self.old) ssrc (source_with_value name.now value.now (source_so_far (entries self.old) ssrc))) }
+        ensures entries { OnOk result (source_entries self.new ≡ insert_entry nat_eq (source_entries self.old) ssrc (source_with_value name.now value.now (source_so_far (source_entries self.old) ssrc))) }
         ensures placed { OnOk result (AreSourcesPlaced self.new) }
     {
         let place = self.place_of(ssrc)?;
@@ -67,7 +67,7 @@ impl Sources {
     /// Adds that a source repairs another one.
     pub(crate) fn add_repair(&mut self, repaired: Ssrc, repairing: Ssrc) -> Result<(), AllocError>
         requires { AreSourcesPlaced self.old }
-        ensures entries { OnOk result (entries self.new ≡ insert_entry nat_eq (entries self.old) repairing (record (source_so_far (entries self.old) repairing) { repairs = Some repaired })) }
+        ensures entries { OnOk result (source_entries self.new ≡ insert_entry nat_eq (source_entries self.old) repairing (record (source_so_far (source_entries self.old) repairing) { repairs = Some repaired })) }
         ensures placed { OnOk result (AreSourcesPlaced self.new) }
     {
         let place = self.place_of(repairing)?;
@@ -79,7 +79,7 @@ impl Sources {
     /// What is said of each, in order of first appearance. Takes no memory.
     #[tactic(auto, using(crate::proofs::section::SourceLaws::source_values_stand))]
     pub(crate) fn into_infos(self) -> Vec<SsrcInfo>
-        ensures { result.items ≡ values_of (entries self) }
+        ensures { result.items ≡ values_of (source_entries self) }
     {
         self.infos
     }

@@ -28,19 +28,19 @@ pub(crate) struct Clash {
 
 /// What a fault says of its section.
 #[derive(Drop)]
-pub(crate) struct Message<'a> {
+pub(crate) struct FaultMessage<'a> {
     pub(crate) fault: Fault,
     pub(crate) section: &'a MediaLine,
 }
 
-impl<'a> fmt::Display for Message<'a> {
+impl<'a> fmt::Display for FaultMessage<'a> {
     ghost use Rattle.std.specs.Prelude.{Some};
     ghost use Rattle.str0m_sdp.specs.session.Fault.{fault_text};
 
     ghost output = { λ message. Some (fault_text message.section.now message.fault) };
 
     fn fmt<W: fmt::Write>(&self, f: &mut fmt::Formatter<W>) -> fmt::Result {
-        let section = Nameless(self.section);
+        let section = FaultNameless(self.section);
         match self.fault {
             Fault::MissingMid => write!(f, "Media is missing a=mid: {section}"),
             Fault::SecondMid => write!(f, "Media has more than one a=mid: {section}"),
@@ -61,9 +61,9 @@ impl<'a> fmt::Display for Message<'a> {
 
 /// A section without a name of its own, by its media type and its protocol.
 #[derive(Drop)]
-struct Nameless<'a>(&'a MediaLine);
+struct FaultNameless<'a>(&'a MediaLine);
 
-impl<'a> fmt::Display for Nameless<'a> {
+impl<'a> fmt::Display for FaultNameless<'a> {
     ghost use Rattle.std.specs.Prelude.{Some};
     ghost use Rattle.str0m_sdp.specs.session.Fault.{nameless_section};
 
@@ -120,7 +120,7 @@ impl fmt::Display for SessionFault {
             }
             SessionFault::MissingGroup => f.write_str("Session attribute a=group missing"),
             SessionFault::Count { group, sections } => {
-                let counts = Unequal(*group, *sections);
+                let counts = FaultUnequal(*group, *sections);
                 write!(f, "a=group mid count doesn't match m-line count {counts}")
             }
             SessionFault::Order { section, group } => {
@@ -132,9 +132,9 @@ impl fmt::Display for SessionFault {
 
 /// Two counts that should be equal.
 #[derive(Drop)]
-struct Unequal(usize, usize);
+struct FaultUnequal(usize, usize);
 
-impl fmt::Display for Unequal {
+impl fmt::Display for FaultUnequal {
     ghost use Rattle.std.specs.Fmt.{decimal};
     ghost use Rattle.std.specs.Prelude.{◌++◌, Some, codes};
 

@@ -2,7 +2,7 @@
 use Rattle.std.proofs.lemmas.Grind.{take_at_read}
 use Rattle.str0m_signal.proofs.Common.{rules, ◌≡◌, ◌<◌, ◌+◌, ◌++◌, ◌∷◌, [], ◌&&◌, eqb, arith, ℕ, suc, Bool, true, false, List, length, take}
 use Rattle.str0m_signal.proofs.Common.{drop, get_or, Option, Some, None, inl, inr, refl, sym, ap, subst, ◌∙◌, eqb-true, none-some}
-use Rattle.str0m_signal.proofs.Common.{same_Some, lacks, IsTheOnly, Lacks, lacks_cut_true, lacks_cut_from, line_end, Reads}
+use Rattle.str0m_signal.proofs.Common.{same_Some, lacks, IsTheOnly, Lacks, lacks_cut_true, lacks_cut_from, printed_line_end, Reads}
 use Rattle.str0m_signal.proofs.Common.{take-append-drop}
 use Rattle.str0m_signal.proofs.Common.{drop-cons, append_cancel_right, IfSome_then}
 use Rattle.str0m_signal.specs.back.Writable.{AreReadAs, IsReadBackLine, IsReadBy, PutsBack}
@@ -10,16 +10,16 @@ use Rattle.str0m_signal.specs.line.LinesReading.{read_attribute}
 
 -- the text is this line and its end
 abbrev pub IsReadBackContent : List ℕ → List ℕ → Type 0
-IsReadBackContent text line = (text ≡ line ++ line_end) × Lacks 10 line × Lacks 13 line
+IsReadBackContent text line = (text ≡ line ++ printed_line_end) × Lacks 10 line × Lacks 13 line
 
 back_and_both_true : (a b : Bool) → a && b ≡ true → (a ≡ true) × (b ≡ true)
 back_and_both_true a b h = grind arith
 
-pub ended_content : (text line : List ℕ) → text ≡ line ++ line_end → lacks 10 line && lacks 13 line ≡ true
+pub ended_content : (text line : List ℕ) → text ≡ line ++ printed_line_end → lacks 10 line && lacks 13 line ≡ true
     → IsTheOnly (IsReadBackContent text) (Some line)
 ended_content text line e plain = grind (arith, lacks_cut_from, back_and_both_true, append_cancel_right)
 
-pub other_read_back_content : (text line : List ℕ) → text ≡ line ++ line_end → lacks 10 line && lacks 13 line ≡ false
+pub other_read_back_content : (text line : List ℕ) → text ≡ line ++ printed_line_end → lacks 10 line && lacks 13 line ≡ false
     → IsTheOnly (IsReadBackContent text) None
 other_read_back_content text line e other = grind (arith, append_cancel_right, lacks_cut_true)
 
@@ -27,7 +27,7 @@ empty_text : (text : List ℕ) → eqb (length text) 0 ≡ true → text ≡ []
 empty_text [] e = refl
 empty_text (x ∷ xs) e = absurd (omega (arith, eqb-true (length (x ∷ xs)) 0 e))
 
-line_not_empty : (content : List ℕ) → content ++ line_end ≡ [] → ⊥
+line_not_empty : (content : List ℕ) → content ++ printed_line_end ≡ [] → ⊥
 line_not_empty [] e = absurd cc
 line_not_empty (x ∷ xs) e = absurd cc
 

@@ -10,7 +10,7 @@ use Rattle.str0m_signal.proofs.Common.{subst, arith, lit<, AllByRecursion, flat_
 use Rattle.str0m_signal.proofs.Common.{TelephoneEvents, BareRange, BarePtList, Red, PayloadParams, IsSolidPair, joined_pair}
 use Rattle.str0m_signal.proofs.Common.{media_attribute_text, row_attrs, MediaAttribute, Fmtp, reads, feedback_line, feedback_attrs}
 use Rattle.str0m_signal.proofs.Common.{fmtp_line, format_values, format_attrs, rtx_lines, rtx_attrs, red_lines, red_attrs, map_of_spec}
-use Rattle.str0m_signal.proofs.Common.{section_pairs_line_read, fmtp_lines, red_reads, RtpMap, line_linked_texts, TRANSPORT_CC, REMB, FIR}
+use Rattle.str0m_signal.proofs.Common.{section_pairs_line_read, fmtp_lines, red_reads, RtpMap, format_linked_texts, TRANSPORT_CC, REMB, FIR}
 use Rattle.str0m_signal.proofs.Common.{NACK}
 use Rattle.str0m_signal.proofs.Common.{PLI}
 use Rattle.str0m_signal.proofs.form.FmtpPrinted.{AreFmtpPairsShown, apt_printed, list_printed, range_printed, pairs_printed}
@@ -56,11 +56,11 @@ module _ (row : PayloadParams) (keeps : KeepsToRow row) where
   row_rate : IsRowRateInRange (codec_rtp_rate row.spec.codec row.spec.clock_rate)
   row_rate = row_rate_keeps row.spec.codec row.spec.clock_rate keeps.rate
 
-  small : row.pt ≤ 127
-  small = keeps.pt
+  row_type_small : row.pt ≤ 127
+  row_type_small = keeps.pt
 
   feedback : (w : List ℕ) (b : Bool) → IsRest w → HoldsNoEnd w → ReadAs (feedback_line row.pt w b) (feedback_line row.pt w b)
-  feedback w b filled quiet = grind (arith, feedback_printed, small)
+  feedback w b filled quiet = grind (arith, feedback_printed, row_type_small)
 
   pub feedback_read : ReadAs (feedback_attrs row) (feedback_attrs row)
   feedback_read =
@@ -72,11 +72,11 @@ module _ (row : PayloadParams) (keeps : KeepsToRow row) where
 
   rtx_read_back : (o : Option ℕ) → IfSome o (λ n. n ≤ 127) → ReadAs (rtx_lines row o) (rtx_lines row o)
   rtx_read_back None h = refl
-  rtx_read_back (Some n) h = grind (arith, read_as_joined, named_mapping_read_back n, apt_printed n row.pt h, small)
+  rtx_read_back (Some n) h = grind (arith, read_as_joined, named_mapping_read_back n, apt_printed n row.pt h, row_type_small)
 
-  red : (o : Option ℕ) → IfSome o (λ n. n ≤ 127) → ReadAs (red_lines row o) (red_reads row o)
-  red None h = refl
-  red (Some n) h =
+  red_read_back : (o : Option ℕ) → IfSome o (λ n. n ≤ 127) → ReadAs (red_lines row o) (red_reads row o)
+  red_read_back None h = refl
+  red_read_back (Some n) h =
       let clock = codec_rtp_rate row.spec.codec row.spec.clock_rate in
       let map : Mapping = record { codec = codec.Red; clock_rate = clock; channels = row.spec.channels } in
       let twice = Fmtp n (Red row.pt ∷ []) in
@@ -84,7 +84,7 @@ module _ (row : PayloadParams) (keeps : KeepsToRow row) where
       read_as_joined (RtpMap n map ∷ []) (twice ∷ []) (RtpMap n map ∷ []) (list ∷ [])
       (read_as_one (RtpMap n map) (RtpMap n map)
       (named_mapping_read_back n map h (record { clock = row_rate; channels = keeps.channels }) (λ e. cc)))
-      (read_as_one twice list (list_printed n row.pt (Red row.pt) refl h (omega (arith, small))))
+      (read_as_one twice list (list_printed n row.pt (Red row.pt) refl h (omega (arith, row_type_small))))
 
   -- the lines of a row, where its format's lines read as these values
   pub row_read : (values : List (List FormatParam)) → ReadAs (format_attrs row) (fmtp_lines row.pt values)
@@ -92,17 +92,18 @@ module _ (row : PayloadParams) (keeps : KeepsToRow row) where
   row_read values format =
       read_as_joined (RtpMap row.pt (map_of_spec row.spec) ∷ []) _ (RtpMap row.pt (map_of_spec row.spec) ∷ []) _
       (read_as_one (RtpMap row.pt (map_of_spec row.spec)) (RtpMap row.pt (map_of_spec row.spec))
-      (named_mapping_read_back row.pt (map_of_spec row.spec) small (record { clock = row_rate; channels = keeps.channels }) keeps.named))
+      (named_mapping_read_back row.pt (map_of_spec row.spec) row_type_small (record { clock = row_rate; channels = keeps.channels })
+      keeps.named))
       (read_as_joined (feedback_attrs row) _ (feedback_attrs row) _ feedback_read
       (read_as_joined (format_attrs row) _ (fmtp_lines row.pt values) _ format
       (read_as_joined (rtx_attrs row) (red_attrs row) (rtx_lines row row.resend) (red_reads row row.red)
       (rtx_read_back row.resend keeps.resend)
-      (red row.red keeps.red))))
+      (red_read_back row.red keeps.red))))
 
 -- ---- the lines of a format
 
 pub params_read_back : (pt : ℕ) (params : List FormatParam) (pairs : List (List ℕ × List ℕ)) → pt ≤ 127 → AreFmtpPairsShown params
-    → AllByRecursion IsSolidPair pairs → line_linked_texts (map param_text params) ≡ line_linked_texts (map joined_pair pairs)
+    → AllByRecursion IsSolidPair pairs → format_linked_texts (map param_text params) ≡ format_linked_texts (map joined_pair pairs)
     → (params ≢ [] → pairs ≢ []) → (params ≡ [] → pairs ≡ [])
     → ReadAs (fmtp_line pt params) (fmtp_lines pt (section_pairs_line_read pairs))
 params_read_back pt params pairs small shown plain e some none = grind (arith, pairs_printed)

@@ -6,12 +6,12 @@ use Rattle.str0m_signal.proofs.Common.{values_printed, IsPlain, All, section_des
 use Rattle.str0m_signal.proofs.back.ReadBackPlainRows.{types_fit, plain_rows_read}
 use Rattle.str0m_signal.proofs.back.ReadBackWithRows.{section_read, ReadWithRows, with_rows_read}
 use Rattle.str0m_signal.proofs.back.WritableAgainLaws.{read_is_writable}
-use Rattle.str0m_signal.specs.back.ReadBack.{ReadBack, MayBePrinted, ReadsBack}
+use Rattle.str0m_signal.specs.back.ReadBack.{ReadBack, CanRowsBeReadBack, ReadsBack}
 use Rattle.str0m_signal.specs.back.Writable.{Writable}
 use Rattle.str0m_signal.specs.back.WritableAgain.{IsWritableOverSrtp, IsRead, MayBeWrittenAgain}
 
 section_reads_back : (sdp : Sdp) (i : ℕ) (w : Writable sdp i) (theirs : List PayloadParams) → sdp.session.id < 2 ^ 64
-    → is_media w.section.typ ≡ true → MayBePrinted theirs → All HoldsRowNumbers theirs → ReadBack sdp i w.section theirs
+    → is_media w.section.typ ≡ true → CanRowsBeReadBack theirs → All HoldsRowNumbers theirs → ReadBack sdp i w.section theirs
 section_reads_back sdp i w [] small media may holds = absurd (may.some refl)
 section_reads_back sdp i w (first ∷ more) small media may holds =
     let theirs = first ∷ more in
@@ -35,23 +35,23 @@ section_reads_back sdp i w (first ∷ more) small media may holds =
       same = d.same;
     }
 
-pub reads_back : (sdp : Sdp) (i : ℕ) → Writable sdp i → (theirs : List PayloadParams) → MayBePrinted theirs → ReadsBack sdp i theirs
+pub reads_back : (sdp : Sdp) (i : ℕ) → Writable sdp i → (theirs : List PayloadParams) → CanRowsBeReadBack theirs → ReadsBack sdp i theirs
 reads_back sdp i w theirs may = λ frame at media fit.
     let same : w.section ≡ frame = same_Some w.section frame (sym w.at ∙ at) in
     subst (λ (m : MediaLine). ReadBack sdp i m theirs) same
     (section_reads_back sdp i w theirs fit.0 (subst (λ (m : MediaLine). is_media m.typ ≡ true) (sym same) media) may fit.1)
 
 -- so are they in each section over Srtp of every session that was read
-pub back_in_readings : (theirs : List PayloadParams) → MayBePrinted theirs → (sdp : Sdp) (i : ℕ) → IsRead sdp → MayBeWrittenAgain sdp
+pub back_in_readings : (theirs : List PayloadParams) → CanRowsBeReadBack theirs → (sdp : Sdp) (i : ℕ) → IsRead sdp → MayBeWrittenAgain sdp
     → IsWritableOverSrtp sdp i → ReadsBack sdp i theirs
 back_in_readings theirs may sdp i read fits at = reads_back sdp i (read_is_writable sdp i read fits at) theirs may
 
-some_left : (before after : List PayloadParams) → length after ≡ length before → before ≢ [] → after ≢ []
-some_left [] after e some = absurd (some refl)
-some_left (row ∷ rows) [] e some = let d = e in absurd cc
-some_left (row ∷ rows) (first ∷ more) e some = λ none. absurd cc
+some_rows_left : (before after : List PayloadParams) → length after ≡ length before → before ≢ [] → after ≢ []
+some_rows_left [] after e some = absurd (some refl)
+some_rows_left (row ∷ rows) [] e some = let d = e in absurd cc
+some_rows_left (row ∷ rows) (first ∷ more) e some = λ none. absurd cc
 
 -- rows that stay as many, plain and distinct may be printed still
 pub rows_still_printable : (before after : List PayloadParams) → length after ≡ length before → (All IsPlain before → All IsPlain after)
-    → (AllTypesDistinct (types before) → AllTypesDistinct (types after)) → MayBePrinted before → MayBePrinted after
-rows_still_printable before after e plain distinct may = search (rules, some_left)
+    → (AllTypesDistinct (types before) → AllTypesDistinct (types after)) → CanRowsBeReadBack before → CanRowsBeReadBack after
+rows_still_printable before after e plain distinct may = search (rules, some_rows_left)

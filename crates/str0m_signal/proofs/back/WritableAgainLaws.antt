@@ -8,15 +8,15 @@ use Rattle.str0m_signal.proofs.line.LinesAgain.{AreFineLines, IsOnLine, one_line
 use Rattle.str0m_signal.proofs.line.LinesAgain.{head_of}
 use Rattle.str0m_signal.proofs.line.LinesAgain.{head_again}
 use Rattle.str0m_signal.proofs.line.WordsCharacterStarts.{StartsWithin, of_utf8}
-use Rattle.str0m_signal.proofs.session.SectionAgain.{are_again, consistent_again, frame_again}
-use Rattle.str0m_signal.specs.back.Writable.{AreReadAs, SessionGoesWith, IsMediaReadAs, IsFrame, Writable, writable_frame_of}
+use Rattle.str0m_signal.proofs.session.SectionAgain.{section_lines_again, consistent_again, frame_again}
+use Rattle.str0m_signal.specs.back.Writable.{AreReadAs, SessionGoesWith, IsMediaReadAs, IsWritableFrame, Writable, writable_frame_of}
 use Rattle.str0m_signal.specs.back.WritableAgain.{FitsKind, FitsAgain, SectionFitsAgain, MayBeWrittenAgain, IsWritableOverSrtp, IsRead}
 use Rattle.str0m_signal.specs.form.MediaAttribute.{IsMediaLine}
 use Rattle.str0m_signal.specs.form.SessionAttribute.{IsSessionLine}
 use Rattle.str0m_signal.specs.line.Lines.{Chain, Line}
-use Rattle.str0m_signal.specs.session.Header.{IsExactly, IsOrigin, IsInfo}
+use Rattle.str0m_signal.specs.session.Header.{IsExactHeaderLine, IsOrigin, IsHeaderInfo}
 use Rattle.str0m_signal.specs.session.Reader.{IsReading, ConsistentSection}
-use Rattle.str0m_signal.specs.session.Section.{IsField, IsHead, IsBandwidth}
+use Rattle.str0m_signal.specs.session.Section.{IsSessionField, IsHead, IsBandwidth}
 
 -- ---- sections
 
@@ -32,7 +32,7 @@ was_read : (lines : List Line) (m : MediaLine) (rest : List Line) → AreFineLin
 was_read lines m rest are h =
     let section = h.0 in
     let head = one_line IsHead lines (head_of m) section.after_head are section.head_is in
-    let connection = taken_line (IsField (codes "c=")) section.after_head section.connection section.after_connection head.1
+    let connection = taken_line (IsSessionField (codes "c=")) section.after_head section.connection section.after_connection head.1
     section.connection_is in
     let bandwidth = taken_line IsBandwidth section.after_connection m.bw section.after_bandwidth connection.1 section.bandwidth_is in
     let attributes = chain_lines IsMediaLine section.after_bandwidth m.attrs rest bandwidth.1 section.attributes_are.0 in
@@ -54,7 +54,7 @@ section_again : (m : MediaLine) → WasRead m → FitsKind m.typ m.proto m.pts �
     → (read : MediaLine) × IsMediaReadAs m read × Consistent read
 section_again m was fits may =
     let head = head_again m fits was.head in
-    let attrs = are_again m.attrs (come_back m.attrs was.attributes may) in (
+    let attrs = section_lines_again m.attrs (come_back m.attrs was.attributes may) in (
       record m { pts = head.0; attrs = attrs.0 },
       record { same = refl; head = head.1; bandwidth = bandwidth_again m.bw was.bandwidth; attributes = attrs.2 },
       consistent_again m head.0 attrs.0 attrs.1 head.2 was.consistent,
@@ -67,10 +67,10 @@ frame_comes_back (x ∷ xs) all = grind (arith, cases_Bool, frame_comes_back xs 
 
 -- so is its frame, over Srtp
 own_again : (m : MediaLine) → WasRead m → FitsKind m.typ m.proto m.pts → AllByRecursion FitsAgain m.attrs → m.proto ≡ Srtp
-    → (read : MediaLine) × IsMediaReadAs (writable_frame_of m) read × IsFrame read
+    → (read : MediaLine) × IsMediaReadAs (writable_frame_of m) read × IsWritableFrame read
 own_again m was fits may over =
     let head = head_again m fits was.head in
-    let attrs = are_again (writable_frame_of m).attrs (frame_comes_back m.attrs (come_back m.attrs was.attributes may)) in (
+    let attrs = section_lines_again (writable_frame_of m).attrs (frame_comes_back m.attrs (come_back m.attrs was.attributes may)) in (
       record (writable_frame_of m) { pts = head.0; attrs = attrs.0 },
       record { same = refl; head = head.1; bandwidth = bandwidth_again m.bw was.bandwidth; attributes = attrs.2 },
       frame_again m head.0 attrs.0 attrs.1 over was.consistent,
@@ -89,14 +89,14 @@ session_was_read lines sdp rest are reading =
     let session = reading.session_is in
     let header = session.header_is in
     let opening = header.opening_is in
-    let version = one_line (IsExactly (codes "v=0")) lines (codes "v=0") opening.after_version are opening.version_is in
+    let version = one_line (IsExactHeaderLine (codes "v=0")) lines (codes "v=0") opening.after_version are opening.version_is in
     let origin = one_line IsOrigin opening.after_version sdp.session.id opening.after_origin version.1 opening.origin_is in
-    let name = one_line (IsField (codes "s=")) opening.after_origin opening.name header.after_opening origin.1 opening.name_is in
-    let infos = chain_lines IsInfo header.after_opening header.infos header.after_infos name.1 header.infos_are.0 in
+    let name = one_line (IsSessionField (codes "s=")) opening.after_origin opening.name header.after_opening origin.1 opening.name_is in
+    let infos = chain_lines IsHeaderInfo header.after_opening header.infos header.after_infos name.1 header.infos_are.0 in
     let bandwidth = taken_line IsBandwidth header.after_infos sdp.session.bw header.after_bandwidth infos.1 header.bandwidth_is in
-    let timing = one_line (IsExactly (codes "t=0 0")) header.after_bandwidth (codes "t=0 0") header.after_timing bandwidth.1
+    let timing = one_line (IsExactHeaderLine (codes "t=0 0")) header.after_bandwidth (codes "t=0 0") header.after_timing bandwidth.1
     header.timing_is in
-    let repeats = chain_lines (IsField (codes "r=")) header.after_timing header.repeats session.after_header timing.1
+    let repeats = chain_lines (IsSessionField (codes "r=")) header.after_timing header.repeats session.after_header timing.1
     header.repeats_are.0 in
     let attributes = chain_lines IsSessionLine session.after_header sdp.session.attrs reading.after_session repeats.1
     session.attributes_are.0 in

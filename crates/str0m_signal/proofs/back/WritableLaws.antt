@@ -6,7 +6,8 @@ use Rattle.str0m_signal.proofs.Common.{IfSome, refl, sym, ap, ◌∙◌, true≢
 use Rattle.str0m_signal.proofs.Common.{none-some, same_Some, slice_get_read, IsTheOnly, session_attribute_text, bandwidth_text, Consistent}
 use Rattle.str0m_signal.proofs.Common.{is_of_type, MediaAttribute, SessionAttribute, Bandwidth, MediaLine, Sdp, Srtp, arith, is_some, All}
 use Rattle.str0m_signal.proofs.Common.{slice_get_within, NoSectionFaultIff}
-use Rattle.str0m_signal.specs.back.Writable.{AreReadAs, HasTypes, IsFrame, IsReadBackLine, IsMediaReadAs, MediaAreReadAs, SessionGoesWith}
+use Rattle.str0m_signal.specs.back.Writable.{AreReadAs, HasTypes, IsWritableFrame, IsReadBackLine, IsMediaReadAs, MediaAreReadAs}
+use Rattle.str0m_signal.specs.back.Writable.{SessionGoesWith}
 use Rattle.str0m_signal.specs.back.Writable.{Writable, writable_frame_of}
 use Rattle.str0m_signal.specs.form.SessionAttribute.{IsSessionLine}
 use Rattle.str0m_signal.specs.session.Section.{Head, IsBandwidth}
@@ -77,17 +78,17 @@ writable_told_by fault P answer told is = grind arith
 -- ---- a frame, by the consistency of a section without payload types
 
 -- the section over Srtp that is disabled and has no payload types
-abbrev pub disabled_frame_copy : MediaLine → MediaLine
-disabled_frame_copy m = record m { disabled = true; proto = Srtp; pts = [] }
+abbrev pub disabled_writable_frame : MediaLine → MediaLine
+disabled_writable_frame m = record m { disabled = true; proto = Srtp; pts = [] }
 
 writable_none_of : (attrs : List MediaAttribute) → list_any is_of_type attrs ≡ false → All (λ attr. is_of_type attr ≡ false) attrs
 writable_none_of attrs none = grind (arith, cases_Bool, list_any_at)
 
-pub writable_frame_alone : (m : MediaLine) {T : Type 0} → list_any is_of_type m.attrs ≡ false → T ↔ Consistent (disabled_frame_copy m)
-    → T ↔ IsFrame m
+pub writable_frame_alone : (m : MediaLine) {T : Type 0} → list_any is_of_type m.attrs ≡ false → T ↔ Consistent (disabled_writable_frame m)
+    → T ↔ IsWritableFrame m
 writable_frame_alone m none is = grind (arith, writable_none_of, section_frame_agrees)
 
-pub no_writable_frame : (m : MediaLine) → list_any is_of_type m.attrs ≡ true → IsTrue false ↔ IsFrame m
+pub no_writable_frame : (m : MediaLine) → list_any is_of_type m.attrs ≡ true → IsTrue false ↔ IsWritableFrame m
 no_writable_frame m some = grind (arith, list_any_none)
 
 -- ---- the other sections
@@ -123,7 +124,7 @@ all_back sections own i end before = grind (arith, slice_get_within)
 pub writable_with : (sdp : Sdp) (i : ℕ) (section : MediaLine) → slice_get sdp.media_lines i ≡ Some section
     → ((reads : List SessionAttribute) × AreReadAs session_attribute_text IsSessionLine SessionGoesWith sdp.session.attrs reads)
     × BandwidthComesBack sdp.session.bw
-    → ((read : MediaLine) × IsMediaReadAs (writable_frame_of section) read × IsFrame read) → {T : Type 0}
+    → ((read : MediaLine) × IsMediaReadAs (writable_frame_of section) read × IsWritableFrame read) → {T : Type 0}
     → T ↔ OthersComeBack sdp.media_lines i
     → T ↔ Writable sdp i
 writable_with sdp i section at session own is = (

@@ -9,7 +9,8 @@ use Rattle.str0m_signal.proofs.Common.{replicate}
 use Rattle.str0m_signal.proofs.Common.{AllDigits, IsOctet, IsHexGroup, IsOneAddressGroup, IsAddressEnd, AreAddressGroups}
 use Rattle.str0m_signal.proofs.Common.{AreAnyAddressGroups, IsIpText}
 use Rattle.str0m_signal.proofs.Common.{IsCandidateSocket}
-use Rattle.str0m_signal.proofs.Common.{IsRelatedAddress, AreIceNames, IsCandidateSocketInRange, IsPrintable, socket_text, related_text}
+use Rattle.str0m_signal.proofs.Common.{IsRelatedAddress, AreIceNames, IsCandidateSocketInRange, IsPrintableCandidate, socket_text}
+use Rattle.str0m_signal.proofs.Common.{related_text}
 use Rattle.str0m_signal.proofs.Common.{extras_text}
 use Rattle.str0m_signal.proofs.Common.{octet_pairs, ip_text}
 use Rattle.str0m_signal.proofs.form.FmtpPrinted.{fmtp_behind_lacks}
@@ -153,7 +154,7 @@ candidate_labelled_same_word label part x (word, e, is, same) = subst IsWord (sy
 candidate_ice_name_word : (o : Option (List ℕ)) (text : List ℕ) → AreIceNames text o → IfSome o IsWord
 candidate_ice_name_word o text h = grind arith
 
-candidate_printable : (text : List ℕ) (c : Candidate) → IsCandidateText text c → IsPrintable c
+candidate_printable : (text : List ℕ) (c : Candidate) → IsCandidateText text c → IsPrintableCandidate c
 candidate_printable text c h = search (
   rules,
   candidate_labelled_same_word,

@@ -2,14 +2,14 @@
 use Rattle.memchr.specs.Find.{NoneBefore, Nowhere, Passes, is_byte}
 use Rattle.str0m_signal.proofs.Common.{◌≡◌, ℕ, List, ◌+◌, length, None, Some, arith, eqb-true, eq-eqb, cut, slice_range, drop}
 use Rattle.str0m_values.proofs.CutsNearLaws.{cut_first, cut_nowhere}
-use Rattle.str0m_values.specs.Cuts.{IsFirstAt, LacksAt}
+use Rattle.str0m_values.specs.Cuts.{IsFirstCutAt, LacksCutAt}
 
-ext_map_lacks_before : (c : ℕ) (text : List ℕ) (n : ℕ) → Nowhere (Passes (is_byte c) text) 0 n → LacksAt c text n
+ext_map_lacks_before : (c : ℕ) (text : List ℕ) (n : ℕ) → Nowhere (Passes (is_byte c) text) 0 n → LacksCutAt c text n
 ext_map_lacks_before c text n h = λ k lt e. h k (omega arith) lt (eq-eqb _ c e)
 
 pub extension_first_place : (c : ℕ) (text : List ℕ) (i : ℕ)
     → NoneBefore (Passes (is_byte c) text) 0 (length text) i × Passes (is_byte c) text i
-    → IsFirstAt c text i
+    → IsFirstCutAt c text i
 extension_first_place c text i h = (h.0.high, eqb-true _ c h.1, ext_map_lacks_before c text i h.0.before)
 
 -- the search cuts the text where the byte first stands

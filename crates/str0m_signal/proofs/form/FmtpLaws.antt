@@ -13,10 +13,11 @@ use Rattle.str0m_signal.proofs.Common.{cut_before_lacks}
 use Rattle.str0m_signal.proofs.line.BareValuesLaws.{bare_both}
 use Rattle.str0m_signal.proofs.line.PairLaws.{pair_value_given, EndsValue, pair_blanks_skipped}
 use Rattle.str0m_signal.proofs.line.PairsOneByOne.{all_pairs_found, all_pairs_given}
-use Rattle.str0m_signal.specs.form.Fmtp.{IsBlank, AreBlanks, IsFmtpKey, IsFmtpValue, IsFmtpEnd, StartsUnblank, IsFmtpPair, AreFmtpPairs}
+use Rattle.str0m_signal.specs.form.Fmtp.{IsFmtpBlank, AreFmtpBlanks, IsFmtpKey, IsFmtpValue, IsFmtpEnd, StartsWithoutFmtpBlank, IsFmtpPair}
+use Rattle.str0m_signal.specs.form.Fmtp.{AreFmtpPairs}
 use Rattle.str0m_signal.specs.form.Fmtp.{IsPairsForm}
 use Rattle.str0m_signal.specs.form.Fmtp.{IsListForm, IsRangeForm, IsAnyFmtp, IsFmtp}
-use Rattle.str0m_signal.specs.form.FmtpReading.{fmtp_value_read, skip_blanks, fmtp_next_read, fmtp_key_read, pair_read, pairs_read}
+use Rattle.str0m_signal.specs.form.FmtpReading.{fmtp_value_read, skip_pair_blanks, fmtp_next_read, fmtp_key_read, pair_read, pairs_read}
 use Rattle.str0m_signal.specs.form.FmtpReading.{pairs_form_read, fmtp_values_read, fmtp_fields_read}
 
 -- ---- the parts of a pair
@@ -49,38 +50,39 @@ fmtp_key_given key h = rw (lacks_cut_true 32 key h.2, lacks_cut_true 9 key h.3, 
 -- blanks, and then nothing or another character
 pub record SkipsFmtpBlanks (text : List ℕ) : Type 0 where
   pub blanks : List ℕ
-  pub joined : text ≡ blanks ++ skip_blanks text
-  pub are : AreBlanks blanks
-  pub plain : IsRest (skip_blanks text) → StartsUnblank (skip_blanks text)
+  pub joined : text ≡ blanks ++ skip_pair_blanks text
+  pub are : AreFmtpBlanks blanks
+  pub plain : IsRest (skip_pair_blanks text) → StartsWithoutFmtpBlank (skip_pair_blanks text)
 
-fmtp_skips_blanks_more : (b : ℕ) (xs : List ℕ) → IsBlank b → skip_blanks (b ∷ xs) ≡ skip_blanks xs → SkipsFmtpBlanks xs
+fmtp_skips_blanks_more : (b : ℕ) (xs : List ℕ) → IsFmtpBlank b → skip_pair_blanks (b ∷ xs) ≡ skip_pair_blanks xs → SkipsFmtpBlanks xs
     → SkipsFmtpBlanks (b ∷ xs)
 fmtp_skips_blanks_more b xs is e more = record {
   blanks = b ∷ more.blanks;
   joined = ap (λ (t : List ℕ). b ∷ t) more.joined ∙ ap (λ (t : List ℕ). b ∷ (more.blanks ++ t)) (sym e);
   are = (is, more.are);
-  plain = λ h. subst StartsUnblank (sym e) (more.plain (subst IsRest e h));
+  plain = λ h. subst StartsWithoutFmtpBlank (sym e) (more.plain (subst IsRest e h));
 }
 
 pub fmtp_skips_blanks : (text : List ℕ) → SkipsFmtpBlanks text
 fmtp_skips_blanks [] = record { blanks = []; joined = refl; are = tt; plain = λ h. absurd (omega (arith, h)) }
 fmtp_skips_blanks (x ∷ xs) = grind (arith, cases_eq, fmtp_skips_blanks_more, fmtp_skips_blanks xs, ne_eqb)
 
-pub fmtp_start_kept : (text : List ℕ) → StartsUnblank text → skip_blanks text ≡ text
+pub fmtp_start_kept : (text : List ℕ) → StartsWithoutFmtpBlank text → skip_pair_blanks text ≡ text
 fmtp_start_kept text h = grind arith
 
-fmtp_start_filled : (text : List ℕ) → StartsUnblank text → IsRest text
+fmtp_start_filled : (text : List ℕ) → StartsWithoutFmtpBlank text → IsRest text
 fmtp_start_filled text h = grind arith
 
-fmtp_blanks_gone : (blanks : List ℕ) → AreBlanks blanks → skip_blanks blanks ≡ []
-fmtp_blanks_gone blanks h = ap skip_blanks (sym (append-nil blanks)) ∙ pair_blanks_skipped blanks [] h
+fmtp_blanks_gone : (blanks : List ℕ) → AreFmtpBlanks blanks → skip_pair_blanks blanks ≡ []
+fmtp_blanks_gone blanks h = ap skip_pair_blanks (sym (append-nil blanks)) ∙ pair_blanks_skipped blanks [] h
 
 -- ---- one pair
 
 -- a text after a value goes on so
 abbrev FollowsFmtpValue : List ℕ → Option (List ℕ) → Type 0
 FollowsFmtpValue text None = IsFmtpEnd text
-FollowsFmtpValue text (Some more) = (after : List ℕ) × (text ≡ codes ";" ++ (after ++ more)) × AreBlanks after × StartsUnblank more
+FollowsFmtpValue text (Some more) = (after : List ℕ) × (text ≡ codes ";" ++ (after ++ more)) × AreFmtpBlanks after
+    × StartsWithoutFmtpBlank more
 
 rest_empty : (u : List ℕ) → is_rest u ≡ false → u ≡ []
 rest_empty [] e = refl
@@ -90,30 +92,32 @@ fmtp_next_found : (text : List ℕ) (next : Option (List ℕ)) → fmtp_next_rea
 fmtp_next_found [] next e = subst (FollowsFmtpValue []) (cuts_some_is None next e) (inl refl)
 fmtp_next_found (x ∷ xs) next e =
     let filled : is_rest (x ∷ xs) ≡ true = num_rest_true (x ∷ xs) (omega arith) in
-    let e' : (strip (codes ";") (x ∷ xs) >>= λ t. Some (when (is_rest (skip_blanks t)) (skip_blanks t))) ≡ Some next = rw filled at e in
-    let a = cuts_bind_some (strip (codes ";") (x ∷ xs)) (λ t. Some (when (is_rest (skip_blanks t)) (skip_blanks t))) next e' in
+    let e' : (strip (codes ";") (x ∷ xs) >>= λ t. Some (when (is_rest (skip_pair_blanks t)) (skip_pair_blanks t))) ≡ Some next =
+    rw filled at e in
+    let a = cuts_bind_some (strip (codes ";") (x ∷ xs)) (λ t. Some (when (is_rest (skip_pair_blanks t)) (skip_pair_blanks t))) next e' in
     let behind = strip_found (codes ";") (x ∷ xs) a.0 a.1 in
     let s = fmtp_skips_blanks a.0 in
-    subst (FollowsFmtpValue (x ∷ xs)) (cuts_some_is (when (is_rest (skip_blanks a.0)) (skip_blanks a.0)) next a.2)
-    (go (x ∷ xs) a.0 behind s (is_rest (skip_blanks a.0)) refl)
+    subst (FollowsFmtpValue (x ∷ xs)) (cuts_some_is (when (is_rest (skip_pair_blanks a.0)) (skip_pair_blanks a.0)) next a.2)
+    (go (x ∷ xs) a.0 behind s (is_rest (skip_pair_blanks a.0)) refl)
   where
-    go : (text t : List ℕ) → text ≡ codes ";" ++ t → (s : SkipsFmtpBlanks t) (b : Bool) → is_rest (skip_blanks t) ≡ b
-        → FollowsFmtpValue text (when b (skip_blanks t))
+    go : (text t : List ℕ) → text ≡ codes ";" ++ t → (s : SkipsFmtpBlanks t) (b : Bool) → is_rest (skip_pair_blanks t) ≡ b
+        → FollowsFmtpValue text (when b (skip_pair_blanks t))
     go text t behind s true e = (
       s.blanks,
       behind ∙ ap (λ (u : List ℕ). codes ";" ++ u) s.joined,
       s.are,
-      s.plain (ltb-true 0 (length (skip_blanks t)) e),
+      s.plain (ltb-true 0 (length (skip_pair_blanks t)) e),
     )
     go text t behind s false e = inr (
       s.blanks,
       behind ∙ ap (λ (u : List ℕ). codes ";" ++ u) (s.joined
-          ∙ ap (λ (u : List ℕ). s.blanks ++ u) (rest_empty (skip_blanks t) e) ∙ append-nil s.blanks),
+          ∙ ap (λ (u : List ℕ). s.blanks ++ u) (rest_empty (skip_pair_blanks t) e) ∙ append-nil s.blanks),
       s.are,
     )
 
 fmtp_pair_stands : (text : List ℕ) (pair : List ℕ × List ℕ) (next : Option (List ℕ)) (tail : List ℕ)
-    → text ≡ pair.0 ++ (codes "=" ++ (pair.1 ++ tail)) → IsFmtpKey pair.0 → IsFmtpValue pair.1 → FollowsFmtpValue (skip_blanks tail) next
+    → text ≡ pair.0 ++ (codes "=" ++ (pair.1 ++ tail)) → IsFmtpKey pair.0 → IsFmtpValue pair.1
+    → FollowsFmtpValue (skip_pair_blanks tail) next
     → IsFmtpPair text pair next
 fmtp_pair_stands text pair None tail e key value h = grind (arith, fmtp_skips_blanks tail)
 fmtp_pair_stands text pair (Some more) tail e key value h = grind (arith, fmtp_skips_blanks tail)
@@ -122,19 +126,20 @@ pub fmtp_pair_found : (text : List ℕ) (pair : List ℕ × List ℕ) (next : Op
     → IsFmtpPair text pair next
 fmtp_pair_found text pair next e =
     let a = cuts_bind_some (cut 61 text) (λ fields. fmtp_key_read fields.0 >>= λ key. fmtp_value_read fields.1
-    >>= λ value. fmtp_next_read (skip_blanks value.1) >>= λ next. Some ((key, value.0), next)) (pair, next) e in
-    let k = cuts_bind_some (fmtp_key_read a.0.0) (λ key. fmtp_value_read a.0.1 >>= λ value. fmtp_next_read (skip_blanks value.1)
+    >>= λ value. fmtp_next_read (skip_pair_blanks value.1) >>= λ next. Some ((key, value.0), next)) (pair, next) e in
+    let k = cuts_bind_some (fmtp_key_read a.0.0) (λ key. fmtp_value_read a.0.1 >>= λ value. fmtp_next_read (skip_pair_blanks value.1)
     >>= λ next. Some ((key, value.0), next)) (pair, next) a.2 in
-    let v = cuts_bind_some (fmtp_value_read a.0.1) (λ value. fmtp_next_read (skip_blanks value.1) >>= λ next. Some ((k.0, value.0), next))
+    let v = cuts_bind_some (fmtp_value_read a.0.1) (λ value. fmtp_next_read (skip_pair_blanks value.1)
+    >>= λ next. Some ((k.0, value.0), next))
     (pair, next) k.2 in
-    let n = cuts_bind_some (fmtp_next_read (skip_blanks v.0.1)) (λ next. Some ((k.0, v.0.0), next)) (pair, next) v.2 in
+    let n = cuts_bind_some (fmtp_next_read (skip_pair_blanks v.0.1)) (λ next. Some ((k.0, v.0.0), next)) (pair, next) v.2 in
     let fields = cut_found 61 text a.0.0 a.0.1 a.1 in
     let key = fmtp_key_found a.0.0 k.0 fields.1 k.1 in
     let value = fmtp_value_found a.0.1 v.0.0 v.0.1 v.1 in
     let same = some_pair_parts (k.0, v.0.0) pair n.0 next n.2 in
     let whole : text ≡ k.0 ++ (codes "=" ++ (v.0.0 ++ v.0.1)) =
     fields.0 ∙ ap (λ (t : List ℕ). t ++ (61 ∷ a.0.1)) key.0 ∙ ap (λ (t : List ℕ). k.0 ++ (61 ∷ t)) value.0 in
-    let made = fmtp_pair_stands text (k.0, v.0.0) n.0 v.0.1 whole key.1 value.1 (fmtp_next_found (skip_blanks v.0.1) n.0 n.1) in
+    let made = fmtp_pair_stands text (k.0, v.0.0) n.0 v.0.1 whole key.1 value.1 (fmtp_next_found (skip_pair_blanks v.0.1) n.0 n.1) in
     subst (λ (p : List ℕ × List ℕ). IsFmtpPair text p next) same.0 (subst (IsFmtpPair text (k.0, v.0.0)) same.1 made)
 
 pub fmtp_pair_shorter : (text : List ℕ) (pair : List ℕ × List ℕ) (more : List ℕ) → pair_read text ≡ Some (pair, Some more)
@@ -154,17 +159,18 @@ texts_push (pair ∷ pairs) key value = ap (λ (t : List (List ℕ × List ℕ))
 
 -- ---- what stands so is read
 
-blanks_end : (blanks tail : List ℕ) → AreBlanks blanks → EndsValue tail → EndsValue (blanks ++ tail)
+blanks_end : (blanks tail : List ℕ) → AreFmtpBlanks blanks → EndsValue tail → EndsValue (blanks ++ tail)
 blanks_end [] tail h e = e
 blanks_end (x ∷ xs) tail h e = inr h.0
 
 end_ends : (end : List ℕ) → IsFmtpEnd end → EndsValue end
 end_ends end h = elim h [ inl e ↦ subst EndsValue (sym e) tt | inr k ↦ subst EndsValue (sym k.1) (inl refl) ]
 
-end_read : (end : List ℕ) → IsFmtpEnd end → fmtp_next_read (skip_blanks end) ≡ Some None
+end_read : (end : List ℕ) → IsFmtpEnd end → fmtp_next_read (skip_pair_blanks end) ≡ Some None
 end_read end h = grind (arith, num_rest_true, fmtp_blanks_gone)
 
-fmtp_next_more : (after more : List ℕ) → AreBlanks after → StartsUnblank more → fmtp_next_read (59 ∷ (after ++ more)) ≡ Some (Some more)
+fmtp_next_more : (after more : List ℕ) → AreFmtpBlanks after → StartsWithoutFmtpBlank more
+    → fmtp_next_read (59 ∷ (after ++ more)) ≡ Some (Some more)
 fmtp_next_more after more h starts =
     rw (
       num_rest_true (59 ∷ (after ++ more)) (omega arith),
@@ -212,27 +218,28 @@ fmtp_pairs_given text pairs h = all_pairs_given pair_read fmtp_pair_shorter IsFm
 
 -- ---- the forms of an fmtp line
 
-pub fmtp_key_starts : (key rest : List ℕ) → IsFmtpKey key → StartsUnblank (key ++ rest)
+pub fmtp_key_starts : (key rest : List ℕ) → IsFmtpKey key → StartsWithoutFmtpBlank (key ++ rest)
 fmtp_key_starts [] rest h = absurd (omega (arith, h.0))
-fmtp_key_starts (x ∷ xs) rest h = λ (b : IsBlank x). elim b [ inl e ↦ h.2.0 e | inr e ↦ h.3.0 e ]
+fmtp_key_starts (x ∷ xs) rest h = λ (b : IsFmtpBlank x). elim b [ inl e ↦ h.2.0 e | inr e ↦ h.3.0 e ]
 
-fmtp_pairs_start : (pairs : List (List ℕ × List ℕ)) (text : List ℕ) → AreFmtpPairs text pairs → StartsUnblank text
+fmtp_pairs_start : (pairs : List (List ℕ × List ℕ)) (text : List ℕ) → AreFmtpPairs text pairs → StartsWithoutFmtpBlank text
 fmtp_pairs_start [] text h = absurd h
-fmtp_pairs_start (p ∷ []) text h = subst StartsUnblank (sym h.2) (fmtp_key_starts p.0 (61 ∷ (p.1 ++ (h.0 ++ h.1))) h.3)
-fmtp_pairs_start (p ∷ (q ∷ qs)) text h = subst StartsUnblank (sym h.1.2)
+fmtp_pairs_start (p ∷ []) text h = subst StartsWithoutFmtpBlank (sym h.2) (fmtp_key_starts p.0 (61 ∷ (p.1 ++ (h.0 ++ h.1))) h.3)
+fmtp_pairs_start (p ∷ (q ∷ qs)) text h = subst StartsWithoutFmtpBlank (sym h.1.2)
     (fmtp_key_starts p.0 (61 ∷ (p.1 ++ (h.1.0 ++ (59 ∷ (h.1.1 ++ h.0))))) h.1.3)
 
 fmtp_pairs_both : Reads IsPairsForm pairs_form_read
 fmtp_pairs_both = record {
   sound = λ more values e.
-      let a = cuts_bind_some (strip (codes " ") more) (λ t. pairs_read (skip_blanks t) >>= λ pairs. Some (params_read pairs)) values e in
-      let p = cuts_bind_some (pairs_read (skip_blanks a.0)) (λ pairs. Some (params_read pairs)) values a.2 in
+      let a = cuts_bind_some (strip (codes " ") more) (λ t. pairs_read (skip_pair_blanks t) >>= λ pairs. Some (params_read pairs)) values e
+      in
+      let p = cuts_bind_some (pairs_read (skip_pair_blanks a.0)) (λ pairs. Some (params_read pairs)) values a.2 in
       let s = fmtp_skips_blanks a.0 in
-      let r = fmtp_pairs_found (skip_blanks a.0) p.0 p.1 in
+      let r = fmtp_pairs_found (skip_pair_blanks a.0) p.0 p.1 in
       let values_are : ArePairsRead p.0 values =
       subst (ArePairsRead p.0) (cuts_some_is (params_read p.0) values p.2) (pairs_read_is p.0) in (
         s.blanks,
-        skip_blanks a.0,
+        skip_pair_blanks a.0,
         p.0,
         strip_found (codes " ") more a.0 a.1 ∙ ap (λ (t : List ℕ). codes " " ++ t) s.joined,
         s.are,
@@ -240,14 +247,15 @@ fmtp_pairs_both = record {
         values_are,
       );
   complete = λ more values h.
-      let kept : skip_blanks (h.0 ++ h.1) ≡ h.1 = pair_blanks_skipped h.0 h.1 h.4 ∙ fmtp_start_kept h.1 (fmtp_pairs_start h.2 h.1 h.5) in
-      let read : pairs_read (skip_blanks (h.0 ++ h.1)) ≡ Some h.2 = ap pairs_read kept ∙ fmtp_pairs_given h.1 h.2 h.5 in
+      let kept : skip_pair_blanks (h.0 ++ h.1) ≡ h.1 = pair_blanks_skipped h.0 h.1 h.4
+      ∙ fmtp_start_kept h.1 (fmtp_pairs_start h.2 h.1 h.5) in
+      let read : pairs_read (skip_pair_blanks (h.0 ++ h.1)) ≡ Some h.2 = ap pairs_read kept ∙ fmtp_pairs_given h.1 h.2 h.5 in
       ap pairs_form_read h.3 ∙ ap (λ (o : Option (List (List ℕ × List ℕ))). o >>= λ pairs. Some (params_read pairs)) read
       ∙ ap (λ (t : List FormatParam). Some t) (sym (pairs_read_only h.2 values h.6));
 }
 
 pub pairs_form_of : (more text : List ℕ) (pairs : List (List ℕ × List ℕ)) (values : List FormatParam) → Some text ≡ strip (codes " ") more
-    → Some pairs ≡ pairs_read (skip_blanks text) → ArePairsRead pairs values → Some values ≡ pairs_form_read more
+    → Some pairs ≡ pairs_read (skip_pair_blanks text) → ArePairsRead pairs values → Some values ≡ pairs_form_read more
 pairs_form_of more text pairs values at read are = grind (arith, pairs_read_only)
 
 fmtp_values_both : Reads (FirstFit IsPairsForm (FirstFit IsListForm (FirstFit IsRangeForm IsAnyFmtp))) fmtp_values_read

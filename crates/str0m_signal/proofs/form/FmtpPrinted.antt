@@ -15,7 +15,7 @@ use Rattle.str0m_signal.proofs.session.AttributesPrinted.{HoldsNoEnd, no_ends, n
 use Rattle.str0m_signal.proofs.session.AttributesPrinted.{decimal_no_end}
 use Rattle.str0m_signal.proofs.session.AttributesPrinted.{attribute_printed}
 use Rattle.str0m_signal.specs.back.Writable.{IsReadBackLine}
-use Rattle.str0m_signal.specs.form.Fmtp.{IsFmtpKey, IsFmtpValue, StartsUnblank, AreFmtpPairs, IsPairsForm, IsListForm, IsRangeForm}
+use Rattle.str0m_signal.specs.form.Fmtp.{IsFmtpKey, IsFmtpValue, StartsWithoutFmtpBlank, AreFmtpPairs, IsPairsForm, IsListForm, IsRangeForm}
 use Rattle.str0m_signal.specs.form.Fmtp.{IsAnyFmtp, IsFmtp}
 use Rattle.str0m_signal.specs.form.MediaAttribute.{IsMediaLine}
 
@@ -119,7 +119,7 @@ fmtp_solid_value : (pair : List ℕ × List ℕ) → IsSolidPair pair → IsFmtp
 fmtp_solid_value pair h = (h.3, solid_lacks 59 pair.1 refl h.1, solid_lacks 32 pair.1 refl h.1, solid_lacks 9 pair.1 refl h.1)
 
 fmtp_starts_joined : (q : List ℕ × List ℕ) (qs : List (List ℕ × List ℕ)) → IsSolidPair q
-    → StartsUnblank (join_with_byte 59 (map joined_pair (q ∷ qs)))
+    → StartsWithoutFmtpBlank (join_with_byte 59 (map joined_pair (q ∷ qs)))
 fmtp_starts_joined q [] h = fmtp_key_starts q.0 (61 ∷ q.1) (fmtp_solid_key q h)
 fmtp_starts_joined q (r ∷ qs) h =
     rw (append_assoc q.0 (61 ∷ q.1) (59 ∷ join_with_byte 59 (map joined_pair (r ∷ qs))))

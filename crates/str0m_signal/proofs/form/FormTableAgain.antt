@@ -10,7 +10,7 @@ use Rattle.str0m_signal.proofs.form.FormTableLaws.{forms_apart}
 use Rattle.str0m_signal.proofs.form.FormTableLaws.{heads_same, form_tail_is}
 use Rattle.str0m_signal.proofs.line.WordsCharacterStarts.{StartsWithin}
 use Rattle.str0m_signal.proofs.session.AttributesPrinted.{HoldsNoEnd}
-use Rattle.str0m_signal.specs.form.FormTable.{FormPiece, Form, word, word_forms_of, any_word_form, form_made_as, labelled_form}
+use Rattle.str0m_signal.specs.form.FormTable.{FormPiece, Form, word_form, word_forms_of, any_word_form, form_made_as, labelled_form}
 use Rattle.str0m_signal.specs.form.FormTable.{forms_labelled_by}
 use Rattle.str0m_signal.specs.form.FormTable.{any_form}
 use Rattle.str0m_signal.specs.form.FormTable.{a_text, number}
@@ -90,7 +90,7 @@ module _ {A : Type 0} {Fits : A → Type 0} {line : A → List ℕ} {test : A �
       (λ text x quiet starts fits h. (behind.form text x h, quiet_again behind text x quiet h))
       (λ x h. prints x) passes)
 
-  word_prints_again : (name : List ℕ) (x : A) → line x ≡ attribute_line name → test x ≡ true → PrintsAgain Fits line test (word name x)
+  word_prints_again : (name : List ℕ) (x : A) → line x ≡ attribute_line name → test x ≡ true → PrintsAgain Fits line test (word_form name x)
   word_prints_again name x prints passes = record {
     again = λ text attr quiet starts fits h.
         (name, subst (λ (a : A). line a ≡ attribute_line name) (sym h.1) prints, subst HoldsNoEnd h.0 quiet, (refl, h.1));

@@ -5,7 +5,8 @@ use Rattle.str0m_signal.proofs.Common.{false≢true, bytes_eq-Decides, ◌<|>◌
 use Rattle.str0m_signal.proofs.Common.{append-nil}
 use Rattle.str0m_signal.proofs.Common.{if◌then◌else◌, cuts_reads_none, Reads}
 use Rattle.str0m_signal.proofs.form.FormLaws.{form_behind_both}
-use Rattle.str0m_signal.specs.form.FormTable.{FormPiece, Form, own, form_made_as, labelled_form, word, AnyOfForms, labels_of, first_read}
+use Rattle.str0m_signal.specs.form.FormTable.{FormPiece, Form, own_label_form, form_made_as, labelled_form, word_form, AnyOfForms}
+use Rattle.str0m_signal.specs.form.FormTable.{labels_of, first_read}
 use Rattle.str0m_signal.specs.form.FormTable.{any_form}
 use Rattle.str0m_signal.specs.form.FormTable.{word_forms_of}
 use Rattle.str0m_signal.specs.form.FormTable.{any_word_form, forms_labelled_by, IsUnusedForm, unused_read, form_first_byte}
@@ -38,7 +39,7 @@ pub record LawfulForm {A : Type 0} (form : Form A) : Type 0 where
 -- ---- single forms
 
 pub own_form_lawful : {A : Type 0} (label : List ℕ) {Is : List ℕ → A → Type 0} {read : List ℕ → Option A} → Reads Is read
-    → ((text : List ℕ) (x : A) → Is text x → (body : List ℕ) × (text ≡ label ++ body)) → LawfulForm (own label Is read)
+    → ((text : List ℕ) (x : A) → Is text x → (body : List ℕ) × (text ≡ label ++ body)) → LawfulForm (own_label_form label Is read)
 own_form_lawful label reads begins = record {
   reads = reads;
   begins = λ text x h.
@@ -54,7 +55,7 @@ pub labelled_form_lawful : {A B : Type 0} {piece : FormPiece A} (label : List �
 labelled_form_lawful label make reads = made_form_lawful make
     (own_form_lawful label (form_behind_both label reads) (λ text x h. (h.0, h.1)))
 
-word_form_lawful : {A : Type 0} (name : List ℕ) (x : A) → LawfulForm (word name x)
+word_form_lawful : {A : Type 0} (name : List ℕ) (x : A) → LawfulForm (word_form name x)
 word_form_lawful name x = grind (arith, cuts_when_some, bytes_eq-Decides, num_when_true, append-nil)
 
 pub unused_reads : {A : Type 0} (make : List ℕ → A) → Reads (IsUnusedForm make) (unused_read make)

@@ -30,7 +30,7 @@ use Rattle.str0m_signal.proofs.form.FormTableAgain.{form_words_whole}
 use Rattle.str0m_signal.proofs.form.FormTableAgain.{all_labelled_forms_whole, any_again}
 use Rattle.str0m_signal.proofs.form.FormTableLaws.{ReadableFormPiece, LawfulForm, AllOfForms, ◌also◌, own_form_lawful, labelled_form_lawful}
 use Rattle.str0m_signal.proofs.form.FormTableLaws.{made_form_lawful}
-use Rattle.str0m_signal.proofs.form.RidAgain.{IsUntypedRid, rid_again, simulcast_sides_words, sides_form, simulcast_sides_lack}
+use Rattle.str0m_signal.proofs.form.RidAgain.{IsUntypedRid, rid_again, simulcast_sides_words, simulcast_sides_form, simulcast_sides_lack}
 use Rattle.str0m_signal.proofs.form.RidLaws.{rid_fields_both}
 use Rattle.str0m_signal.proofs.form.RtpMapPrinted.{mapping_printed}
 use Rattle.str0m_signal.proofs.form.SimulcastLaws.{simulcast_fields_both}
@@ -178,7 +178,7 @@ simulcast_comes_back = made_again (form_led_by label.SIMULCAST.now (record { Is 
     back text s quiet (body, e, (sides, whole)) =
         let behind : (c : ℕ) → Lacks c text → Lacks c body =
         λ c none. fmtp_behind_lacks c label.SIMULCAST.now body (subst (Lacks c) e none) in (
-          (simulcast_sides_words s.send.0 s.recv.0, refl, (sides_form body s.send.0 s.recv.0 sides, whole)),
+          (simulcast_sides_words s.send.0 s.recv.0, refl, (simulcast_sides_form body s.send.0 s.recv.0 sides, whole)),
           no_ends label.SIMULCAST.now (simulcast_sides_words s.send.0 s.recv.0) (no_end label.SIMULCAST.now refl refl) (
             simulcast_sides_lack 10 (lit≤ tt) (lacks_cut_from 10 (codes "send ") refl, lacks_cut_from 10 (codes " recv ") refl) body
                 s.send.0 s.recv.0 sides

@@ -7,7 +7,7 @@ use Rattle.str0m_signal.proofs.form.FormTableLaws.{table_lettered}
 use Rattle.str0m_signal.proofs.form.MediaAttributeAgain.{OtherForm, other_form_laws}
 use Rattle.str0m_signal.proofs.form.RtpMapLaws.{rtpmap_fields_both}
 use Rattle.str0m_signal.proofs.line.LinesLaws.{attribute_both}
-use Rattle.str0m_signal.specs.form.MediaAttribute.{other_forms, media_forms, letters, IsMediaLine, media_read}
+use Rattle.str0m_signal.specs.form.MediaAttribute.{other_forms, media_forms, media_form_letters, IsMediaLine, media_read}
 use Rattle.str0m_signal.specs.line.LinesReading.{read_attribute}
 
 media_laws : AllOfForms LawfulForm media_forms
@@ -17,4 +17,5 @@ media_laws =
     also form_laws_of OtherForm LawfulForm (λ form law. law.lawful) other_forms other_form_laws
 
 pub media_line_both : Reads IsMediaLine (read_attribute media_read)
-media_line_both = attribute_both (cuts_reads_first (table_lettered letters media_forms media_laws refl refl) (unused_reads Unused))
+media_line_both = attribute_both
+    (cuts_reads_first (table_lettered media_form_letters media_forms media_laws refl refl) (unused_reads Unused))

@@ -76,112 +76,113 @@ no_label text (pair ∷ pairs) h named rest e = grind (
 
 -- ---- rids
 
-pts_again : Again (PartedAddress 44 IsPt) (join_by decimal (codes ","))
-pts_again = parted_again (num_again 127 (lit< tt)) 44
+rid_pts_again : Again (PartedAddress 44 IsPt) (join_by decimal (codes ","))
+rid_pts_again = parted_again (num_again 127 (lit< tt)) 44
 
-abbrev pub more_text : List ℕ × List (List ℕ × List ℕ) → List ℕ
-more_text lists = rid_pts_part lists.0 ++ restrictions_part lists.0 lists.1
+abbrev pub rid_more_text : List ℕ × List (List ℕ × List ℕ) → List ℕ
+rid_more_text lists = rid_pts_part lists.0 ++ restrictions_part lists.0 lists.1
 
 -- types, and restrictions after them
-typed_form : (text : List ℕ) (n : ℕ) (ns : List ℕ) (pairs : List (List ℕ × List ℕ)) → AreTyped text (n ∷ ns, pairs)
+rid_typed_form : (text : List ℕ) (n : ℕ) (ns : List ℕ) (pairs : List (List ℕ × List ℕ)) → AreTyped text (n ∷ ns, pairs)
     → AreTyped (join_by decimal (codes ",") (n ∷ ns) ++ restrictions_part (n ∷ ns) pairs) (n ∷ ns, pairs)
-typed_form text n ns [] (inl h) =
-    inl (subst (λ (t : List ℕ). PartedAddress 44 IsPt t (n ∷ ns)) (sym (append-nil _)) (pts_again.form text (n ∷ ns) h.0), refl)
-typed_form text n ns [] (inr h) =
-    inl (subst (λ (t : List ℕ). PartedAddress 44 IsPt t (n ∷ ns)) (sym (append-nil _)) (pts_again.form h.0 (n ∷ ns) h.4), refl)
-typed_form text n ns (pair ∷ pairs) (inl h) = absurd (let e = h.1 in cc)
-typed_form text n ns (pair ∷ pairs) (inr h) =
+rid_typed_form text n ns [] (inl h) =
+    inl (subst (λ (t : List ℕ). PartedAddress 44 IsPt t (n ∷ ns)) (sym (append-nil _)) (rid_pts_again.form text (n ∷ ns) h.0), refl)
+rid_typed_form text n ns [] (inr h) =
+    inl (subst (λ (t : List ℕ). PartedAddress 44 IsPt t (n ∷ ns)) (sym (append-nil _)) (rid_pts_again.form h.0 (n ∷ ns) h.4), refl)
+rid_typed_form text n ns (pair ∷ pairs) (inl h) = absurd (let e = h.1 in cc)
+rid_typed_form text n ns (pair ∷ pairs) (inr h) =
     inr (
       join_by decimal (codes ",") (n ∷ ns),
       restrictions_text (pair ∷ pairs),
       refl,
-      pts_again.lacks 59 (lit≤ tt) h.0 (n ∷ ns) h.4 h.3,
-      pts_again.form h.0 (n ∷ ns) h.4,
+      rid_pts_again.lacks 59 (lit≤ tt) h.0 (n ∷ ns) h.4 h.3,
+      rid_pts_again.form h.0 (n ∷ ns) h.4,
       restrictions_form h.1 (pair ∷ pairs) h.5,
     )
 
-typed_lacks : (c : ℕ) → 16 ≤ digit_value c → (text : List ℕ) (n : ℕ) (ns : List ℕ) (pairs : List (List ℕ × List ℕ))
+rid_typed_lacks : (c : ℕ) → 16 ≤ digit_value c → (text : List ℕ) (n : ℕ) (ns : List ℕ) (pairs : List (List ℕ × List ℕ))
     → AreTyped text (n ∷ ns, pairs)
     → Lacks c text → Lacks c (join_by decimal (codes ",") (n ∷ ns) ++ restrictions_part (n ∷ ns) pairs)
-typed_lacks c far text n ns [] (inl h) lacks =
-    subst (Lacks c) (sym (append-nil _)) (pts_again.lacks c far text (n ∷ ns) h.0 lacks)
-typed_lacks c far text n ns [] (inr h) lacks =
+rid_typed_lacks c far text n ns [] (inl h) lacks =
+    subst (Lacks c) (sym (append-nil _)) (rid_pts_again.lacks c far text (n ∷ ns) h.0 lacks)
+rid_typed_lacks c far text n ns [] (inr h) lacks =
     subst (Lacks c) (sym (append-nil _))
-    (pts_again.lacks c far h.0 (n ∷ ns) h.4 (LacksCut-append c h.0 (59 ∷ h.1) (subst (Lacks c) h.2 lacks)))
-typed_lacks c far text n ns (pair ∷ pairs) (inl h) lacks = absurd (let e = h.1 in cc)
-typed_lacks c far text n ns (pair ∷ pairs) (inr h) lacks =
+    (rid_pts_again.lacks c far h.0 (n ∷ ns) h.4 (LacksCut-append c h.0 (59 ∷ h.1) (subst (Lacks c) h.2 lacks)))
+rid_typed_lacks c far text n ns (pair ∷ pairs) (inl h) lacks = absurd (let e = h.1 in cc)
+rid_typed_lacks c far text n ns (pair ∷ pairs) (inr h) lacks =
     let whole : Lacks c (h.0 ++ (59 ∷ h.1)) = subst (Lacks c) h.2 lacks in
     let behind = fmtp_behind_lacks c h.0 (59 ∷ h.1) whole in
     address_lacks_both c (join_by decimal (codes ",") (n ∷ ns)) (59 ∷ restrictions_text (pair ∷ pairs))
-    (pts_again.lacks c far h.0 (n ∷ ns) h.4 (LacksCut-append c h.0 (59 ∷ h.1) whole))
+    (rid_pts_again.lacks c far h.0 (n ∷ ns) h.4 (LacksCut-append c h.0 (59 ∷ h.1) whole))
     (behind.0, restrictions_lack c far h.1 (pair ∷ pairs) h.5 behind.1)
 
 -- a type stands there
 some_type : (text : List ℕ) (pairs : List (List ℕ × List ℕ)) → AreTyped text ([], pairs) → ⊥
 some_type text pairs o = grind arith
 
-lists_form : (text : List ℕ) (types : List ℕ) (pairs : List (List ℕ × List ℕ)) → AreRidLists text (types, pairs) → NamesNoTypes pairs
-    → IsRidMore (more_text (types, pairs)) (types, pairs)
-lists_form text [] pairs (inl h) named = absurd (some_type h.0 pairs h.2)
-lists_form text [] [] (inr h) named = inl (refl, refl)
-lists_form text [] (pair ∷ pairs) (inr h) named =
+rid_lists_form : (text : List ℕ) (types : List ℕ) (pairs : List (List ℕ × List ℕ)) → AreRidLists text (types, pairs) → NamesNoTypes pairs
+    → IsRidMore (rid_more_text (types, pairs)) (types, pairs)
+rid_lists_form text [] pairs (inl h) named = absurd (some_type h.0 pairs h.2)
+rid_lists_form text [] [] (inr h) named = inl (refl, refl)
+rid_lists_form text [] (pair ∷ pairs) (inr h) named =
     grind (arith, no_label text (pair ∷ pairs) h.2 named, restrictions_form text (pair ∷ pairs) h.2)
-lists_form text (n ∷ ns) pairs (inl h) named = grind (arith, typed_form h.0 n ns pairs h.2)
-lists_form text (n ∷ ns) pairs (inr h) named = absurd (let e = h.1 in cc)
+rid_lists_form text (n ∷ ns) pairs (inl h) named = grind (arith, rid_typed_form h.0 n ns pairs h.2)
+rid_lists_form text (n ∷ ns) pairs (inr h) named = absurd (let e = h.1 in cc)
 
-more_form : (text : List ℕ) (lists : List ℕ × List (List ℕ × List ℕ)) → IsRidMore text lists → NamesNoTypes lists.1
-    → IsRidMore (more_text lists) lists
-more_form text lists (inl h) named = rw h.1 (inl (refl, refl))
-more_form text lists (inr h) named = lists_form h.0 lists.0 lists.1 h.2 named
+rid_more_form : (text : List ℕ) (lists : List ℕ × List (List ℕ × List ℕ)) → IsRidMore text lists → NamesNoTypes lists.1
+    → IsRidMore (rid_more_text lists) lists
+rid_more_form text lists (inl h) named = rw h.1 (inl (refl, refl))
+rid_more_form text lists (inr h) named = rid_lists_form h.0 lists.0 lists.1 h.2 named
 
 rid_lists_lack : (c : ℕ) → 16 ≤ digit_value c → (text : List ℕ) (types : List ℕ) (pairs : List (List ℕ × List ℕ))
     → AreRidLists text (types, pairs)
-    → Lacks c (32 ∷ text) → Lacks c (more_text (types, pairs))
+    → Lacks c (32 ∷ text) → Lacks c (rid_more_text (types, pairs))
 rid_lists_lack c far text [] pairs (inl h) lacks = absurd (some_type h.0 pairs h.2)
 rid_lists_lack c far text [] [] (inr h) lacks = tt
 rid_lists_lack c far text [] (pair ∷ pairs) (inr h) lacks = (lacks.0, restrictions_lack c far text (pair ∷ pairs) h.2 lacks.1)
-rid_lists_lack c far text (n ∷ ns) pairs (inl h) lacks = grind (arith, typed_lacks c far h.0 n ns pairs h.2)
+rid_lists_lack c far text (n ∷ ns) pairs (inl h) lacks = grind (arith, rid_typed_lacks c far h.0 n ns pairs h.2)
 rid_lists_lack c far text (n ∷ ns) pairs (inr h) lacks = absurd (let e = h.1 in cc)
 
 rid_more_lacks : (c : ℕ) → 16 ≤ digit_value c → (text : List ℕ) (lists : List ℕ × List (List ℕ × List ℕ)) → IsRidMore text lists
     → Lacks c text
-    → Lacks c (more_text lists)
+    → Lacks c (rid_more_text lists)
 rid_more_lacks c far text lists (inl h) lacks = rw h.1 tt
 rid_more_lacks c far text lists (inr h) lacks = rid_lists_lack c far h.0 lists.0 lists.1 h.2 (subst (Lacks c) h.1 lacks)
 
 -- what stands after the name, where no restriction names types
-abbrev pub IsUntypedDirected : List ℕ → List ℕ × (List ℕ × List (List ℕ × List ℕ)) → Type 0
-IsUntypedDirected text fields = IsDirectedRid text fields × NamesNoTypes fields.1.1
+abbrev pub IsUntypedDirectedRid : List ℕ → List ℕ × (List ℕ × List (List ℕ × List ℕ)) → Type 0
+IsUntypedDirectedRid text fields = IsDirectedRid text fields × NamesNoTypes fields.1.1
 
-directed_again : Again IsUntypedDirected (λ fields. fields.0 ++ more_text fields.1)
-directed_again = record {
-  form = λ text fields h. ((more_text fields.1, refl, h.0.2, more_form h.0.0 fields.1 h.0.3 h.1), h.1);
+rid_directed_again : Again IsUntypedDirectedRid (λ fields. fields.0 ++ rid_more_text fields.1)
+rid_directed_again = record {
+  form = λ text fields h. ((rid_more_text fields.1, refl, h.0.2, rid_more_form h.0.0 fields.1 h.0.3 h.1), h.1);
   lacks = λ c far text fields h lacks.
       let whole : Lacks c (fields.0 ++ h.0.0) = subst (Lacks c) h.0.1 lacks in
-      address_lacks_both c fields.0 (more_text fields.1) (LacksCut-append c fields.0 h.0.0 whole)
+      address_lacks_both c fields.0 (rid_more_text fields.1) (LacksCut-append c fields.0 h.0.0 whole)
       (rid_more_lacks c far h.0.0 fields.1 h.0.3 (fmtp_behind_lacks c fields.0 h.0.0 whole));
 }
 
-active_again : Again IsActiveRid (λ id. id.0)
-active_again = grind arith
+rid_active_again : Again IsActiveRid (λ id. id.0)
+rid_active_again = grind arith
 
 abbrev pub IsUntypedRid : List ℕ → RestrictionId × (List ℕ × (List ℕ × List (List ℕ × List ℕ))) → Type 0
-IsUntypedRid = TwoFormParts 32 IsActiveRid IsUntypedDirected
+IsUntypedRid = TwoFormParts 32 IsActiveRid IsUntypedDirectedRid
 
-pub rid_again : Again IsUntypedRid (λ rid. rid.0.0 ++ (32 ∷ (rid.1.0 ++ more_text rid.1.1)))
-rid_again = two_again 32 (lit≤ tt) active_again directed_again
+pub rid_again : Again IsUntypedRid (λ rid. rid.0.0 ++ (32 ∷ (rid.1.0 ++ rid_more_text rid.1.1)))
+rid_again = two_again 32 (lit≤ tt) rid_active_again rid_directed_again
 
 -- ---- layers
 
 layer_again : Again IsLayer layer_text
 layer_again = grind (arith, LacksCut-append)
 
-side_again : Again IsSimulcastSide layers_text
-side_again = parted_again layer_again 59
+simulcast_side_again : Again IsSimulcastSide layers_text
+simulcast_side_again = parted_again layer_again 59
 
-both_again : (first second : List ℕ)
+simulcast_both_again : (first second : List ℕ)
     → Again (AreBothSimulcastSides first second) (λ sides. first ++ (layers_text sides.0 ++ (32 ∷ (second ++ layers_text sides.1))))
-both_again first second = behind_again (two_again 32 (lit≤ tt) side_again (behind_again side_again second)) first
+simulcast_both_again first second = behind_again (two_again 32 (lit≤ tt) simulcast_side_again (behind_again simulcast_side_again second))
+    first
 
 -- ---- sides
 
@@ -205,13 +206,14 @@ simulcast_sides_words (s ∷ send) [] = codes "send " ++ layers_text (s ∷ send
 simulcast_sides_words [] (r ∷ recv) = codes "recv " ++ layers_text (r ∷ recv)
 simulcast_sides_words (s ∷ send) (r ∷ recv) = codes "send " ++ (layers_text (s ∷ send) ++ (codes " recv " ++ layers_text (r ∷ recv)))
 
-pub sides_form : (text : List ℕ) (send recv : List SimulcastLayer) → AreSimulcastSides text send recv
+pub simulcast_sides_form : (text : List ℕ) (send recv : List SimulcastLayer) → AreSimulcastSides text send recv
     → AreSimulcastSides (simulcast_sides_words send recv) send recv
-sides_form text [] [] h = absurd h
-sides_form text (s ∷ send) [] h = (behind_again side_again (codes "send ")).form text (s ∷ send) h
-sides_form text [] (r ∷ recv) h = (behind_again side_again (codes "recv ")).form text (r ∷ recv) h
-sides_form text (s ∷ send) (r ∷ recv) (inl h) = inl ((both_again (codes "send ") (codes "recv ")).form text (s ∷ send, r ∷ recv) h)
-sides_form text (s ∷ send) (r ∷ recv) (inr (body, e, (first, second, f, lacks, received, (sent_text, g, sent)))) =
+simulcast_sides_form text [] [] h = absurd h
+simulcast_sides_form text (s ∷ send) [] h = (behind_again simulcast_side_again (codes "send ")).form text (s ∷ send) h
+simulcast_sides_form text [] (r ∷ recv) h = (behind_again simulcast_side_again (codes "recv ")).form text (r ∷ recv) h
+simulcast_sides_form text (s ∷ send) (r ∷ recv) (inl h) = inl
+    ((simulcast_both_again (codes "send ") (codes "recv ")).form text (s ∷ send, r ∷ recv) h)
+simulcast_sides_form text (s ∷ send) (r ∷ recv) (inr (body, e, (first, second, f, lacks, received, (sent_text, g, sent)))) =
     inl (
       layers_text (s ∷ send) ++ (codes " recv " ++ layers_text (r ∷ recv)),
       refl,
@@ -220,8 +222,8 @@ sides_form text (s ∷ send) (r ∷ recv) (inr (body, e, (first, second, f, lack
         codes "recv " ++ layers_text (r ∷ recv),
         refl,
         simulcast_side_lacks sent_text (s ∷ send) sent,
-        side_again.form sent_text (s ∷ send) sent,
-        (layers_text (r ∷ recv), refl, side_again.form first (r ∷ recv) received),
+        simulcast_side_again.form sent_text (s ∷ send) sent,
+        (layers_text (r ∷ recv), refl, simulcast_side_again.form first (r ∷ recv) received),
       ),
     )
 
@@ -233,10 +235,12 @@ pub simulcast_sides_lack : (c : ℕ) → 16 ≤ digit_value c → HoldsNoSimulca
     → AreSimulcastSides text send recv → Lacks c text
     → Lacks c (simulcast_sides_words send recv)
 simulcast_sides_lack c far other text [] [] h lacks = tt
-simulcast_sides_lack c far other text (s ∷ send) [] h lacks = (behind_again side_again (codes "send ")).lacks c far text (s ∷ send) h lacks
-simulcast_sides_lack c far other text [] (r ∷ recv) h lacks = (behind_again side_again (codes "recv ")).lacks c far text (r ∷ recv) h lacks
+simulcast_sides_lack c far other text (s ∷ send) [] h lacks = (behind_again simulcast_side_again (codes "send ")).lacks c far text
+    (s ∷ send) h lacks
+simulcast_sides_lack c far other text [] (r ∷ recv) h lacks = (behind_again simulcast_side_again (codes "recv ")).lacks c far text
+    (r ∷ recv) h lacks
 simulcast_sides_lack c far other text (s ∷ send) (r ∷ recv) (inl h) lacks =
-    (both_again (codes "send ") (codes "recv ")).lacks c far text (s ∷ send, r ∷ recv) h lacks
+    (simulcast_both_again (codes "send ") (codes "recv ")).lacks c far text (s ∷ send, r ∷ recv) h lacks
 simulcast_sides_lack c far other text (s ∷ send) (r ∷ recv) (inr (body, e, (first, second, f, none, received, (sent_text, g, sent))))
     lacks =
     let whole : Lacks c (codes "recv " ++ body) = subst (Lacks c) e lacks in
@@ -244,6 +248,6 @@ simulcast_sides_lack c far other text (s ∷ send) (r ∷ recv) (inr (body, e, (
     let behind = fmtp_behind_lacks c first (32 ∷ second) parts in
     let sent_lacks = fmtp_behind_lacks c (codes "send ") sent_text (subst (Lacks c) g behind.1) in
     address_lacks_both c (codes "send ") _ other.0
-    (address_lacks_both c (layers_text (s ∷ send)) _ (side_again.lacks c far sent_text (s ∷ send) sent sent_lacks)
+    (address_lacks_both c (layers_text (s ∷ send)) _ (simulcast_side_again.lacks c far sent_text (s ∷ send) sent sent_lacks)
     (address_lacks_both c (codes " recv ") _ other.1
-    (side_again.lacks c far first (r ∷ recv) received (LacksCut-append c first (32 ∷ second) parts))))
+    (simulcast_side_again.lacks c far first (r ∷ recv) received (LacksCut-append c first (32 ∷ second) parts))))

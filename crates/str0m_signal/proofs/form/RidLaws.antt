@@ -12,8 +12,8 @@ use Rattle.str0m_signal.proofs.form.SimulcastLaws.{simulcast_stream_name_from, s
 use Rattle.str0m_signal.proofs.line.PairLaws.{EndsValue, pair_value_given, pair_blanks_skipped}
 use Rattle.str0m_signal.proofs.line.PairsOneByOne.{all_pairs_found, all_pairs_given}
 use Rattle.str0m_signal.proofs.line.PartLaws.{parted_both}
-use Rattle.str0m_signal.specs.form.Fmtp.{AreBlanks, IsFmtpKey, IsFmtpValue, AreFmtpPairsOneByOne}
-use Rattle.str0m_signal.specs.form.FmtpReading.{fmtp_value_read, skip_blanks, fmtp_key_read, fmtp_pairs_at}
+use Rattle.str0m_signal.specs.form.Fmtp.{AreFmtpBlanks, IsFmtpKey, IsFmtpValue, AreFmtpPairsOneByOne}
+use Rattle.str0m_signal.specs.form.FmtpReading.{fmtp_value_read, skip_pair_blanks, fmtp_key_read, fmtp_pairs_at}
 use Rattle.str0m_signal.specs.form.Rid.{IsActiveRid, IsRestriction, AreRestrictions, AreTyped, AreRidLists, IsRidMore, IsDirection}
 use Rattle.str0m_signal.specs.form.Rid.{IsDirectedRid}
 use Rattle.str0m_signal.specs.form.Rid.{IsRid}
@@ -52,25 +52,25 @@ regroup_rid_pair : (blanks key value tail : List ℕ) → (blanks ++ (key ++ (61
 regroup_rid_pair blanks key value tail = grind (arith, append_assoc)
 
 rid_pair_stands : (text blanks : List ℕ) (pair : List ℕ × List ℕ) (next : Option (List ℕ))
-    → text ≡ (blanks ++ (pair.0 ++ (61 ∷ pair.1))) ++ rid_tail_of next → AreBlanks blanks → IsFmtpKey pair.0 → IsFmtpValue pair.1
+    → text ≡ (blanks ++ (pair.0 ++ (61 ∷ pair.1))) ++ rid_tail_of next → AreFmtpBlanks blanks → IsFmtpKey pair.0 → IsFmtpValue pair.1
     → RidPairStands text pair next
 rid_pair_stands text blanks pair next e are key value = grind (arith, append-nil)
 
 pub restriction_found : (text : List ℕ) (pair : List ℕ × List ℕ) (next : Option (List ℕ)) → restriction_read text ≡ Some (pair, next)
     → RidPairStands text pair next
 restriction_found text pair next e =
-    let a = cuts_bind_some (cut 61 (skip_blanks text)) (λ fields. fmtp_key_read fields.0 >>= λ key. fmtp_value_read fields.1
+    let a = cuts_bind_some (cut 61 (skip_pair_blanks text)) (λ fields. fmtp_key_read fields.0 >>= λ key. fmtp_value_read fields.1
     >>= λ value. next_read value.1 >>= λ next. Some ((key, value.0), next)) (pair, next) e in
     let k = cuts_bind_some (fmtp_key_read a.0.0) (λ key. fmtp_value_read a.0.1 >>= λ value. next_read value.1
     >>= λ next. Some ((key, value.0), next)) (pair, next) a.2 in
     let v = cuts_bind_some (fmtp_value_read a.0.1) (λ value. next_read value.1 >>= λ next. Some ((k.0, value.0), next)) (pair, next) k.2 in
     let n = cuts_bind_some (next_read v.0.1) (λ next. Some ((k.0, v.0.0), next)) (pair, next) v.2 in
     let s = fmtp_skips_blanks text in
-    let fields = cut_found 61 (skip_blanks text) a.0.0 a.0.1 a.1 in
+    let fields = cut_found 61 (skip_pair_blanks text) a.0.0 a.0.1 a.1 in
     let key = fmtp_key_found a.0.0 k.0 fields.1 k.1 in
     let value = fmtp_value_found a.0.1 v.0.0 v.0.1 v.1 in
     let same = some_pair_parts (k.0, v.0.0) pair n.0 next n.2 in
-    let plain : skip_blanks text ≡ k.0 ++ (61 ∷ (v.0.0 ++ rid_tail_of n.0)) =
+    let plain : skip_pair_blanks text ≡ k.0 ++ (61 ∷ (v.0.0 ++ rid_tail_of n.0)) =
     fields.0 ∙ ap (λ (t : List ℕ). t ++ (61 ∷ a.0.1)) key.0
     ∙ ap (λ (t : List ℕ). k.0 ++ (61 ∷ t)) (value.0 ∙ ap (λ (t : List ℕ). v.0.0 ++ t) (rid_next_found v.0.1 n.0 n.1)) in
     let whole : text ≡ (s.blanks ++ (k.0 ++ (61 ∷ v.0.0))) ++ rid_tail_of n.0 =
@@ -79,12 +79,12 @@ restriction_found text pair next e =
     subst (λ (p : List ℕ × List ℕ). RidPairStands text p next) same.0 (subst (RidPairStands text (k.0, v.0.0)) same.1 made)
 
 pair_read_so : (text blanks : List ℕ) (pair : List ℕ × List ℕ) (next : Option (List ℕ))
-    → text ≡ (blanks ++ (pair.0 ++ (61 ∷ pair.1))) ++ rid_tail_of next → AreBlanks blanks → IsFmtpKey pair.0 → IsFmtpValue pair.1
+    → text ≡ (blanks ++ (pair.0 ++ (61 ∷ pair.1))) ++ rid_tail_of next → AreFmtpBlanks blanks → IsFmtpKey pair.0 → IsFmtpValue pair.1
     → restriction_read text ≡ Some (pair, next)
 pair_read_so text blanks pair next e are key value =
     let body = pair.0 ++ (61 ∷ (pair.1 ++ rid_tail_of next)) in
-    let plain : skip_blanks text ≡ body =
-    ap skip_blanks (e ∙ regroup_rid_pair blanks pair.0 pair.1 (rid_tail_of next)) ∙ pair_blanks_skipped blanks body are
+    let plain : skip_pair_blanks text ≡ body =
+    ap skip_pair_blanks (e ∙ regroup_rid_pair blanks pair.0 pair.1 (rid_tail_of next)) ∙ pair_blanks_skipped blanks body are
     ∙ fmtp_start_kept body (fmtp_key_starts pair.0 (61 ∷ (pair.1 ++ rid_tail_of next)) key) in
     rw (
       plain,

@@ -50,9 +50,10 @@ clock_sound text hertz channels (Some p) cut-is e =
       more_is = (p.1, refl, num_found 255 p.1 b.0 b.1);
     })
 
-channels_lack : (text : List ℕ) (hertz : List ℕ) (channels : Option ℕ) (rate : ℕ) → IsWithout 47 hertz → IsNum 4294967295 hertz rate
+rtpmap_clock_complete : (text : List ℕ) (hertz : List ℕ) (channels : Option ℕ) (rate : ℕ) → IsWithout 47 hertz → IsNum 4294967295 hertz rate
     → 0 < rate → IsChannels text channels → clock_read (hertz ++ text) (cut 47 (hertz ++ text)) ≡ Some (rate, channels)
-channels_lack text hertz channels rate w n positive h = grind (arith, append-nil, cut_none, clock_frequency_complete, cut_at, num_reads)
+rtpmap_clock_complete text hertz channels rate w n positive h = grind
+    (arith, append-nil, cut_none, clock_frequency_complete, cut_at, num_reads)
 
 abbrev made_mapping : ℕ → Codec → Mapping → Option (ℕ × Mapping)
 made_mapping pt codec value = Some (pt, record { codec = codec; clock_rate = value.clock_rate; channels = value.channels })
@@ -101,7 +102,7 @@ rtpmap_given text fields h =
     grind (
       arith,
       number_lacks 32 h.number,
-      channels_lack h.channels h.clock,
+      rtpmap_clock_complete h.channels h.clock,
       cut_at 47 h.codec,
       cut_at 32 h.number,
       num_rest_true h.codec h.codec_is.0.0,

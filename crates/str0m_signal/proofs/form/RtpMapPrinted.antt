@@ -21,22 +21,22 @@ unfolding codec_of
 printed_codec c = grind arith
 
 -- the name of a codec reads as it, but for Null
-pub codec_is : (c : Codec) → IsReadAsCodec (codec_text c) (codec_printed_and_read c)
-codec_is c = subst (IsReadAsCodec (codec_text c)) (printed_codec c) (codec_read_as (codec_text c))
+pub mapped_codec_read_as : (c : Codec) → IsReadAsCodec (codec_text c) (codec_printed_and_read c)
+mapped_codec_read_as c = subst (IsReadAsCodec (codec_text c)) (printed_codec c) (codec_read_as (codec_text c))
 
 pub record IsMappingName (name : List ℕ) : Type 0 where
   pub filled : IsRest name
   pub no_slash : Lacks 47 name
   pub quiet : HoldsNoEnd name
 
-pub codec_has_name : (c : Codec) → IsMappingName (codec_text c)
-codec_has_name c = grind arith
+pub mapped_codec_has_name : (c : Codec) → IsMappingName (codec_text c)
+mapped_codec_has_name c = grind arith
 
 -- ---- mappings
 
-channels_are : (channels : Option ℕ) → IfSome channels (λ n. n ≤ 255) → IsChannels (rtp_map_channels_text channels) channels
-channels_are None small = refl
-channels_are (Some n) small = (decimal n, refl, attribute_num_is 255 n small (lit< tt))
+rtpmap_channels_are : (channels : Option ℕ) → IfSome channels (λ n. n ≤ 255) → IsChannels (rtp_map_channels_text channels) channels
+rtpmap_channels_are None small = refl
+rtpmap_channels_are (Some n) small = (decimal n, refl, attribute_num_is 255 n small (lit< tt))
 
 channels_no_end : (channels : Option ℕ) → IfSome channels (λ n. n ≤ 255) → HoldsNoEnd (rtp_map_channels_text channels)
 channels_no_end channels small = grind (arith, no_ends, no_end, decimal_no_end)
@@ -58,7 +58,7 @@ mapping_printed pt value small keeps = attribute_printed text (RtpMap pt (mappin
       clock = let limit = keeps.clock.1 in decimal_no_end value.clock_rate (omega arith)
 
       name : IsMappingName (codec_text value.codec)
-      name = codec_has_name value.codec
+      name = mapped_codec_has_name value.codec
 
       text : List ℕ
       text = label.RTPMAP.now ++ (decimal pt ++ (codes " " ++ rtp_map_text value))
@@ -83,13 +83,13 @@ mapping_printed pt value small keeps = attribute_printed text (RtpMap pt (mappin
             channels = rtp_map_channels_text value.channels;
             joined = refl;
             number_is = attribute_num_is 127 pt small (lit< tt);
-            codec_is = ((name.filled, name.no_slash), codec_is value.codec);
+            codec_is = ((name.filled, name.no_slash), mapped_codec_read_as value.codec);
             clock_is = (
               (decimal_nonempty value.clock_rate (omega arith), attribute_decimal_lacks 47 value.clock_rate (lit≤ tt) (omega arith)),
               attribute_num_is 4294967295 value.clock_rate limit (lit< tt),
               keeps.clock.0,
             );
-            channels_is = channels_are value.channels keeps.channels;
+            channels_is = rtpmap_channels_are value.channels keeps.channels;
           }
 
 -- ---- feedback

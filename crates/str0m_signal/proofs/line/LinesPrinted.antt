@@ -1,18 +1,18 @@
 -- Printed texts are their lines, these are read one after another, and a run stops where another letter begins.
 use Rattle.str0m_signal.proofs.Common.{arith, ◌≡◌, ◌≢◌, inl, inr, get_or, ℕ, List, [], ◌∷◌, ◌++◌, refl, sym, ap, ◌∙◌, subst, codes}
-use Rattle.str0m_signal.proofs.Common.{flat_map, append_assoc, Lacks, line_end}
+use Rattle.str0m_signal.proofs.Common.{flat_map, append_assoc, Lacks, printed_line_end}
 use Rattle.str0m_signal.proofs.session.AttributesPrinted.{LinesReadAs}
 use Rattle.str0m_signal.specs.line.Lines.{Line, lines_joined, AreLines, Lines, OneLine, IsAttributeLine, Chain, StopsLines}
-use Rattle.str0m_signal.specs.session.Section.{IsField, IsBandwidth}
+use Rattle.str0m_signal.specs.session.Section.{IsSessionField, IsBandwidth}
 
 -- a line of this content that ends as printed lines do
 abbrev pub printed_line : List ℕ → Line
-printed_line content = record { content = content; ending = line_end }
+printed_line content = record { content = content; ending = printed_line_end }
 
 -- the lines end as printed lines do, and hold no end within
 abbrev pub ArePrinted : List Line → Type 0
 ArePrinted [] = Unit {0}
-ArePrinted (line ∷ lines) = (line.ending ≡ line_end) × Lacks 10 line.content × Lacks 13 line.content × ArePrinted lines
+ArePrinted (line ∷ lines) = (line.ending ≡ printed_line_end) × Lacks 10 line.content × Lacks 13 line.content × ArePrinted lines
 
 pub lines_joined-append : (xs ys : List Line) → lines_joined (xs ++ ys) ≡ lines_joined xs ++ lines_joined ys
 lines_joined-append [] ys = refl
@@ -49,8 +49,8 @@ pub lines_stop : {A : Type 0} (F : List ℕ → A → Type 0) (c : ℕ)
     → StopsLines (OneLine F) lines
 lines_stop F c begins o h a after one = grind arith
 
-pub no_field_line : (c : ℕ) (lines : List Line) → LinesApart c lines → StopsLines (OneLine (IsField (c ∷ 61 ∷ []))) lines
-no_field_line c = lines_stop (IsField (c ∷ 61 ∷ [])) c (λ content a h. (61 ∷ a, h.0))
+pub no_field_line : (c : ℕ) (lines : List Line) → LinesApart c lines → StopsLines (OneLine (IsSessionField (c ∷ 61 ∷ []))) lines
+no_field_line c = lines_stop (IsSessionField (c ∷ 61 ∷ [])) c (λ content a h. (61 ∷ a, h.0))
 
 pub no_bandwidth : (lines : List Line) → LinesApart 98 lines → StopsLines (OneLine IsBandwidth) lines
 no_bandwidth = lines_stop IsBandwidth 98 (λ content a h. (61 ∷ (a.typ ++ (codes ":" ++ a.val)), h.0))
@@ -85,8 +85,8 @@ lines_said text F (x ∷ xs) reads (inr (a, reads', e, (content, whole, no_lf, n
       lines = printed_line content ∷ more.lines;
       printed = (refl, no_lf, no_cr, more.printed);
       are =
-          ap (λ (t : List ℕ). t ++ flat_map text xs) whole ∙ append_assoc content line_end (flat_map text xs)
-          ∙ ap (λ (t : List ℕ). content ++ (line_end ++ t)) more.are;
+          ap (λ (t : List ℕ). t ++ flat_map text xs) whole ∙ append_assoc content printed_line_end (flat_map text xs)
+          ∙ ap (λ (t : List ℕ). content ++ (printed_line_end ++ t)) more.are;
       chain = λ rest.
           subst (λ rs. Chain (OneLine (IsAttributeLine F)) (printed_line content ∷ (more.lines ++ rest)) rs rest) (sym e)
           (more.lines ++ rest, (printed_line content, refl, no_cr, form), more.chain rest);

@@ -3,15 +3,16 @@ use Rattle.str0m_signal.proofs.Common.{◌≡◌, ◌⊎◌, ℕ, ◌<◌, ◌�
 use Rattle.str0m_signal.proofs.Common.{None, Some, refl, sym, ap, ◌∙◌, arith, inl, inr, lt-ltb, false≢true, append-nil, AllByRecursion}
 use Rattle.str0m_signal.proofs.Common.{list_any, Lacks, IsRest, before, lacks, when, is_rest, cut_before_front, strip_at, if◌then◌else◌}
 use Rattle.str0m_signal.proofs.Common.{take-append-drop}
-use Rattle.str0m_signal.specs.form.FmtpReading.{ends_value, NoneEnds, IsValueEnd, fmtp_value_read, is_blank, skip_blanks, fmtp_key_read}
+use Rattle.str0m_signal.specs.form.FmtpReading.{ends_value, NoneEnds, IsValueEnd, fmtp_value_read, is_pair_blank, skip_pair_blanks}
+use Rattle.str0m_signal.specs.form.FmtpReading.{fmtp_key_read}
 
 -- a text without spaces and tabs has neither
-pair_blank_in : (text : List ℕ) → list_any is_blank text ≡ not (lacks 32 text && lacks 9 text)
+pair_blank_in : (text : List ℕ) → list_any is_pair_blank text ≡ not (lacks 32 text && lacks 9 text)
 pair_blank_in [] = refl
 pair_blank_in (x ∷ xs) = grind (arith, pair_blank_in xs)
 
 -- a key is what has none and isn't empty
-pub pair_key_is : (text : List ℕ) → fmtp_key_read text ≡ (if list_any is_blank text then None else when (is_rest text) text)
+pub pair_key_is : (text : List ℕ) → fmtp_key_read text ≡ (if list_any is_pair_blank text then None else when (is_rest text) text)
 pair_key_is text = grind (arith, pair_blank_in)
 
 -- a value ends at the end of the text, at `;`, at a space or at a tab
@@ -29,7 +30,7 @@ pair_value_given value rest filled semicolon space tab ends = grind
     (arith, cut_before_front, pair_value_stop_nothing, append-nil, lt-ltb, strip_at)
 
 pub pair_blanks_skipped : (blanks text : List ℕ) → AllByRecursion (λ b. (b ≡ 32) ⊎ (b ≡ 9)) blanks
-    → skip_blanks (blanks ++ text) ≡ skip_blanks text
+    → skip_pair_blanks (blanks ++ text) ≡ skip_pair_blanks text
 pair_blanks_skipped [] text h = refl
 pair_blanks_skipped (x ∷ xs) text h = elim h.0
     [ inl e ↦ rw e (pair_blanks_skipped xs text h.1) | inr e ↦ rw e (pair_blanks_skipped xs text h.1) ]

@@ -3,10 +3,9 @@ use Rattle.str0m_signal.proofs.Common.{◌≡◌, ◌⊎◌, ℕ, ◌<◌, true,
 use Rattle.str0m_signal.proofs.Common.{IfOk, Bool, refl, sym, ap, subst, ◌∙◌, arith, inl, inr, length-append, is_some, ne_eqb, eq-eqb}
 use Rattle.str0m_signal.proofs.Common.{Lacks, ◌>>=◌, cut, PartedAddress, cuts_bind_some, cuts_some_is, cut_found, cut_none_lacks, Reads}
 use Rattle.str0m_signal.proofs.Common.{append_assoc}
-use Rattle.str0m_signal.proofs.Common.{Vec}
-use Rattle.str0m_signal.proofs.Common.{Global, option_map, slice_split, onto_first}
+use Rattle.str0m_signal.proofs.Common.{option_map, slice_split, onto_first}
 use Rattle.str0m_signal.specs.form.FormReading.{all_read, parted_read}
-use Rattle.str0m_signal.specs.line.LinesReading.{TakesPart}
+use Rattle.str0m_signal.specs.line.LinesReading.{TakesLast}
 
 abbrev pub part_with_front : {A : Type 0} → List A → Option (List A) → Option (List A)
 part_with_front front read = option_map (λ xs. front ++ xs) read
@@ -33,14 +32,10 @@ part_some_bound (Some xs) x = refl
 pub part_cut_shorter : (c : ℕ) (text a b : List ℕ) → cut c text ≡ Some (a, b) → length b < length text
 part_cut_shorter c text a b e = let found = cut_found c text a b e in omega (arith, ap length found.0, length-append a (c ∷ b))
 
--- the item stands after the others
-abbrev PutsPartLast : {A : Type 0} → Vec A Global → A → Vec A Global → Type 0
-PutsPartLast old item new = new.items ≡ old.items ++ item ∷ []
-
 -- what was read is taken, where memory wasn't refused
-pub takes_read : {A E : Type 0} (answer : Result (Option A) E) (read : Option A) (old new : Vec A Global) (taken : Bool)
+pub takes_read : {A E : Type 0} (answer : Result (Option A) E) (read : Option A) (old new : List A) (taken : Bool)
     → IfOk answer (λ found. found ≡ read)
-    → (found : Option A) × (answer ≡ Ok found) × TakesPart PutsPartLast found old new taken → TakesPart PutsPartLast read old new taken
+    → (found : Option A) × (answer ≡ Ok found) × TakesLast found old new taken → TakesLast read old new taken
 takes_read {A} {E} answer read old new taken ensures given = grind arith
 
 module _ {A : Type 0} (c : ℕ) (f : List ℕ → Option A) where

@@ -6,7 +6,7 @@ use Rattle.str0m_signal.proofs.form.FmtpPrinted.{fmtp_behind_lacks}
 use Rattle.str0m_signal.proofs.form.FormPiecesAgain.{Again, text_again, two_again, parted_again}
 use Rattle.str0m_signal.proofs.line.WordsCharacterStarts.{StartsWithin, front_starts, behind_starts, kept_word_filled}
 use Rattle.str0m_signal.specs.form.Forms.{IsText, TwoFormParts}
-use Rattle.str0m_signal.specs.line.Words.{IsWordText, IsKeptName, IsHexPair, IsGroup, AreGroupNames, IsMsidSemantic}
+use Rattle.str0m_signal.specs.line.Words.{IsWordText, IsKeptWordName, IsHexPair, IsGroup, AreGroupNames, IsMsidSemantic}
 
 pub word_again : Again IsWordText (λ x. x)
 word_again = grind arith
@@ -22,7 +22,7 @@ word_kept_lacks c room text kept h lacks = LacksCut-append c kept h.begins.0 (su
 
 -- a name of which something is kept
 abbrev pub IsFilledWord : List ℕ → List ℕ → Type 0
-IsFilledWord text name = IsKeptName text name × IsRest name
+IsFilledWord text name = IsKeptWordName text name × IsRest name
 
 name_again : Again IsFilledWord (λ x. x)
 name_again = record {
@@ -57,7 +57,7 @@ word_pairs_are_joined bytes = grind arith
 abbrev pub AreWordsFilled : List (List ℕ) → Type 0
 AreWordsFilled names = AllByRecursion IsRest names
 
-word_names_filled : (text : List ℕ) (names : List (List ℕ)) → StartsWithin 3 text → PartedAddress 32 IsKeptName text names
+word_names_filled : (text : List ℕ) (names : List (List ℕ)) → StartsWithin 3 text → PartedAddress 32 IsKeptWordName text names
     → AreWordsFilled names
 word_names_filled text [] starts h = tt
 word_names_filled text (x ∷ []) starts h = (kept_word_filled text x h.0.0 starts h.1, tt)
@@ -77,14 +77,14 @@ word_kind_and_names text typ (name ∷ names) starts h =
 pub group_filled : (text : List ℕ) (group : List ℕ × List (List ℕ)) → StartsWithin 3 text → IsGroup text group → AreWordsFilled group.1
 group_filled text group starts h = grind (arith, word_kind_and_names, front_starts)
 
-word_filled_names : (text : List ℕ) (names : List (List ℕ)) → PartedAddress 32 IsKeptName text names → AreWordsFilled names
+word_filled_names : (text : List ℕ) (names : List (List ℕ)) → PartedAddress 32 IsKeptWordName text names → AreWordsFilled names
     → PartedAddress 32 IsFilledWord text names
 word_filled_names text [] h filled = h
 word_filled_names text (x ∷ []) h filled = (h, filled.0)
 word_filled_names text (x ∷ (y ∷ ys)) h filled = (h.0, h.1, h.2, (h.3, filled.0), word_filled_names h.1 (y ∷ ys) h.4 filled.1)
 
 word_only_names : (text : List ℕ) (names : List (List ℕ)) → PartedAddress 32 IsFilledWord text names
-    → PartedAddress 32 IsKeptName text names
+    → PartedAddress 32 IsKeptWordName text names
 word_only_names text [] h = h
 word_only_names text (x ∷ []) h = h.0
 word_only_names text (x ∷ (y ∷ ys)) h = (h.0, h.1, h.2, h.3.0, word_only_names h.1 (y ∷ ys) h.4)

@@ -11,11 +11,11 @@ use Rattle.str0m_signal.proofs.line.LinesLaws.{line_found, line_given}
 use Rattle.str0m_signal.proofs.session.SectionLaws.{section_field_both}
 use Rattle.str0m_signal.specs.form.FormReading.{digits_read}
 use Rattle.str0m_signal.specs.line.Lines.{Line}
-use Rattle.str0m_signal.specs.session.Header.{IsExactly, IsDigits, IsOrigin, IsHeaderField, IsInfo, IsHeaderOpening}
+use Rattle.str0m_signal.specs.session.Header.{IsExactHeaderLine, IsDigits, IsOrigin, IsHeaderField, IsHeaderInfo, IsHeaderOpening}
 use Rattle.str0m_signal.specs.session.HeaderReading.{exact_read, origin_read, one_field_read, info_read, opening_read}
-use Rattle.str0m_signal.specs.session.Section.{IsField}
+use Rattle.str0m_signal.specs.session.Section.{IsSessionField}
 
-pub header_exact_line_both : (word : List ℕ) → Reads (IsExactly word) (exact_read word)
+pub header_exact_line_both : (word : List ℕ) → Reads (IsExactHeaderLine word) (exact_read word)
 header_exact_line_both word = grind (arith, cuts_when_some, bytes_eq-Decides, num_when_true)
 
 -- at most 64 bits
@@ -70,7 +70,7 @@ origin_both = record { sound = found; complete = given }
           num_rest_true h.more h.more_is,
         ) refl
 
-header_one_field_behind : (letter : List ℕ) → length letter ≡ 2 → (content text : List ℕ) → IsField letter content text
+header_one_field_behind : (letter : List ℕ) → length letter ≡ 2 → (content text : List ℕ) → IsSessionField letter content text
     → text ≡ drop 2 content
 header_one_field_behind letter two content text h = sym (rw (h.0, ← two) (drop-append_seam letter text))
 
@@ -89,7 +89,7 @@ header_fields_both (letter ∷ letters) two =
     (λ content text other h k. header_one_field_behind letter two.0 content text h
     ∙ sym (header_field_behind letters two.1 content other k))
 
-pub header_info_both : Reads IsInfo info_read
+pub header_info_both : Reads IsHeaderInfo info_read
 header_info_both = search (rules, header_fields_both)
 
 pub header_opening_found : (lines : List Line) (id : ℕ) (rest : List Line) → opening_read lines ≡ Some (id, rest)

@@ -2,7 +2,7 @@
 use Rattle.str0m_formats.proofs.{type_times-append}
 use Rattle.str0m_signal.proofs.Common.{◌≡◌, ◌≢◌, ◌≤◌, ℕ, Bool, true, false, cond, filter, List, [], ◌∷◌, arith, AllByRecursion}
 use Rattle.str0m_signal.proofs.Common.{recursion_from_All, types, types_of, PayloadParams, IsPlain, All-from_recursion, type_times}
-use Rattle.str0m_signal.specs.back.ReadBack.{MayBePrinted}
+use Rattle.str0m_signal.specs.back.ReadBack.{CanRowsBeReadBack}
 
 module _ (pick : PayloadParams → Bool) where
   picked_hold : (P : PayloadParams → Type 0) (rows : List PayloadParams) → AllByRecursion P rows → AllByRecursion P (filter pick rows)
@@ -26,13 +26,13 @@ module _ (pick : PayloadParams → Bool) where
     )
     go false more = omega (arith, more, type_times-append (types_of row) (types rows) t)
 
-  picked_printable : (rows : List PayloadParams) → MayBePrinted rows → filter pick rows ≢ [] → MayBePrinted (filter pick rows)
+  picked_printable : (rows : List PayloadParams) → CanRowsBeReadBack rows → filter pick rows ≢ [] → CanRowsBeReadBack (filter pick rows)
   picked_printable rows may some = record {
     some = some;
     plain = All-from_recursion IsPlain (filter pick rows) (picked_hold IsPlain rows (recursion_from_All IsPlain rows may.plain));
     distinct = λ t. omega (arith, picked_fewer rows t, may.distinct t);
   }
 
-  pub locked_printable_as : (rows picked : List PayloadParams) → MayBePrinted rows → picked ≡ filter pick rows → picked ≢ []
-      → MayBePrinted picked
+  pub locked_printable_as : (rows picked : List PayloadParams) → CanRowsBeReadBack rows → picked ≡ filter pick rows → picked ≢ []
+      → CanRowsBeReadBack picked
   locked_printable_as rows picked may e some = grind (arith, picked_printable)

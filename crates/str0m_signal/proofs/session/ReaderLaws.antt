@@ -11,14 +11,14 @@ use Rattle.str0m_signal.proofs.session.SectionLaws.{section_field_both, bandwidt
 use Rattle.str0m_signal.specs.form.MediaAttribute.{IsMediaLine}
 use Rattle.str0m_signal.specs.form.SessionAttribute.{IsSessionLine}
 use Rattle.str0m_signal.specs.line.Lines.{Line, OneLine, Chain, StopsLines, Run, TakenLine}
-use Rattle.str0m_signal.specs.session.Header.{Header, IsExactly, IsInfo, IsHeader}
+use Rattle.str0m_signal.specs.session.Header.{Header, IsExactHeaderLine, IsHeaderInfo, IsHeader}
 use Rattle.str0m_signal.specs.session.HeaderReading.{opening_read}
 use Rattle.str0m_signal.specs.session.Reader.{ConsistentSection, Sections, IsSession, IsReading}
-use Rattle.str0m_signal.specs.session.Section.{IsField, IsBandwidth, Head, IsHead, IsSection}
+use Rattle.str0m_signal.specs.session.Section.{IsSessionField, IsBandwidth, Head, IsHead, IsSection}
 
 -- where two headers of the same lines have their timing
 module _ (lines : List Line) (id : ℕ) (l1 l2 l3 : List Line) (infos : List (List ℕ)) (bw : Option Bandwidth)
-    (open_is : opening_read lines ≡ Some (id, l1)) (infos_are : Run (OneLine IsInfo) l1 infos l2)
+    (open_is : opening_read lines ≡ Some (id, l1)) (infos_are : Run (OneLine IsHeaderInfo) l1 infos l2)
     (bw_is : TakenLine (OneLine IsBandwidth) l2 bw l3) where
   reader_before_timing : (header : Header) (rest : List Line) (h : IsHeader lines header rest)
       → (id ≡ header.id) × (bw ≡ header.bw) × (l3 ≡ h.after_bandwidth)
@@ -26,18 +26,18 @@ module _ (lines : List Line) (id : ℕ) (l1 l2 l3 : List Line) (infos : List (Li
       let pair = some_pair_parts id header.id l1 h.after_opening (sym open_is
       ∙ header_opening_given lines header.id h.after_opening h.opening_is)
       in
-      let run = chain_ends (OneLine IsInfo) (one_line_only header_info_both) l1 infos h.infos l2 h.after_infos infos_are
-      (subst (λ (ls : List Line). Run (OneLine IsInfo) ls h.infos h.after_infos) (sym pair.1) h.infos_are) in
+      let run = chain_ends (OneLine IsHeaderInfo) (one_line_only header_info_both) l1 infos h.infos l2 h.after_infos infos_are
+      (subst (λ (ls : List Line). Run (OneLine IsHeaderInfo) ls h.infos h.after_infos) (sym pair.1) h.infos_are) in
       let taken = chain_taken_only (OneLine IsBandwidth) (one_line_only bandwidth_both) l2 bw header.bw l3 h.after_bandwidth bw_is
       (subst (λ (ls : List Line). TakenLine (OneLine IsBandwidth) ls header.bw h.after_bandwidth) (sym run.1) h.bandwidth_is) in
       (pair.0, taken.0, taken.1)
 
-  pub reader_no_timing : StopsLines (OneLine (IsExactly (codes "t=0 0"))) l3 → (header : Header) (rest : List Line)
+  pub reader_no_timing : StopsLines (OneLine (IsExactHeaderLine (codes "t=0 0"))) l3 → (header : Header) (rest : List Line)
       → IsHeader lines header rest → ⊥
   reader_no_timing stops header rest h =
       let same = reader_before_timing header rest h in
       stops (codes "t=0 0") h.after_timing
-      (subst (λ (ls : List Line). OneLine (IsExactly (codes "t=0 0")) ls (codes "t=0 0") h.after_timing) (sym same.2) h.timing_is)
+      (subst (λ (ls : List Line). OneLine (IsExactHeaderLine (codes "t=0 0")) ls (codes "t=0 0") h.after_timing) (sym same.2) h.timing_is)
 
 abbrev header_of : ℕ → Option Bandwidth → Header
 header_of id bw = record { id = id; bw = bw }
@@ -48,11 +48,12 @@ header_only lines a b after after' h k =
     (header_opening_given lines a.id h.after_opening h.opening_is) h.infos_are h.bandwidth_is b after' k in
     let timing = one_line_only (header_exact_line_both (codes "t=0 0")) h.after_bandwidth (codes "t=0 0") (codes "t=0 0") h.after_timing
     k.after_timing
-    h.timing_is (subst (λ (ls : List Line). OneLine (IsExactly (codes "t=0 0")) ls (codes "t=0 0") k.after_timing) (sym same.2)
+    h.timing_is (subst (λ (ls : List Line). OneLine (IsExactHeaderLine (codes "t=0 0")) ls (codes "t=0 0") k.after_timing) (sym same.2)
     k.timing_is) in
-    let repeats = chain_ends (OneLine (IsField (codes "r="))) (one_line_only (section_field_both (codes "r="))) h.after_timing h.repeats
+    let repeats = chain_ends (OneLine (IsSessionField (codes "r="))) (one_line_only (section_field_both (codes "r="))) h.after_timing
+    h.repeats
     k.repeats
-    after after' h.repeats_are (subst (λ (ls : List Line). Run (OneLine (IsField (codes "r="))) ls k.repeats after') (sym timing.1)
+    after after' h.repeats_are (subst (λ (ls : List Line). Run (OneLine (IsSessionField (codes "r="))) ls k.repeats after') (sym timing.1)
     k.repeats_are) in
     (ap (λ (i : ℕ). header_of i a.bw) same.0 ∙ ap (λ (w : Option Bandwidth). header_of b.id w) same.1, repeats.1)
 
@@ -62,10 +63,11 @@ section_from head bw attrs = record { typ = head.typ; disabled = head.disabled; 
 pub section_only : OnlyOneLine IsSection
 section_only lines a b after after' h k =
     let head = one_line_only head_both lines (head_of a) (head_of b) h.after_head k.after_head h.head_is k.head_is in
-    let connection = chain_taken_only (OneLine (IsField (codes "c="))) (one_line_only (section_field_both (codes "c="))) h.after_head
+    let connection = chain_taken_only (OneLine (IsSessionField (codes "c="))) (one_line_only (section_field_both (codes "c="))) h.after_head
     h.connection
     k.connection h.after_connection k.after_connection h.connection_is
-    (subst (λ (ls : List Line). TakenLine (OneLine (IsField (codes "c="))) ls k.connection k.after_connection) (sym head.1) k.connection_is)
+    (subst (λ (ls : List Line). TakenLine (OneLine (IsSessionField (codes "c="))) ls k.connection k.after_connection) (sym head.1)
+    k.connection_is)
     in
     let bandwidth = chain_taken_only (OneLine IsBandwidth) (one_line_only bandwidth_both) h.after_connection a.bw b.bw h.after_bandwidth
     k.after_bandwidth h.bandwidth_is

@@ -4,10 +4,10 @@ use Rattle.str0m_signal.proofs.Common.{append_assoc, codes, Bor, SdpError}
 use Rattle.str0m_signal.specs.form.MediaAttribute.{IsMediaLine}
 use Rattle.str0m_signal.specs.form.SessionAttribute.{IsSessionLine}
 use Rattle.str0m_signal.specs.line.Lines.{Chain, TakenLine, Line, Lines, OneLine, OfText}
-use Rattle.str0m_signal.specs.session.Header.{IsExactly, IsHeader, IsInfo, IsOrigin}
+use Rattle.str0m_signal.specs.session.Header.{IsExactHeaderLine, IsHeader, IsHeaderInfo, IsOrigin}
 use Rattle.str0m_signal.specs.session.Reader.{IsFromLine, ConsistentSection, IsReading, IsSession}
 use Rattle.str0m_signal.specs.session.ReaderAnswers.{Answers, unread}
-use Rattle.str0m_signal.specs.session.Section.{IsBandwidth, IsField, IsHead}
+use Rattle.str0m_signal.specs.session.Section.{IsBandwidth, IsSessionField, IsHead}
 
 -- the last of these lines, and those before them
 pub record LeavesLines (lines rest : List Line) : Type 0 where
@@ -46,20 +46,20 @@ rest_taken_leaves F lines (Some a) rest h = rest_one_leaves F lines a rest h
 header_leaves_rest : ReaderAlwaysLeaves IsHeader
 header_leaves_rest lines header rest h =
     let o = h.opening_is in
-    rest_both_leave (rest_one_leaves (IsExactly (codes "v=0")) lines (codes "v=0") o.after_version o.version_is)
+    rest_both_leave (rest_one_leaves (IsExactHeaderLine (codes "v=0")) lines (codes "v=0") o.after_version o.version_is)
     (rest_both_leave (rest_one_leaves IsOrigin o.after_version header.id o.after_origin o.origin_is)
-    (rest_both_leave (rest_one_leaves (IsField (codes "s=")) o.after_origin o.name h.after_opening o.name_is)
-    (rest_both_leave (lines_leave IsInfo h.after_opening h.infos h.after_infos h.infos_are.0)
+    (rest_both_leave (rest_one_leaves (IsSessionField (codes "s=")) o.after_origin o.name h.after_opening o.name_is)
+    (rest_both_leave (lines_leave IsHeaderInfo h.after_opening h.infos h.after_infos h.infos_are.0)
     (rest_both_leave (rest_taken_leaves IsBandwidth h.after_infos header.bw h.after_bandwidth h.bandwidth_is)
-    (rest_both_leave (rest_one_leaves (IsExactly (codes "t=0 0")) h.after_bandwidth (codes "t=0 0") h.after_timing h.timing_is)
-    (lines_leave (IsField (codes "r=")) h.after_timing h.repeats rest h.repeats_are.0))))))
+    (rest_both_leave (rest_one_leaves (IsExactHeaderLine (codes "t=0 0")) h.after_bandwidth (codes "t=0 0") h.after_timing h.timing_is)
+    (lines_leave (IsSessionField (codes "r=")) h.after_timing h.repeats rest h.repeats_are.0))))))
 
 section_leaves : ReaderAlwaysLeaves ConsistentSection
 section_leaves lines m rest h =
     let s = h.0 in
     rest_both_leave
     (rest_one_leaves IsHead lines (record { typ = m.typ; disabled = m.disabled; proto = m.proto; pts = m.pts }) s.after_head s.head_is)
-    (rest_both_leave (rest_taken_leaves (IsField (codes "c=")) s.after_head s.connection s.after_connection s.connection_is)
+    (rest_both_leave (rest_taken_leaves (IsSessionField (codes "c=")) s.after_head s.connection s.after_connection s.connection_is)
     (rest_both_leave (rest_taken_leaves IsBandwidth s.after_connection m.bw s.after_bandwidth s.bandwidth_is)
     (lines_leave IsMediaLine s.after_bandwidth m.attrs rest s.attributes_are.0)))
 

@@ -10,12 +10,12 @@ use Rattle.str0m_signal.proofs.Common.{cuts_bind_some, cuts_some_is}
 use Rattle.str0m_signal.proofs.Common.{sound_cut_or, cuts_reads_first, number_lacks, num_rest_true, candidate_num_both, Reads}
 use Rattle.str0m_signal.proofs.Common.{false_from_ne_true, APPLICATION}
 use Rattle.str0m_signal.proofs.line.PartLaws.{parted_both}
-use Rattle.str0m_signal.specs.session.Section.{IsField, IsBandwidth, TextBegins, IsMediaKindText, IsProto, NoTypes, Head, IsHead}
+use Rattle.str0m_signal.specs.session.Section.{IsSessionField, IsBandwidth, TextBegins, IsMediaKindText, IsProto, NoTypes, Head, IsHead}
 use Rattle.str0m_signal.specs.session.SectionReading.{field_read, bandwidth_read, unknown_read, media_kind_read, proto_read, numbers_read}
 use Rattle.str0m_signal.specs.session.SectionReading.{no_types_read, types_read, head_read}
 use Rattle.str0m_values.proofs.WordLaws.{word_sound}
 
-pub section_field_both : (letter : List ℕ) → Reads (IsField letter) (field_read letter)
+pub section_field_both : (letter : List ℕ) → Reads (IsSessionField letter) (field_read letter)
 section_field_both letter = grind (arith, cuts_bind_some, cuts_when_some, ltb-true, strip_found, strip_at, num_rest_true)
 
 pub bandwidth_both : Reads IsBandwidth bandwidth_read

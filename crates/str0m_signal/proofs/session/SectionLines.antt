@@ -4,7 +4,7 @@ use Rattle.str0m_sdp.specs.declared.attribute.media_type.MediaType.TheVariants a
 use Rattle.str0m_signal.proofs.Common.{◌≡◌, ◌≤◌, inl, ℕ, Bool, true, List, [], ◌∷◌, ◌++◌, refl, sym, ap, ◌∙◌, subst, arith, lit<, ◌↔◌}
 use Rattle.str0m_signal.proofs.Common.{IsTrue, codes, AllByRecursion, join_by, decimal, append_assoc, append-nil, FirstFit, PartedAddress}
 use Rattle.str0m_signal.proofs.Common.{IsWord}
-use Rattle.str0m_signal.proofs.Common.{IsNum, line_end, m_line_pts_text, formats_text, m_line, media_type_text, is_media, MediaLine}
+use Rattle.str0m_signal.proofs.Common.{IsNum, printed_line_end, m_line_pts_text, formats_text, m_line, media_type_text, is_media, MediaLine}
 use Rattle.str0m_signal.proofs.Common.{MediaType}
 use Rattle.str0m_signal.proofs.Common.{Proto, port_text}
 use Rattle.str0m_signal.proofs.session.AttributesPrinted.{HoldsNoEnd, no_ends, no_end, attribute_num_is, decimal_no_end}
@@ -49,7 +49,7 @@ abbrev head_text : List ℕ → List ℕ → List ℕ → List ℕ → List ℕ
 head_text kind port protocol types = codes "m=" ++ (kind ++ (codes " " ++ (port ++ (codes " " ++ (protocol ++ (codes " " ++ types))))))
 
 head_whole : (kind port protocol types : List ℕ)
-    → head_text kind port protocol (types ++ line_end) ≡ head_text kind port protocol types ++ line_end
+    → head_text kind port protocol (types ++ printed_line_end) ≡ head_text kind port protocol types ++ printed_line_end
 head_whole kind port protocol types = sym (simp append_assoc)
 
 head_no_end : (kind port protocol types : List ℕ) → HoldsNoEnd kind → HoldsNoEnd port → HoldsNoEnd protocol → HoldsNoEnd types
@@ -67,7 +67,7 @@ head_line_read m types pts kind printed no_end are =
     let text = head_text (media_type_text m.typ) (port_text m.disabled) (proto_text m.proto) types in
     let quiet = head_no_end (media_type_text m.typ) (port_text m.disabled) (proto_text m.proto) types kind.2 port.1 protocol.1 no_end in (
       text,
-      ap (λ (t : List ℕ). head_text (media_type_text m.typ) (port_text m.disabled) (proto_text m.proto) (t ++ line_end)) printed
+      ap (λ (t : List ℕ). head_text (media_type_text m.typ) (port_text m.disabled) (proto_text m.proto) (t ++ printed_line_end)) printed
           ∙ head_whole (media_type_text m.typ) (port_text m.disabled) (proto_text m.proto) types,
       quiet.0,
       quiet.1,

@@ -1,7 +1,7 @@
 -- Printed sections are read as sections, one after another.
 use Rattle.str0m_signal.proofs.Common.{◌≡◌, ◌≢◌, ℕ, List, [], ◌∷◌, ◌++◌, Option, Some, None, IfSome, refl, sym, ap, ◌∙◌, subst, arith, lit<}
 use Rattle.str0m_signal.proofs.Common.{codes, flat_map, append_assoc, lacks_cut_from, media_attribute_text, bandwidth_text, Consistent}
-use Rattle.str0m_signal.proofs.Common.{line_end, m_line, media_line_text, Bandwidth, MediaLine, bandwidth_line}
+use Rattle.str0m_signal.proofs.Common.{printed_line_end, m_line, media_line_text, Bandwidth, MediaLine, bandwidth_line}
 use Rattle.str0m_signal.proofs.line.LinesPrinted.{printed_line, ArePrinted, lines_joined-append, printed-append, LinesApart}
 use Rattle.str0m_signal.proofs.line.LinesPrinted.{printed_lines_apart-append, apart}
 use Rattle.str0m_signal.proofs.line.LinesPrinted.{no_bandwidth, no_attribute, SaidLines, lines_said}
@@ -85,10 +85,10 @@ said_section m read h = go h.head where
         );
         are =
             ap (λ (t : List ℕ). t ++ (codes "c=IN IP4 0.0.0.0" ++
-            (line_end ++ (bandwidth_line m.bw ++ flat_map media_attribute_text m.attrs)))) whole
-            ∙ append_assoc content line_end
-            (codes "c=IN IP4 0.0.0.0" ++ (line_end ++ (bandwidth_line m.bw ++ flat_map media_attribute_text m.attrs)))
-            ∙ ap (λ (t : List ℕ). content ++ (line_end ++ (codes "c=IN IP4 0.0.0.0" ++ (line_end ++ t)))) behind;
+            (printed_line_end ++ (bandwidth_line m.bw ++ flat_map media_attribute_text m.attrs)))) whole
+            ∙ append_assoc content printed_line_end
+            (codes "c=IN IP4 0.0.0.0" ++ (printed_line_end ++ (bandwidth_line m.bw ++ flat_map media_attribute_text m.attrs)))
+            ∙ ap (λ (t : List ℕ). content ++ (printed_line_end ++ (codes "c=IN IP4 0.0.0.0" ++ (printed_line_end ++ t)))) behind;
         section = λ rest no_a no_b.
             let is : IsSection (head ∷ (connection ∷ (bw.lines ++ (attrs.lines ++ rest)))) made rest = record {
               after_head = connection ∷ (bw.lines ++ (attrs.lines ++ rest));

@@ -2,7 +2,7 @@
 use Rattle.str0m_sdp.specs.declared.session.Session.{Session as TheSession}
 use Rattle.str0m_signal.proofs.Common.{◌≡◌, ◌≢◌, ◌<◌, ◌^◌, ℕ, List, [], ◌∷◌, ◌++◌, Option, IfSome, refl, sym, ap, ◌∙◌, subst, arith, lit<}
 use Rattle.str0m_signal.proofs.Common.{codes, flat_map, decimal, decimal_is_IsNumeral, append_assoc, Lacks, lacks_cut_from}
-use Rattle.str0m_signal.proofs.Common.{session_attribute_text, bandwidth_text, line_end, Bandwidth, SessionAttribute, origin_line}
+use Rattle.str0m_signal.proofs.Common.{session_attribute_text, bandwidth_text, printed_line_end, Bandwidth, SessionAttribute, origin_line}
 use Rattle.str0m_signal.proofs.Common.{session_text}
 use Rattle.str0m_signal.proofs.line.LinesPrinted.{printed_line, ArePrinted, lines_joined-append, printed-append, LinesApart}
 use Rattle.str0m_signal.proofs.line.LinesPrinted.{printed_lines_apart-append, apart}
@@ -12,7 +12,7 @@ use Rattle.str0m_signal.proofs.session.Sections.{SaidBandwidth, said_bandwidth}
 use Rattle.str0m_signal.specs.back.Writable.{IsReadBackLine}
 use Rattle.str0m_signal.specs.form.SessionAttribute.{SessionForm, IsSessionLine}
 use Rattle.str0m_signal.specs.line.Lines.{StopsLines, Line, lines_joined, OneLine}
-use Rattle.str0m_signal.specs.session.Header.{IsHeader, IsOrigin, IsInfo}
+use Rattle.str0m_signal.specs.session.Header.{IsHeader, IsOrigin, IsHeaderInfo}
 use Rattle.str0m_signal.specs.session.Reader.{IsSession}
 use Rattle.str0m_signal.specs.session.Section.{IsBandwidth}
 
@@ -40,7 +40,7 @@ origin_no_end id small = grind (arith, no_ends, no_end, decimal_no_end)
 
 -- ---- the header
 
-header_infos_stop : (lines : List Line) → ((c : ℕ) → c ≢ 98 → c ≢ 116 → LinesApart c lines) → StopsLines (OneLine IsInfo) lines
+header_infos_stop : (lines : List Line) → ((c : ℕ) → c ≢ 98 → c ≢ 116 → LinesApart c lines) → StopsLines (OneLine IsHeaderInfo) lines
 header_infos_stop [] letter k after one = let e = one.1 in absurd cc
 header_infos_stop (line ∷ lines) letter k after one = grind arith
 
@@ -149,14 +149,15 @@ said_session session reads small bandwidth attributes = record {
 
     front : List ℕ → List ℕ → List ℕ
     front between more =
-        codes "v=0" ++ (line_end ++ (origin_line session.id ++
-        (codes "s=-" ++ (line_end ++ (between ++ (codes "t=0 0" ++ (line_end ++ more)))))))
+        codes "v=0" ++ (printed_line_end ++ (origin_line session.id ++
+        (codes "s=-" ++ (printed_line_end ++ (between ++ (codes "t=0 0" ++ (printed_line_end ++ more)))))))
 
     joined_front : lines_joined (header_lines session.id b.lines ++ attrs.lines) ≡ front (lines_joined b.lines) (lines_joined attrs.lines)
     joined_front =
         lines_joined-append (header_lines session.id b.lines) attrs.lines
         ∙ ap (λ (t : List ℕ). (codes "v=0" ++
-        (line_end ++ (session_printed_origin session.id ++ (line_end ++ (codes "s=-" ++ (line_end ++ t)))))) ++ lines_joined attrs.lines)
+        (printed_line_end ++ (session_printed_origin session.id ++ (printed_line_end ++ (codes "s=-" ++ (printed_line_end ++ t))))))
+        ++ lines_joined attrs.lines)
         (lines_joined-append b.lines (timing_lines ∷ []))
         ∙ simp append_assoc
 

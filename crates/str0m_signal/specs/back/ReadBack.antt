@@ -20,7 +20,7 @@ pub record ReadBack (sdp : Sdp) (i : ℕ) (frame : MediaLine) (theirs : List Pay
   pub same : AllZip SameRow (rows section) theirs
 
 -- there is a row, each is plain, and no payload type stands twice
-pub record MayBePrinted (theirs : List PayloadParams) : Type 0 where
+pub record CanRowsBeReadBack (theirs : List PayloadParams) : Type 0 where
   pub some : theirs ≢ []
   pub plain : All IsPlain theirs
   pub distinct : AllTypesDistinct (types theirs)

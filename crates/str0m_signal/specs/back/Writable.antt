@@ -4,7 +4,7 @@ use Rattle.str0m_sdp.specs.declared.attribute.MediaAttribute.TheVariants as medi
 use Rattle.str0m_sdp.specs.declared.attribute.SessionAttribute.TheVariants as session
 use Rattle.str0m_sdp.specs.section.Alike.{Alike}
 use Rattle.str0m_sdp.specs.section.MediaLine.{m_line}
-use Rattle.str0m_signal.specs.Prelude.{Consistent, IsTheOnly, Lacks, MediaAttribute, MediaLine, Sdp, SessionAttribute, bandwidth_text, is_direction, is_mid, is_of_type, is_setup, line_end, media_attribute_text, session_attribute_text}
+use Rattle.str0m_signal.specs.Prelude.{Consistent, IsTheOnly, Lacks, MediaAttribute, MediaLine, Sdp, SessionAttribute, bandwidth_text, is_direction, is_mid, is_of_type, is_setup, printed_line_end, media_attribute_text, session_attribute_text}
 use Rattle.str0m_signal.specs.form.MediaAttribute.{IsMediaLine}
 use Rattle.str0m_signal.specs.form.SessionAttribute.{IsSessionLine}
 use Rattle.str0m_signal.specs.line.LinesReading.{read_attribute}
@@ -12,7 +12,7 @@ use Rattle.str0m_signal.specs.session.Section.{IsBandwidth, IsHead}
 
 -- the text is one printed line, which has the form F of the value
 abbrev pub IsReadBackLine : {A : Type 0} → (List ℕ → A → Type 0) → List ℕ → A → Type 0
-IsReadBackLine F text value = (content : List ℕ) × (text ≡ content ++ line_end) × Lacks 10 content × Lacks 13 content × F content value
+IsReadBackLine F text value = (content : List ℕ) × (text ≡ content ++ printed_line_end) × Lacks 10 content × Lacks 13 content × F content value
 
 -- each item prints nothing, or one line that is read as the value in its place, which goes with the item
 abbrev pub AreReadAs : {X : Type 0} → (X → List ℕ) → (List ℕ → X → Type 0) → (X → X → Type 0) → List X → List X → Type 0
@@ -48,7 +48,7 @@ abbrev pub writable_frame_of : MediaLine → MediaLine
 writable_frame_of m = record m { attrs = filter (λ attr. not (is_of_type attr)) m.attrs }
 
 -- a frame as its lines are read: one mid, at most one setup, one direction, and no lines of payload types
-pub record IsFrame (m : MediaLine) : Type 0 where
+pub record IsWritableFrame (m : MediaLine) : Type 0 where
   pub mid : count_by is_mid m.attrs ≡ 1
   pub setup : count_by is_setup m.attrs ≤ 1
   pub direction : count_by is_direction m.attrs ≡ 1
@@ -67,7 +67,7 @@ pub record Writable (sdp : Sdp) (i : ℕ) : Type 0 where
   pub bandwidth : IfSome sdp.session.bw (λ bw. IsReadBackLine IsBandwidth (bandwidth_text bw) bw)
   pub others : (j : ℕ) (m : MediaLine) → slice_get sdp.media_lines j ≡ Some m → j ≢ i
       → (read : MediaLine) × IsMediaReadAs m read × Consistent read
-  pub own : (read : MediaLine) × IsMediaReadAs (writable_frame_of section) read × IsFrame read
+  pub own : (read : MediaLine) × IsMediaReadAs (writable_frame_of section) read × IsWritableFrame read
 
 -- the line is read so by a function
 abbrev pub IsReadBy : {A : Type 0} → (List ℕ → Option A) → List ℕ → A → Type 0

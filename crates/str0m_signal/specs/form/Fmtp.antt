@@ -8,11 +8,11 @@ use Rattle.str0m_signal.specs.Prelude.{FirstFit, FormatParam, IsEventRange, IsNu
 use Rattle.str0m_signal.specs.form.Forms.{Behind}
 
 -- a space or a tab
-abbrev pub IsBlank : ℕ → Type 0
-IsBlank b = (b ≡ 32) ⊎ (b ≡ 9)
+abbrev pub IsFmtpBlank : ℕ → Type 0
+IsFmtpBlank b = (b ≡ 32) ⊎ (b ≡ 9)
 
-abbrev pub AreBlanks : List ℕ → Type 0
-AreBlanks text = AllByRecursion IsBlank text
+abbrev pub AreFmtpBlanks : List ℕ → Type 0
+AreFmtpBlanks text = AllByRecursion IsFmtpBlank text
 
 -- one or more characters other than `=`, space and tab
 abbrev pub IsFmtpKey : List ℕ → Type 0
@@ -24,18 +24,18 @@ IsFmtpValue text = IsRest text × Lacks 59 text × Lacks 32 text × Lacks 9 text
 
 -- nothing, or `;` and blanks
 abbrev pub IsFmtpEnd : List ℕ → Type 0
-IsFmtpEnd text = (text ≡ []) ⊎ ((blanks : List ℕ) × (text ≡ codes ";" ++ blanks) × AreBlanks blanks)
+IsFmtpEnd text = (text ≡ []) ⊎ ((blanks : List ℕ) × (text ≡ codes ";" ++ blanks) × AreFmtpBlanks blanks)
 
-abbrev pub StartsUnblank : List ℕ → Type 0
-StartsUnblank [] = ⊥
-StartsUnblank (x ∷ xs) = IsBlank x → ⊥
+abbrev pub StartsWithoutFmtpBlank : List ℕ → Type 0
+StartsWithoutFmtpBlank [] = ⊥
+StartsWithoutFmtpBlank (x ∷ xs) = IsFmtpBlank x → ⊥
 
 -- key `=` value, and then blanks and the end, or `;` between blanks and more
 abbrev pub IsFmtpPair : List ℕ → List ℕ × List ℕ → Option (List ℕ) → Type 0
 IsFmtpPair text pair None = (blanks : List ℕ) × (end : List ℕ) × (text ≡ pair.0 ++ (codes "=" ++ (pair.1 ++ (blanks ++ end))))
-    × IsFmtpKey pair.0 × IsFmtpValue pair.1 × AreBlanks blanks × IsFmtpEnd end
+    × IsFmtpKey pair.0 × IsFmtpValue pair.1 × AreFmtpBlanks blanks × IsFmtpEnd end
 IsFmtpPair text pair (Some more) = (before : List ℕ) × (after : List ℕ) × (text ≡ pair.0 ++ (codes "=" ++ (pair.1 ++ (before ++ (codes ";" ++ (after ++ more))))))
-    × IsFmtpKey pair.0 × IsFmtpValue pair.1 × AreBlanks before × AreBlanks after × StartsUnblank more
+    × IsFmtpKey pair.0 × IsFmtpValue pair.1 × AreFmtpBlanks before × AreFmtpBlanks after × StartsWithoutFmtpBlank more
 
 -- one or more pairs, where F says how each stands before what follows it
 abbrev pub AreFmtpPairsOneByOne : (List ℕ → List ℕ × List ℕ → Option (List ℕ) → Type 0) → List ℕ → List (List ℕ × List ℕ) → Type 0
@@ -49,7 +49,7 @@ AreFmtpPairs = AreFmtpPairsOneByOne IsFmtpPair
 -- SP and pairs, blanks before them
 abbrev pub IsPairsForm : List ℕ → List FormatParam → Type 0
 IsPairsForm more values = (blanks : List ℕ) × (text : List ℕ) × (pairs : List (List ℕ × List ℕ)) × (more ≡ codes " " ++ (blanks ++ text))
-    × AreBlanks blanks × AreFmtpPairs text pairs × ArePairsRead pairs values
+    × AreFmtpBlanks blanks × AreFmtpPairs text pairs × ArePairsRead pairs values
 
 -- SP and two or more payload types, parted by `/`: the first of them (RFC 2198, section 5)
 abbrev pub IsListForm : List ℕ → List FormatParam → Type 0

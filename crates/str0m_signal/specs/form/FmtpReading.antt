@@ -27,17 +27,17 @@ abbrev pub IsValueEnd : List ℕ → ℕ → Type 0
 IsValueEnd text n = (n ≤ length text) × NoneEnds text n × (n < length text → ends_value (get_or text n 0) ≡ true)
 
 -- whether a character is a space or a tab
-abbrev pub is_blank : ℕ → Bool
-is_blank x = x == 32 || x == 9
+abbrev pub is_pair_blank : ℕ → Bool
+is_pair_blank x = x == 32 || x == 9
 
 -- the text without the spaces and tabs at its front
-abbrev pub skip_blanks : List ℕ → List ℕ
-skip_blanks [] = []
-skip_blanks (x ∷ xs) = if x == 32 then skip_blanks xs else if x == 9 then skip_blanks xs else x ∷ xs
+abbrev pub skip_pair_blanks : List ℕ → List ℕ
+skip_pair_blanks [] = []
+skip_pair_blanks (x ∷ xs) = if x == 32 then skip_pair_blanks xs else if x == 9 then skip_pair_blanks xs else x ∷ xs
 
 -- what stands after a value and its blanks: the end, or `;` and more
 abbrev pub fmtp_next_read : List ℕ → Option (Option (List ℕ))
-fmtp_next_read text = if is_rest text then (strip (codes ";") text >>= λ t. Some (when (is_rest (skip_blanks t)) (skip_blanks t))) else Some
+fmtp_next_read text = if is_rest text then (strip (codes ";") text >>= λ t. Some (when (is_rest (skip_pair_blanks t)) (skip_pair_blanks t))) else Some
     None
 
 abbrev pub fmtp_key_read : List ℕ → Option (List ℕ)
@@ -48,7 +48,7 @@ pair_read text = do
   fields ← cut 61 text
   key ← fmtp_key_read fields.0
   value ← fmtp_value_read fields.1
-  next ← fmtp_next_read (skip_blanks value.1)
+  next ← fmtp_next_read (skip_pair_blanks value.1)
   Some ((key, value.0), next)
 
 -- one pair, and those that are read of what follows
@@ -70,7 +70,7 @@ pairs_read = fmtp_one_by_one pair_read
 abbrev pub pairs_form_read : List ℕ → Option (List FormatParam)
 pairs_form_read more = do
   text ← strip (codes " ") more
-  pairs ← pairs_read (skip_blanks text)
+  pairs ← pairs_read (skip_pair_blanks text)
   Some (params_read pairs)
 
 -- the first of two or more numbers that are parted by `/`

@@ -38,12 +38,12 @@ pub record Form (A : Type 0) : Type 1 where
   pub read : List ℕ → Option A
 
 -- a form that says its label itself
-abbrev pub own : {A : Type 0} → List ℕ → (List ℕ → A → Type 0) → (List ℕ → Option A) → Form A
-own label Is read = record { labels = label ∷ []; Is = Is; read = read }
+abbrev pub own_label_form : {A : Type 0} → List ℕ → (List ℕ → A → Type 0) → (List ℕ → Option A) → Form A
+own_label_form label Is read = record { labels = label ∷ []; Is = Is; read = read }
 
 -- a label, and a piece after it
 abbrev pub form_led_by : {A : Type 0} → List ℕ → FormPiece A → Form A
-form_led_by label piece = own label (Behind label piece.Is) (behind label piece.read)
+form_led_by label piece = own_label_form label (Behind label piece.Is) (behind label piece.read)
 
 -- the same texts, which stand for what is made of their values
 abbrev pub form_made_as : {A B : Type 0} → Form A → (A → B) → Form B
@@ -57,8 +57,8 @@ abbrev pub labelled_form : {A B : Type 0} → List ℕ → FormPiece A → (A �
 labelled_form label piece make = form_made_as (form_led_by label piece) make
 
 -- a word alone, after which the line ends
-abbrev pub word : {A : Type 0} → List ℕ → A → Form A
-word name x = record { labels = (name ++ (10 ∷ [])) ∷ []; Is = λ text y. (text ≡ name) × (y ≡ x); read = word_alone_read name x }
+abbrev pub word_form : {A : Type 0} → List ℕ → A → Form A
+word_form name x = record { labels = (name ++ (10 ∷ [])) ∷ []; Is = λ text y. (text ≡ name) × (y ≡ x); read = word_alone_read name x }
 
 -- P holds of one of these
 abbrev pub AnyOfForms {ℓ} : {X : Type ℓ} → (X → Type 0) → List X → Type 0
@@ -81,7 +81,7 @@ any_form forms = record { labels = labels_of forms; Is = λ text x. AnyOfForms (
 
 abbrev pub word_forms_of : {A : Type 0} → List (List ℕ × A) → List (Form A)
 word_forms_of [] = []
-word_forms_of (row ∷ rows) = word row.0 row.1 ∷ word_forms_of rows
+word_forms_of (row ∷ rows) = word_form row.0 row.1 ∷ word_forms_of rows
 
 -- a table of words
 abbrev pub any_word_form : {A : Type 0} → List (List ℕ × A) → Form A

@@ -3,7 +3,7 @@ use Rattle.std.specs.Prelude.{◌≡◌, ℕ, List, [], ◌∷◌}
 use Rattle.str0m_sdp.specs.declared.attribute.setup.Setup.{Setup}
 use Rattle.str0m_sdp.specs.declared.label.TheConstants as label
 use Rattle.str0m_signal.specs.Prelude.{Candidate, Fingerprint, IsCandidateText, candidate_read, setup_text}
-use Rattle.str0m_signal.specs.form.FormTable.{FormPiece, Form, own, a_text, two_form_pieces, parted_form_piece, labelled_form}
+use Rattle.str0m_signal.specs.form.FormTable.{FormPiece, Form, own_label_form, a_text, two_form_pieces, parted_form_piece, labelled_form}
 use Rattle.str0m_signal.specs.form.MediaAttributeReading.{role_read}
 use Rattle.str0m_signal.specs.line.Words.{IsHexPair}
 use Rattle.str0m_signal.specs.line.WordsReading.{hex_pair_read}
@@ -19,7 +19,7 @@ ice_texts ufrag pwd options =
 
 -- a candidate's text has its own label (RFC 8839, section 5.1)
 abbrev pub candidate : Form Candidate
-candidate = own candidate_label.CANDIDATE.now IsCandidateText candidate_read
+candidate = own_label_form candidate_label.CANDIDATE.now IsCandidateText candidate_read
 
 abbrev pub hex_form_piece : FormPiece ℕ
 hex_form_piece = record { Is = IsHexPair; read = hex_pair_read }

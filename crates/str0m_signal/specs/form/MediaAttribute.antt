@@ -5,7 +5,7 @@ use Rattle.str0m_sdp.specs.declared.label.TheConstants as label
 use Rattle.str0m_signal.specs.Prelude.{FirstFit, IsLongestShortText, IsRest, MediaAttribute, text_beginning_of, is_rest, media_words, when, ◌<|>◌}
 use Rattle.str0m_signal.specs.form.Fmtp.{IsFmtp}
 use Rattle.str0m_signal.specs.form.FmtpReading.{fmtp_fields_read}
-use Rattle.str0m_signal.specs.form.FormTable.{FormPiece, Form, own, a_text, number, two_form_pieces, tailed_form_piece, parted_form_piece, labelled_form, form_made_as, any_form, any_word_form, texts, pair_forms, IsUnusedForm, unused_read, form_first_byte, form_by_letter}
+use Rattle.str0m_signal.specs.form.FormTable.{FormPiece, Form, own_label_form, a_text, number, two_form_pieces, tailed_form_piece, parted_form_piece, labelled_form, form_made_as, any_form, any_word_form, texts, pair_forms, IsUnusedForm, unused_read, form_first_byte, form_by_letter}
 use Rattle.str0m_signal.specs.form.FormTransport.{ice_texts, candidate, fingerprint, setup}
 use Rattle.str0m_signal.specs.form.Rid.{IsRid}
 use Rattle.str0m_signal.specs.form.RidReading.{rid_fields_read}
@@ -45,13 +45,13 @@ ext_map =
     labelled_form label.EXTMAP.now (two_form_pieces 32 (tailed_form_piece 47 (number 255)) (tailed_form_piece 32 a_text)) (λ p. ExtMap p.0 (record { uri = p.1; serialized = true }))
 
 abbrev pub rtpmap : Form MediaAttribute
-rtpmap = form_made_as (own label.RTPMAP.now (λ text p. IsRtpMap text p.0 p.1) rtpmap_fields_read) (λ p. RtpMap p.0 p.1)
+rtpmap = form_made_as (own_label_form label.RTPMAP.now (λ text p. IsRtpMap text p.0 p.1) rtpmap_fields_read) (λ p. RtpMap p.0 p.1)
 
 abbrev pub rtcp_fb : Form MediaAttribute
 rtcp_fb = labelled_form label.RTCP_FB.now (two_form_pieces 32 (number 127) a_text) (λ p. RtcpFb p.0 p.1)
 
 abbrev pub fmtp : Form MediaAttribute
-fmtp = form_made_as (own label.FMTP.now (λ text p. IsFmtp text p.0 p.1) fmtp_fields_read) (λ p. Fmtp p.0 p.1)
+fmtp = form_made_as (own_label_form label.FMTP.now (λ text p. IsFmtp text p.0 p.1) fmtp_fields_read) (λ p. Fmtp p.0 p.1)
 
 abbrev pub rid : Form MediaAttribute
 rid = labelled_form label.RID.now (record { Is = IsRid; read = rid_fields_read }) (λ f. Rid f.0 f.1.0 f.1.1.0 f.1.1.1)
@@ -100,11 +100,11 @@ abbrev pub IsMediaLine : List ℕ → MediaAttribute → Type 0
 IsMediaLine = IsAttributeLine MediaForm
 
 -- the letters with which labels begin
-abbrev pub letters : List ℕ
-letters = codes "cefimrs"
+abbrev pub media_form_letters : List ℕ
+media_form_letters = codes "cefimrs"
 
 abbrev pub named_read : List ℕ → Option MediaAttribute
-named_read text = form_by_letter letters media_forms (form_first_byte text) text
+named_read text = form_by_letter media_form_letters media_forms (form_first_byte text) text
 
 abbrev pub media_read : List ℕ → Option MediaAttribute
 media_read text = named_read text <|> unused_read Unused text

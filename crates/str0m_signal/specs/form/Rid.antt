@@ -1,7 +1,7 @@
 -- The form of the line of a stream that may be restricted (RFC 8851, section 10).
 use Rattle.std.specs.Prelude.{◌≡◌, ◌≢◌, ◌⊎◌, ◌++◌, true, ℕ, List, [], ◌∷◌, codes}
 use Rattle.str0m_signal.specs.Prelude.{IsPt, PartedAddress, RestrictionId}
-use Rattle.str0m_signal.specs.form.Fmtp.{AreBlanks, IsFmtpKey, IsFmtpValue}
+use Rattle.str0m_signal.specs.form.Fmtp.{AreFmtpBlanks, IsFmtpKey, IsFmtpValue}
 use Rattle.str0m_signal.specs.form.Forms.{Behind, TwoFormParts}
 use Rattle.str0m_signal.specs.form.RidStreamName.{IsStreamName}
 
@@ -11,7 +11,7 @@ IsActiveRid text id = (text ≡ id.0) × IsStreamName id.0 × (id.1 ≡ true)
 
 -- blanks, key `=` value
 abbrev pub IsRestriction : List ℕ → List ℕ × List ℕ → Type 0
-IsRestriction text pair = (blanks : List ℕ) × (text ≡ blanks ++ (pair.0 ++ (codes "=" ++ pair.1))) × AreBlanks blanks × IsFmtpKey pair.0 × IsFmtpValue pair.1
+IsRestriction text pair = (blanks : List ℕ) × (text ≡ blanks ++ (pair.0 ++ (codes "=" ++ pair.1))) × AreFmtpBlanks blanks × IsFmtpKey pair.0 × IsFmtpValue pair.1
 
 -- nothing, or restrictions with `;` between each two
 abbrev pub AreRestrictions : List ℕ → List (List ℕ × List ℕ) → Type 0

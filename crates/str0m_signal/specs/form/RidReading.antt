@@ -1,8 +1,8 @@
 -- Reading of the line of a stream that may be restricted, as functions.
 use Rattle.std.specs.Prelude.{ℕ, true, List, [], Option, Some, None, codes, if◌then◌else◌}
 use Rattle.str0m_signal.specs.Prelude.{RestrictionId, cut, is_rest, num, strip, when, ◌<|>◌, ◌>>=◌}
-use Rattle.str0m_signal.specs.declared.form.rid.Lists.{Lists as TheLists}
-use Rattle.str0m_signal.specs.form.FmtpReading.{fmtp_value_read, skip_blanks, fmtp_key_read, fmtp_one_by_one}
+use Rattle.str0m_signal.specs.declared.form.rid.RidLists.{RidLists as TheLists}
+use Rattle.str0m_signal.specs.form.FmtpReading.{fmtp_value_read, skip_pair_blanks, fmtp_key_read, fmtp_one_by_one}
 use Rattle.str0m_signal.specs.form.FormReading.{two_read, parted_read}
 use Rattle.str0m_signal.specs.form.RidStreamName.{is_stream_name}
 
@@ -15,7 +15,7 @@ next_read text = if is_rest text then (strip (codes ";") text >>= λ more. Some 
 
 abbrev pub restriction_read : List ℕ → Option ((List ℕ × List ℕ) × Option (List ℕ))
 restriction_read text = do
-  fields ← cut 61 (skip_blanks text)
+  fields ← cut 61 (skip_pair_blanks text)
   key ← fmtp_key_read fields.0
   value ← fmtp_value_read fields.1
   next ← next_read value.1

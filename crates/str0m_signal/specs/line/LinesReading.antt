@@ -51,10 +51,10 @@ line_read f lines = clean_line lines >>= λ found. f found.0 >>= λ value. Some 
 abbrev pub ReadsTo : {A : Type 0} → (List ℕ → Option A) → List Line → A → List Line → Type 0
 ReadsTo f lines value rest = line_read f lines ≡ Some (value, rest)
 
--- what was found is put in its place; or nothing was found, and the place stays as it is
-abbrev pub TakesPart : {A P : Type 0} → (P → A → P → Type 0) → Option A → P → P → Bool → Type 0
-TakesPart {A} Puts found old new true = (value : A) × (found ≡ Some value) × Puts old value new
-TakesPart Puts found old new false = (found ≡ None) × (new ≡ old)
+-- what was found stands after the others; or nothing was found, and nothing is added
+abbrev pub TakesLast : {A : Type 0} → Option A → List A → List A → Bool → Type 0
+TakesLast {A} found old new true = (value : A) × (found ≡ Some value) × (new ≡ old ++ value ∷ [])
+TakesLast found old new false = (found ≡ None) × (new ≡ old)
 
 -- what f reads of the first line stands after the others, and this text is left; or f reads nothing, and nothing is added
 abbrev pub TakesLine : {A : Type 0} → (List ℕ → Option A) → List Line → List A → List A → Option (Bor (List ℕ)) → Type 0
@@ -69,9 +69,9 @@ abbrev pub both_lines_left : Bor (List ℕ) × Bor (List ℕ) → List ℕ × Li
 both_lines_left x = (x.0.now, lines_of x.1.now)
 
 -- the part that stands next, or that none does
-abbrev pub NextPart : {A : Type 0} → (List Line → A → List Line → Type 0) → List ℕ → Option (A × Bor (List ℕ)) → Type 0
-NextPart S text None = StopsLines S (lines_of text)
-NextPart S text (Some x) = S (lines_of text) x.0 (lines_of x.1.now)
+abbrev pub NextLinePart : {A : Type 0} → (List Line → A → List Line → Type 0) → List ℕ → Option (A × Bor (List ℕ)) → Type 0
+NextLinePart S text None = StopsLines S (lines_of text)
+NextLinePart S text (Some x) = S (lines_of text) x.0 (lines_of x.1.now)
 
 -- what f reads of the text that follows `a=`
 abbrev pub read_attribute : {A : Type 0} → (List ℕ → Option A) → List ℕ → Option A

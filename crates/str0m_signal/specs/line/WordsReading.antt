@@ -23,10 +23,10 @@ hex_pair_read (high ∷ low ∷ []) = do
 hex_pair_read (high ∷ low ∷ more ∷ text) = None
 
 -- the text without the space at its end
-abbrev pub without_space : List ℕ → List ℕ
-without_space [] = []
-without_space (x ∷ []) = if x == 32 then [] else x ∷ []
-without_space (x ∷ y ∷ ys) = x ∷ without_space (y ∷ ys)
+abbrev pub without_word_space : List ℕ → List ℕ
+without_word_space [] = []
+without_word_space (x ∷ []) = if x == 32 then [] else x ∷ []
+without_word_space (x ∷ y ∷ ys) = x ∷ without_word_space (y ∷ ys)
 
 -- the word and the names, where the text was cut at a space if it has one
 abbrev pub group_names_after : List ℕ → Option (List ℕ × List ℕ) → Option (List ℕ × List (List ℕ))
@@ -40,12 +40,12 @@ abbrev pub names_read : List ℕ → Option (List ℕ × List (List ℕ))
 names_read text = group_names_after text (cut 32 text)
 
 abbrev pub group_fields_read : List ℕ → Option (List ℕ × List (List ℕ))
-group_fields_read text = names_read (without_space text)
+group_fields_read text = names_read (without_word_space text)
 
 -- the text after its first space, where it begins with one
-abbrev pub behind_space : List ℕ → Option (List ℕ) → List ℕ
-behind_space text None = text
-behind_space text (Some rest) = rest
+abbrev pub behind_word_space : List ℕ → Option (List ℕ) → List ℕ
+behind_word_space text None = text
+behind_word_space text (Some rest) = rest
 
 abbrev pub msid_semantic_fields_read : List ℕ → Option (List ℕ × List (List ℕ))
-msid_semantic_fields_read text = two_read 32 text_read (parted_read 32 word_text_read) (behind_space text (strip (codes " ") text))
+msid_semantic_fields_read text = two_read 32 text_read (parted_read 32 word_text_read) (behind_word_space text (strip (codes " ") text))

@@ -3,11 +3,11 @@ use Rattle.std.specs.Prelude.{◌≡◌, ◌⊎◌, ◌≤◌, ℕ, List, [], �
 use Rattle.std.specs.Str.Parse.{IsNumeral, digits_value}
 use Rattle.str0m_signal.specs.Prelude.{Bandwidth, IsRest, IsWord}
 use Rattle.str0m_signal.specs.line.Lines.{Line, OneLine, TakenLine, Run}
-use Rattle.str0m_signal.specs.session.Section.{IsField, IsBandwidth}
+use Rattle.str0m_signal.specs.session.Section.{IsSessionField, IsBandwidth}
 
 -- the line is this word, which is also what it says
-abbrev pub IsExactly : List ℕ → List ℕ → List ℕ → Type 0
-IsExactly word content text = (content ≡ word) × (text ≡ word)
+abbrev pub IsExactHeaderLine : List ℕ → List ℕ → List ℕ → Type 0
+IsExactHeaderLine word content text = (content ≡ word) × (text ≡ word)
 
 -- digits alone, at most 64 bits
 pub record IsDigits (text : List ℕ) (n : ℕ) : Type 0 where
@@ -28,19 +28,19 @@ pub record IsOrigin (content : List ℕ) (id : ℕ) : Type 0 where
 -- a field of one of these letters
 abbrev pub IsHeaderField : List (List ℕ) → List ℕ → List ℕ → Type 0
 IsHeaderField [] content text = ⊥
-IsHeaderField (letter ∷ letters) content text = IsField letter content text ⊎ IsHeaderField letters content text
+IsHeaderField (letter ∷ letters) content text = IsSessionField letter content text ⊎ IsHeaderField letters content text
 
-abbrev pub IsInfo : List ℕ → List ℕ → Type 0
-IsInfo = IsHeaderField (codes "i=" ∷ codes "u=" ∷ codes "e=" ∷ codes "p=" ∷ codes "c=" ∷ codes "z=" ∷ codes "k=" ∷ [])
+abbrev pub IsHeaderInfo : List ℕ → List ℕ → Type 0
+IsHeaderInfo = IsHeaderField (codes "i=" ∷ codes "u=" ∷ codes "e=" ∷ codes "p=" ∷ codes "c=" ∷ codes "z=" ∷ codes "k=" ∷ [])
 
 -- `v=0`, the origin and the name
 pub record IsHeaderOpening (lines : List Line) (id : ℕ) (rest : List Line) : Type 0 where
   pub after_version : List Line
   pub after_origin : List Line
   pub name : List ℕ
-  pub version_is : OneLine (IsExactly (codes "v=0")) lines (codes "v=0") after_version
+  pub version_is : OneLine (IsExactHeaderLine (codes "v=0")) lines (codes "v=0") after_version
   pub origin_is : OneLine IsOrigin after_version id after_origin
-  pub name_is : OneLine (IsField (codes "s=")) after_origin name rest
+  pub name_is : OneLine (IsSessionField (codes "s=")) after_origin name rest
 
 -- what a header says
 pub record Header : Type 0 where
@@ -56,7 +56,7 @@ pub record IsHeader (lines : List Line) (header : Header) (rest : List Line) : T
   pub infos : List (List ℕ)
   pub repeats : List (List ℕ)
   pub opening_is : IsHeaderOpening lines header.id after_opening
-  pub infos_are : Run (OneLine IsInfo) after_opening infos after_infos
+  pub infos_are : Run (OneLine IsHeaderInfo) after_opening infos after_infos
   pub bandwidth_is : TakenLine (OneLine IsBandwidth) after_infos header.bw after_bandwidth
-  pub timing_is : OneLine (IsExactly (codes "t=0 0")) after_bandwidth (codes "t=0 0") after_timing
-  pub repeats_are : Run (OneLine (IsField (codes "r="))) after_timing repeats rest
+  pub timing_is : OneLine (IsExactHeaderLine (codes "t=0 0")) after_bandwidth (codes "t=0 0") after_timing
+  pub repeats_are : Run (OneLine (IsSessionField (codes "r="))) after_timing repeats rest

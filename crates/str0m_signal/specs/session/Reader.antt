@@ -34,8 +34,8 @@ abbrev pub SessionReading : List ℕ → TheSession × List ℕ → Type 0
 SessionReading = OfText IsSession
 
 -- a text describes the session that is read of it, whatever follows
-abbrev pub Described : List ℕ → Sdp → Type 0
-Described text sdp = (rest : List ℕ) × Reading text (sdp, rest)
+abbrev pub DescribesSession : List ℕ → Sdp → Type 0
+DescribesSession text sdp = (rest : List ℕ) × Reading text (sdp, rest)
 
 -- ---- what is left of a text from one of its lines on
 

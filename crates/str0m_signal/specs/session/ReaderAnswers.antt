@@ -9,18 +9,18 @@ abbrev pub unread : {X : Type 0} → X × Bor (List ℕ) → X × List ℕ
 unread x = (x.0, x.1.now)
 
 -- a ParseError comes only where no value has P; memory aside
-abbrev pub Refuses : {V : Type 0} → SdpError → (V → Type 0) → Type 0
-Refuses (ParseError message) P = (v : _) → P v → ⊥
-Refuses (Inconsistent message) P = ⊥
-Refuses Memory P = Unit {0}
+abbrev pub ReaderRefuses : {V : Type 0} → SdpError → (V → Type 0) → Type 0
+ReaderRefuses (ParseError message) P = (v : _) → P v → ⊥
+ReaderRefuses (Inconsistent message) P = ⊥
+ReaderRefuses Memory P = Unit {0}
 
 -- Ok holds a value with P, and what is refused has none
 abbrev pub Answers : {X V : Type 0} → (X → V) → Result X SdpError → (V → Type 0) → Type 0
 Answers view (Ok x) P = P (view x)
-Answers view (Err e) P = Refuses e P
+Answers view (Err e) P = ReaderRefuses e P
 
-abbrev pub AtMostOne : {V : Type 0} → (V → Type 0) → Type 0
-AtMostOne P = (v w : _) → P v → P w → v ≡ w
+abbrev pub AtMostOneAnswer : {V : Type 0} → (V → Type 0) → Type 0
+AtMostOneAnswer P = (v w : _) → P v → P w → v ≡ w
 
 -- what was read is this, memory aside
 abbrev pub GivesRead : {X V : Type 0} → (X → V) → Result X SdpError → Option V → Type 0

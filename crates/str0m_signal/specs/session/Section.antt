@@ -8,8 +8,8 @@ use Rattle.str0m_signal.specs.form.MediaAttribute.{IsMediaLine}
 use Rattle.str0m_signal.specs.line.Lines.{Line, OneLine, TakenLine, Run}
 
 -- a letter with `=`, and one or more characters
-abbrev pub IsField : List ℕ → List ℕ → List ℕ → Type 0
-IsField letter content text = (content ≡ letter ++ text) × IsRest text
+abbrev pub IsSessionField : List ℕ → List ℕ → List ℕ → Type 0
+IsSessionField letter content text = (content ≡ letter ++ text) × IsRest text
 
 -- `b=` type `:` value (RFC 8866, section 5.8)
 abbrev pub IsBandwidth : List ℕ → Bandwidth → Type 0
@@ -60,6 +60,6 @@ pub record IsSection (lines : List Line) (m : MediaLine) (rest : List Line) : Ty
   pub after_bandwidth : List Line
   pub connection : Option (List ℕ)
   pub head_is : OneLine IsHead lines (record { typ = m.typ; disabled = m.disabled; proto = m.proto; pts = m.pts }) after_head
-  pub connection_is : TakenLine (OneLine (IsField (codes "c="))) after_head connection after_connection
+  pub connection_is : TakenLine (OneLine (IsSessionField (codes "c="))) after_head connection after_connection
   pub bandwidth_is : TakenLine (OneLine IsBandwidth) after_connection m.bw after_bandwidth
   pub attributes_are : Run (OneLine IsMediaLine) after_bandwidth m.attrs rest

@@ -1,7 +1,7 @@
 //! What is printed, read again line by line.
 
 ghost use Rattle.std.specs.Prelude.{◌≡◌, ◌∷◌, ◌++◌, ◌↔◌, ◌&&◌, [], ℕ, List, Some, IfOk, IsTrue, option_copied};
-ghost use Rattle.str0m_signal.specs.Prelude.{IsTheOnly, Lacks, lacks, line_end};
+ghost use Rattle.str0m_signal.specs.Prelude.{IsTheOnly, Lacks, lacks, printed_line_end};
 ghost use Rattle.str0m_signal.specs.back.Writable.{AreReadAs, IsReadBackLine, IsReadBy, PutsBack};
 
 use crate::session::attributes::{Attribute, line, taken_attribute_result};
@@ -34,7 +34,7 @@ fn has_no_end(line: &str) -> bool
 
 /// The line without its end, where the text is one whole line.
 pub(crate) fn line_content(text: &str) -> Option<&str>
-    ensures { IsTheOnly (λ line. (text.now ≡ line ++ line_end) × Lacks 10 line × Lacks 13 line) (option_copied result) }
+    ensures { IsTheOnly (λ line. (text.now ≡ line ++ printed_line_end) × Lacks 10 line × Lacks 13 line) (option_copied result) }
 {
     let line = text.strip_suffix("\r\n")?;
     if has_no_end(line) { Some(line) } else { None }

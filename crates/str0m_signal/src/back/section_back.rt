@@ -3,7 +3,7 @@
 ghost use Rattle.std.specs.List.{list_any};
 ghost use Rattle.std.specs.Prelude.{◌≡◌, ◌↔◌, IfOk, IfSome, IsTrue, option_map};
 ghost use Rattle.str0m_signal.specs.Prelude.{Consistent, IsTheOnly, MediaLine, bandwidth_text, is_of_type};
-ghost use Rattle.str0m_signal.specs.back.Writable.{HasTypes, IsFrame, IsReadBackLine, IsMediaReadAs, writable_frame_of};
+ghost use Rattle.str0m_signal.specs.back.Writable.{HasTypes, IsWritableFrame, IsReadBackLine, IsMediaReadAs, writable_frame_of};
 ghost use Rattle.str0m_signal.specs.line.Heads.{media_head};
 ghost use Rattle.str0m_signal.specs.session.Section.{IsBandwidth, IsHead};
 
@@ -136,7 +136,7 @@ fn describe_types(attrs: &[MediaAttribute]) -> bool
 
 /// Whether the section is a frame.
 fn is_writable_frame(alloc: Global, section: MediaLine) -> Result<bool, AllocError>
-    ensures { IfOk result (λ answer. IsTrue answer ↔ IsFrame section) }
+    ensures { IfOk result (λ answer. IsTrue answer ↔ IsWritableFrame section) }
 {
     if describe_types(section.attrs.as_slice()) {
         return Ok(false);
@@ -153,7 +153,7 @@ fn is_writable_frame(alloc: Global, section: MediaLine) -> Result<bool, AllocErr
 
 /// Whether the section without its lines of payload types is read of its lines, and a frame then.
 pub(crate) fn frame_comes_back(alloc: Global, section: &MediaLine) -> Result<bool, AllocError>
-    ensures { IfOk result (λ answer. IsTrue answer ↔ ((read : MediaLine) × IsMediaReadAs (writable_frame_of section.now) read × IsFrame read)) }
+    ensures { IfOk result (λ answer. IsTrue answer ↔ ((read : MediaLine) × IsMediaReadAs (writable_frame_of section.now) read × IsWritableFrame read)) }
 {
     let frame = section_of(section, &[])?;
     let read = section_back(alloc, section, frame.attrs.as_slice());

@@ -2,7 +2,7 @@
 
 ghost use Rattle.std.specs.Prelude.{◌≡◌, ◌≢◌, ◌↔◌, ℕ, List, IfOk, IfSome, IsTrue, Ok, Some, true, slice_get};
 ghost use Rattle.str0m_signal.specs.Prelude.{Consistent, MediaLine, PayloadParams, SessionAttribute, bandwidth_text, session_attribute_text};
-ghost use Rattle.str0m_signal.specs.back.ReadBack.{MayBePrinted, ReadsBack};
+ghost use Rattle.str0m_signal.specs.back.ReadBack.{CanRowsBeReadBack, ReadsBack};
 ghost use Rattle.str0m_signal.specs.back.Writable.{AreReadAs, IsReadBackLine, IsMediaReadAs, SessionGoesWith, Writable};
 ghost use Rattle.str0m_signal.specs.back.WritableAgain.{IsWritableOverSrtp, IsRead, MayBeWrittenAgain};
 ghost use Rattle.str0m_signal.specs.form.SessionAttribute.{IsSessionLine};
@@ -74,7 +74,7 @@ pub fn is_writable(sdp: &Sdp, section: usize) -> Result<bool, AllocError>
     ensures exact { IfOk result (λ answer. IsTrue answer ↔ Writable sdp.now section) }
     ensures read_is_writable { IsRead sdp.now → MayBeWrittenAgain sdp.now → IsWritableOverSrtp sdp.now section → Writable sdp.now section }
     ensures of_reading { IfOk result (λ answer. IsRead sdp.now → MayBeWrittenAgain sdp.now → IsWritableOverSrtp sdp.now section → IsTrue answer) }
-    ensures read_back { result ≡ Ok true → (rows : List PayloadParams) → MayBePrinted rows → ReadsBack sdp.now section rows }
+    ensures read_back { result ≡ Ok true → (rows : List PayloadParams) → CanRowsBeReadBack rows → ReadsBack sdp.now section rows }
 {
     surroundings_come_back(sdp, section)
 }

@@ -2,7 +2,7 @@
 
 ghost use Rattle.str0m_signal.specs.Prelude.{candidate_read};
 
-use crate::session::attributes::{Attribute, AttributePlace, taken};
+use crate::session::attributes::{Attribute, taken};
 use std::alloc::{AllocError, Global};
 use str0m_values::Candidate;
 use str0m_values::candidate_text::candidate;
@@ -10,11 +10,7 @@ use str0m_values::candidate_text::candidate;
 impl Attribute for Candidate {
     ghost reading = { candidate_read };
 
-    fn take<P: AttributePlace<Candidate>>(
-        alloc: Global,
-        text: &str,
-        place: &mut P,
-    ) -> Result<bool, AllocError> {
+    fn take(alloc: Global, text: &str, place: &mut Vec<Candidate>) -> Result<bool, AllocError> {
         taken(candidate(alloc, text)?, place)
     }
 }

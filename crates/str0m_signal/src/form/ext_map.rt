@@ -11,7 +11,7 @@ use str0m_values::cuts::{cut, num_u8, strip};
 use str0m_values::{Extension, Separator};
 
 /// The number of the extension; a direction may stand after it.
-fn id(text: &str) -> Option<u8>
+fn ext_map_id(text: &str) -> Option<u8>
     ensures { result ≡ tailed_read 47 (num 255) text.now }
 {
     match cut(text, Separator::Slash) {
@@ -59,7 +59,7 @@ pub(crate) fn ext_map(alloc: Global, text: &str) -> Result<Option<MediaAttribute
     let Some((number, rest)) = cut(body, Separator::Space) else {
         return Ok(None);
     };
-    let Some(id) = id(number) else {
+    let Some(id) = ext_map_id(number) else {
         return Ok(None);
     };
     let Some(uri) = uri(rest) else {

@@ -5,7 +5,7 @@ ghost use Rattle.str0m_signal.specs.form.FmtpReading.{pairs_form_read, fmtp_valu
 ghost use Rattle.str0m_signal.specs.form.MediaAttribute.{fmtp};
 
 use crate::line::bare_values::bare;
-use crate::line::pairs::{pairs, skip_blanks};
+use crate::line::pairs::{pairs, skip_pair_blanks};
 use std::alloc::{AllocError, Global};
 use str0m_formats::FormatParam;
 use str0m_sdp::{MediaAttribute, label};
@@ -19,7 +19,7 @@ fn pairs_form(alloc: Global, more: &str) -> Result<Option<Items<FormatParam>>, A
     let Some(text) = strip(more, " ") else {
         return Ok(None);
     };
-    match pairs(alloc, skip_blanks(text))? {
+    match pairs(alloc, skip_pair_blanks(text))? {
         Some(pairs) => {
             let values = FormatParam::parse_pairs(alloc, pairs.as_slice())?;
             Ok(Some(Items::from(values)))
@@ -29,7 +29,7 @@ fn pairs_form(alloc: Global, more: &str) -> Result<Option<Items<FormatParam>>, A
 }
 
 /// The values after the payload type.
-fn values(alloc: Global, more: &str) -> Result<Items<FormatParam>, AllocError>
+fn fmtp_values(alloc: Global, more: &str) -> Result<Items<FormatParam>, AllocError>
     ensures { IfOk result (λ values. Some values ≡ fmtp_values_read more.now) }
 {
     if let Some(values) = pairs_form(alloc, more)? {
@@ -55,7 +55,7 @@ pub(crate) fn fmtp(alloc: Global, text: &str) -> Result<Option<MediaAttribute>, 
     let Some(more) = strip(body, number) else {
         return Ok(None);
     };
-    let values = values(alloc, more)?;
+    let values = fmtp_values(alloc, more)?;
     Ok(Some(MediaAttribute::Fmtp {
         pt: Pt::new_with_value(pt),
         values,

@@ -3,7 +3,7 @@ ghost use Rattle.std.specs.Prelude.{◌≡◌, IfOk};
 ghost use Rattle.str0m_signal.specs.form.SessionAttribute.{names_form_read, group, msid_semantic};
 
 use crate::line::parts::parts;
-use crate::line::words::without_space;
+use crate::line::words::without_word_space;
 use std::alloc::{AllocError, Global};
 use str0m_sdp::{SessionAttribute, label};
 use str0m_values::cuts::{cut, strip};
@@ -36,7 +36,7 @@ pub(crate) fn group(alloc: Global, text: &str) -> Result<Option<SessionAttribute
     ensures { IfOk result (λ found. found ≡ group.read text.now) }
 {
     match strip(text, label::GROUP) {
-        Some(body) => group_names(alloc, without_space(body)),
+        Some(body) => group_names(alloc, without_word_space(body)),
         None => Ok(None),
     }
 }

@@ -6,7 +6,7 @@ ghost use Rattle.str0m_signal.specs.form.FormTable.{form_made_as, pair_forms, te
 ghost use Rattle.str0m_signal.specs.form.FormTransport.{candidate, fingerprint, setup};
 ghost use Rattle.str0m_signal.specs.form.MediaAttribute.{media_texts, media_pairs, rtcp, mid, sctp_port, sctp_init, max_message_size, media_forms, named_read, media_read, IsMediaLine};
 ghost use Rattle.str0m_signal.specs.line.Lines.{Run, OneLine};
-ghost use Rattle.str0m_signal.specs.line.LinesReading.{lines_of, TakesPart};
+ghost use Rattle.str0m_signal.specs.line.LinesReading.{lines_of, TakesLast};
 
 use crate::form::ext_map::ext_map;
 use crate::form::fingerprint::fingerprint;
@@ -16,9 +16,7 @@ use crate::form::rtp_map::rtp_map;
 use crate::form::simulcast::simulcast_line;
 use crate::form::sources::{rtcp_fb, ssrc, ssrc_group};
 use crate::line::fields::{both_texts_kept, kept_field, num_u64, role_field, short_field};
-use crate::session::attributes::{
-    Attribute, AttributePlace, attribute_run, taken, taken_attribute_result,
-};
+use crate::session::attributes::{Attribute, attribute_run, taken, taken_attribute_result};
 use std::alloc::{AllocError, Global};
 use str0m_sdp::{MediaAttribute, Msid, label};
 use str0m_values::candidate_text::candidate;
@@ -122,12 +120,12 @@ fn mid(text: &str) -> Option<MediaAttribute>
 }
 
 /// The forms whose names begin with `e`.
-fn forms_of_e<P: AttributePlace<MediaAttribute>>(
+fn forms_of_e(
     alloc: Global,
     text: &str,
-    place: &mut P,
+    place: &mut Vec<MediaAttribute>,
 ) -> Result<bool, AllocError>
-    ensures { IfOk result (TakesPart P.Puts (letter_read media_forms 101 text.now) place.old place.new) }
+    ensures { IfOk result (TakesLast (letter_read media_forms 101 text.now) place.old.items place.new.items) }
 {
     if taken_attribute_result(ext_map(alloc, text), place)? {
         return Ok(true);
@@ -136,12 +134,12 @@ fn forms_of_e<P: AttributePlace<MediaAttribute>>(
 }
 
 /// The forms whose names begin with `f`.
-fn forms_of_f<P: AttributePlace<MediaAttribute>>(
+fn forms_of_f(
     alloc: Global,
     text: &str,
-    place: &mut P,
+    place: &mut Vec<MediaAttribute>,
 ) -> Result<bool, AllocError>
-    ensures { IfOk result (TakesPart P.Puts (letter_read media_forms 102 text.now) place.old place.new) }
+    ensures { IfOk result (TakesLast (letter_read media_forms 102 text.now) place.old.items place.new.items) }
 {
     if taken_attribute_result(fmtp(alloc, text), place)? {
         return Ok(true);
@@ -150,12 +148,12 @@ fn forms_of_f<P: AttributePlace<MediaAttribute>>(
 }
 
 /// The forms whose names begin with `i`.
-fn forms_of_i<P: AttributePlace<MediaAttribute>>(
+fn forms_of_i(
     alloc: Global,
     text: &str,
-    place: &mut P,
+    place: &mut Vec<MediaAttribute>,
 ) -> Result<bool, AllocError>
-    ensures { IfOk result (TakesPart P.Puts (letter_read media_forms 105 text.now) place.old place.new) }
+    ensures { IfOk result (TakesLast (letter_read media_forms 105 text.now) place.old.items place.new.items) }
 {
     if taken_attribute_result(media_text(alloc, text), place)? {
         return Ok(true);
@@ -164,12 +162,12 @@ fn forms_of_i<P: AttributePlace<MediaAttribute>>(
 }
 
 /// The forms whose names begin with `m`.
-fn forms_of_m<P: AttributePlace<MediaAttribute>>(
+fn forms_of_m(
     alloc: Global,
     text: &str,
-    place: &mut P,
+    place: &mut Vec<MediaAttribute>,
 ) -> Result<bool, AllocError>
-    ensures { IfOk result (TakesPart P.Puts (letter_read media_forms 109 text.now) place.old place.new) }
+    ensures { IfOk result (TakesLast (letter_read media_forms 109 text.now) place.old.items place.new.items) }
 {
     if taken(mid(text), place)? {
         return Ok(true);
@@ -181,12 +179,12 @@ fn forms_of_m<P: AttributePlace<MediaAttribute>>(
 }
 
 /// The forms whose names begin with `r`.
-fn forms_of_r<P: AttributePlace<MediaAttribute>>(
+fn forms_of_r(
     alloc: Global,
     text: &str,
-    place: &mut P,
+    place: &mut Vec<MediaAttribute>,
 ) -> Result<bool, AllocError>
-    ensures { IfOk result (TakesPart P.Puts (letter_read media_forms 114 text.now) place.old place.new) }
+    ensures { IfOk result (TakesLast (letter_read media_forms 114 text.now) place.old.items place.new.items) }
 {
     if taken(rtp_map(text), place)? {
         return Ok(true);
@@ -204,12 +202,12 @@ fn forms_of_r<P: AttributePlace<MediaAttribute>>(
 }
 
 /// The forms whose names begin with `s`.
-fn forms_of_s<P: AttributePlace<MediaAttribute>>(
+fn forms_of_s(
     alloc: Global,
     text: &str,
-    place: &mut P,
+    place: &mut Vec<MediaAttribute>,
 ) -> Result<bool, AllocError>
-    ensures { IfOk result (TakesPart P.Puts (letter_read media_forms 115 text.now) place.old place.new) }
+    ensures { IfOk result (TakesLast (letter_read media_forms 115 text.now) place.old.items place.new.items) }
 {
     if taken_attribute_result(ssrc(alloc, text), place)? {
         return Ok(true);
@@ -242,12 +240,12 @@ fn form_first_byte(text: &str) -> u8
 }
 
 /// The attribute whose form is named: only forms whose names begin as the text does are asked.
-fn media_named<P: AttributePlace<MediaAttribute>>(
+fn media_named(
     alloc: Global,
     text: &str,
-    place: &mut P,
+    place: &mut Vec<MediaAttribute>,
 ) -> Result<bool, AllocError>
-    ensures { IfOk result (TakesPart P.Puts (named_read text.now) place.old place.new) }
+    ensures { IfOk result (TakesLast (named_read text.now) place.old.items place.new.items) }
 {
     match form_first_byte(text) {
         b'c' => taken_attribute_result(media_candidate(alloc, text), place),
@@ -274,10 +272,10 @@ fn media_unused(alloc: Global, text: &str) -> Result<Option<MediaAttribute>, All
 impl Attribute for MediaAttribute {
     ghost reading = { media_read };
 
-    fn take<P: AttributePlace<MediaAttribute>>(
+    fn take(
         alloc: Global,
         text: &str,
-        place: &mut P,
+        place: &mut Vec<MediaAttribute>,
     ) -> Result<bool, AllocError> {
         if media_named(alloc, text, place)? {
             return Ok(true);

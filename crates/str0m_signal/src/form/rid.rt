@@ -9,7 +9,7 @@ ghost use Rattle.str0m_signal.specs.form.RidReading.{rid_lists_of, next_read, re
 ghost use Rattle.str0m_signal.specs.form.RidStreamName.{is_stream_name};
 
 use crate::form::simulcast::is_stream_name;
-use crate::line::pairs::{key, skip_blanks, value};
+use crate::line::pairs::{key, skip_pair_blanks, value};
 use crate::line::parts::parts;
 use crate::line::words::Number;
 use std::alloc::{AllocError, Global};
@@ -18,7 +18,7 @@ use str0m_values::cuts::{cut, strip};
 use str0m_values::{Items, Pt, Separator, Text};
 
 /// What stands after a value: the end, or `;` and more.
-fn next(text: &str) -> Option<Option<&str>>
+fn rid_next(text: &str) -> Option<Option<&str>>
     ensures { option_map (λ o. option_map (λ x. x.now) o) result ≡ next_read text.now }
 {
     if text.is_empty() {
@@ -32,10 +32,10 @@ fn next(text: &str) -> Option<Option<&str>>
 fn restriction(text: &str) -> Option<(&str, &str, Option<&str>)>
     ensures { option_map (λ x. ((x.0.now, x.1.now), option_map (λ y. y.now) x.2)) result ≡ restriction_read text.now }
 {
-    let (front, behind) = cut(skip_blanks(text), Separator::Equals)?;
+    let (front, behind) = cut(skip_pair_blanks(text), Separator::Equals)?;
     let key = key(front)?;
     let (value, behind) = value(behind)?;
-    let more = next(behind)?;
+    let more = rid_next(behind)?;
     Some((key, value, more))
 }
 
@@ -123,20 +123,20 @@ fn restricted(alloc: Global, text: &str) -> Result<Option<Items<(Text, Text)>>, 
 
 /// The payload types that the stream may have, and its other restrictions.
 #[derive(Drop)]
-struct Lists {
+struct RidLists {
     types: Items<Pt>,
     restrictions: Items<(Text, Text)>,
 }
 
 /// The lists after `pt=`. Memory is asked for only where both can be read.
-fn typed(alloc: Global, text: &str) -> Result<Option<Lists>, AllocError>
+fn typed(alloc: Global, text: &str) -> Result<Option<RidLists>, AllocError>
     ensures { IfOk result (λ found. option_map rid_lists_of found ≡ typed_read text.now) }
 {
     let Some((front, behind)) = cut(text, Separator::Semicolon) else {
         return match parts::<Number<127>>(alloc, text, Separator::Comma)? {
             Some(types) => {
                 let restrictions = Items::empty(alloc);
-                Ok(Some(Lists {
+                Ok(Some(RidLists {
                     types,
                     restrictions,
                 }))
@@ -153,14 +153,14 @@ fn typed(alloc: Global, text: &str) -> Result<Option<Lists>, AllocError>
     let Some(restrictions) = read_restricted(alloc, behind)? else {
         return Ok(None);
     };
-    Ok(Some(Lists {
+    Ok(Some(RidLists {
         types,
         restrictions,
     }))
 }
 
 /// The lists after the direction and a space.
-fn rid_lists(alloc: Global, text: &str) -> Result<Option<Lists>, AllocError>
+fn rid_lists(alloc: Global, text: &str) -> Result<Option<RidLists>, AllocError>
     ensures { IfOk result (λ found. option_map rid_lists_of found ≡ lists_read text.now) }
 {
     if let Some(body) = strip(text, "pt=") {
@@ -169,7 +169,7 @@ fn rid_lists(alloc: Global, text: &str) -> Result<Option<Lists>, AllocError>
     match restricted(alloc, text)? {
         Some(restrictions) => {
             let types = Items::empty(alloc);
-            Ok(Some(Lists {
+            Ok(Some(RidLists {
                 types,
                 restrictions,
             }))
@@ -179,13 +179,13 @@ fn rid_lists(alloc: Global, text: &str) -> Result<Option<Lists>, AllocError>
 }
 
 /// The lists after the direction.
-fn more(alloc: Global, text: &str) -> Result<Option<Lists>, AllocError>
+fn rid_more(alloc: Global, text: &str) -> Result<Option<RidLists>, AllocError>
     ensures { IfOk result (λ found. option_map rid_lists_of found ≡ more_read text.now) }
 {
     if text.is_empty() {
         let types = Items::empty(alloc);
         let restrictions = Items::empty(alloc);
-        return Ok(Some(Lists {
+        return Ok(Some(RidLists {
             types,
             restrictions,
         }));
@@ -221,7 +221,7 @@ fn rid_fields(text: &str) -> Option<(&str, &'static str, &str)>
 }
 
 /// The rid line of these parts.
-fn made_rid(name: Text, word: &'static str, lists: Lists) -> MediaAttribute
+fn made_rid(name: Text, word: &'static str, lists: RidLists) -> MediaAttribute
     ensures { result ≡ Rid (record { 0 = name; 1 = true }) word.now lists.types lists.restrictions }
 {
     MediaAttribute::Rid {
@@ -239,7 +239,7 @@ pub(crate) fn rid(alloc: Global, text: &str) -> Result<Option<MediaAttribute>, A
     let Some((name, word, behind)) = rid_fields(text) else {
         return Ok(None);
     };
-    let Some(lists) = more(alloc, behind)? else {
+    let Some(lists) = rid_more(alloc, behind)? else {
         return Ok(None);
     };
     let name = Text::from_str(alloc, name)?;

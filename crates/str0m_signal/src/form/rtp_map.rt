@@ -11,7 +11,7 @@ use str0m_values::cuts::{cut, num_u8, num_u32, strip};
 use str0m_values::{Frequency, Pt, Separator};
 
 #[tactic(auto, using(str0m_formats::proofs::codec_read_only))]
-fn codec(name: &str) -> Codec
+fn mapping_codec(name: &str) -> Codec
     ensures { result ≡ codec_of name.now }
 {
     Codec::from(name)
@@ -41,7 +41,7 @@ fn mapping(text: &str) -> Option<RtpMap>
     }
     let (clock_rate, channels) = mapping_clock(rates)?;
     Some(RtpMap {
-        codec: codec(name),
+        codec: mapping_codec(name),
         clock_rate,
         channels,
     })

@@ -11,7 +11,7 @@ ghost use Rattle.str0m_signal.specs.line.LinesReading.{lines_of};
 use crate::form::fingerprint::fingerprint;
 use crate::form::groups::{group, msid_semantic};
 use crate::line::fields::{kept_field, role_field};
-use crate::session::attributes::{Attribute, AttributePlace, attribute_run, taken};
+use crate::session::attributes::{Attribute, attribute_run, taken};
 use std::alloc::{AllocError, Global};
 use str0m_sdp::{SessionAttribute, label};
 use str0m_values::candidate_text::candidate;
@@ -96,10 +96,10 @@ fn session_unused(alloc: Global, text: &str) -> Result<Option<SessionAttribute>,
 impl Attribute for SessionAttribute {
     ghost reading = { session_read };
 
-    fn take<P: AttributePlace<SessionAttribute>>(
+    fn take(
         alloc: Global,
         text: &str,
-        place: &mut P,
+        place: &mut Vec<SessionAttribute>,
     ) -> Result<bool, AllocError> {
         if taken(session_named(alloc, text)?, place)? {
             return Ok(true);

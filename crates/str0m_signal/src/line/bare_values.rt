@@ -10,7 +10,7 @@ use str0m_values::cuts::{cut, num_u8, strip};
 use str0m_values::{Pt, Separator};
 
 /// The first of two or more payload types that are parted by `/`.
-fn first(text: &str) -> Option<u8>
+fn first_bare_type(text: &str) -> Option<u8>
     ensures { result ≡ first_number_read text.now }
 {
     let (front, others) = cut(text, Separator::Slash)?;
@@ -46,7 +46,7 @@ pub(crate) fn bare(more: &str) -> FormatParam
     let Some(text) = strip(more, " ") else {
         return FormatParam::Unknown;
     };
-    if let Some(first) = first(text) {
+    if let Some(first) = first_bare_type(text) {
         return FormatParam::BarePtList(Pt::new_with_value(first));
     }
     if let Some(last) = bare_range(text) {

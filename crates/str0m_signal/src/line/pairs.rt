@@ -3,7 +3,7 @@
 ghost use Rattle.std.specs.List.{list_any};
 ghost use Rattle.std.specs.Prelude.{◌≡◌, IfOk, option_map};
 ghost use Rattle.str0m_signal.specs.Prelude.{pair_texts, parts};
-ghost use Rattle.str0m_signal.specs.form.FmtpReading.{IsValueEnd, ends_value, is_blank, fmtp_value_read, skip_blanks, fmtp_next_read, fmtp_key_read, pair_read, pairs_read};
+ghost use Rattle.str0m_signal.specs.form.FmtpReading.{IsValueEnd, ends_value, is_pair_blank, fmtp_value_read, skip_pair_blanks, fmtp_next_read, fmtp_key_read, pair_read, pairs_read};
 
 use std::alloc::{AllocError, Global};
 use str0m_values::Separator;
@@ -40,8 +40,8 @@ pub(crate) fn value(text: &str) -> Option<(&str, &str)>
 }
 
 /// The text without the blanks at its front.
-pub(crate) fn skip_blanks(text: &str) -> &str
-    ensures { result.now ≡ skip_blanks text.now }
+pub(crate) fn skip_pair_blanks(text: &str) -> &str
+    ensures { result.now ≡ skip_pair_blanks text.now }
 {
     let mut rest = text;
     loop {
@@ -57,13 +57,13 @@ pub(crate) fn skip_blanks(text: &str) -> &str
 
 /// Whether there is a space or a tab.
 fn has_pair_blank(bytes: &[u8]) -> bool
-    ensures { result ≡ list_any is_blank bytes.now }
+    ensures { result ≡ list_any is_pair_blank bytes.now }
 {
-    bytes.iter().any(|byte| is_blank(*byte))
+    bytes.iter().any(|byte| is_pair_blank(*byte))
 }
 
-fn is_blank(byte: u8) -> bool
-    ensures { result ≡ is_blank byte }
+fn is_pair_blank(byte: u8) -> bool
+    ensures { result ≡ is_pair_blank byte }
 {
     byte == b' ' || byte == b'\t'
 }
@@ -86,7 +86,7 @@ fn fmtp_next(text: &str) -> Option<Option<&str>>
     if text.is_empty() {
         return Some(None);
     }
-    let more = skip_blanks(strip(text, ";")?);
+    let more = skip_pair_blanks(strip(text, ";")?);
     if more.is_empty() {
         Some(None)
     } else {
@@ -100,7 +100,7 @@ fn pair(text: &str) -> Option<(&str, &str, Option<&str>)>
     let (front, behind) = cut(text, Separator::Equals)?;
     let key = key(front)?;
     let (value, behind) = value(behind)?;
-    let more = fmtp_next(skip_blanks(behind))?;
+    let more = fmtp_next(skip_pair_blanks(behind))?;
     Some((key, value, more))
 }
 

@@ -1,7 +1,7 @@
 //! The items of lists.
 ghost use Rattle.std.specs.Prelude.{◌≡◌, ◌&&◌};
 ghost use Rattle.str0m_signal.specs.Prelude.{is_rest, lacks, num};
-ghost use Rattle.str0m_signal.specs.line.WordsReading.{word_text_read, name_read, digit_read, hex_pair_read, without_space};
+ghost use Rattle.str0m_signal.specs.line.WordsReading.{word_text_read, name_read, digit_read, hex_pair_read, without_word_space};
 
 use crate::line::fields::short_field;
 use crate::line::parts::Part;
@@ -124,8 +124,8 @@ impl Part for u8 {
 }
 
 /// The text without the space at its end.
-pub(crate) fn without_space(text: &str) -> &str
-    ensures { result.now ≡ without_space text.now }
+pub(crate) fn without_word_space(text: &str) -> &str
+    ensures { result.now ≡ without_word_space text.now }
 {
     text.strip_suffix(' ').unwrap_or(text)
 }

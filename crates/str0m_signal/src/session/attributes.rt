@@ -1,44 +1,13 @@
 //! Attribute lines, and runs of them.
 
-ghost use Rattle.std.specs.Prelude.{◌≡◌, ◌∷◌, ◌++◌, [], ℕ, List, Ok, Option, Some, IfOk, option_map};
+ghost use Rattle.std.specs.Prelude.{◌≡◌, ℕ, List, Ok, Option, IfOk, option_map};
 ghost use Rattle.str0m_signal.specs.line.Lines.{Run};
-ghost use Rattle.str0m_signal.specs.line.LinesReading.{lines_of, line_read, read_attribute, lines_left, ReadsTo, TakesPart, TakesLine};
+ghost use Rattle.str0m_signal.specs.line.LinesReading.{lines_of, line_read, read_attribute, lines_left, ReadsTo, TakesLast, TakesLine};
 
 use crate::line::lines::{BYTES_OF_A_LINE, clean_line};
 use std::alloc::{AllocError, Global};
 use str0m_values::Items;
 use str0m_values::cuts::strip;
-
-/// Where what is found goes.
-pub(crate) trait AttributePlace<A> {
-    /// What the place holds once an item was put there.
-    ghost Puts: { Self → A → Self → Type 0 };
-
-    fn put(&mut self, item: A) -> Result<(), AllocError>
-        ensures { IfOk result (λ _. Puts self.old item self.new) };
-}
-
-/// After the others of a list.
-impl<A: Drop> AttributePlace<A> for Vec<A> {
-    ghost Puts = { λ old item new. new.items ≡ old.items ++ item ∷ [] };
-
-    #[inline(always)]
-    fn put(&mut self, item: A) -> Result<(), AllocError> {
-        self.push(item)?;
-        Ok(())
-    }
-}
-
-/// Alone, for which no memory is asked.
-impl<A: Drop> AttributePlace<A> for Option<A> {
-    ghost Puts = { λ _ item new. new ≡ Some item };
-
-    #[inline(always)]
-    fn put(&mut self, item: A) -> Result<(), AllocError> {
-        *self = Some(item);
-        Ok(())
-    }
-}
 
 /// What a line of `a=` and a text may say: the attributes of sessions are one such table of forms,
 /// those of sections another.
@@ -46,28 +15,21 @@ pub(crate) trait Attribute: Drop {
     /// Which attribute a text after `a=` stands for.
     ghost reading: { List ℕ → Option Self };
 
-    /// Puts the attribute of the text after `a=` in its place, where it is one; whether it is.
-    fn take<P: AttributePlace<Self>>(
-        alloc: Global,
-        text: &str,
-        place: &mut P,
-    ) -> Result<bool, AllocError>
+    /// Puts the attribute of the text after `a=` behind the others, where it is one; whether it is.
+    fn take(alloc: Global, text: &str, place: &mut Vec<Self>) -> Result<bool, AllocError>
     where
         Self: Sized,
-        ensures { IfOk result (TakesPart P.Puts (reading text.now) place.old place.new) };
+        ensures { IfOk result (TakesLast (reading text.now) place.old.items place.new.items) };
 }
 
-/// Puts what was found in its place; whether there was anything.
+/// Puts what was found behind the others; whether there was anything.
 #[inline(always)]
-pub(crate) fn taken<A: Drop, P: AttributePlace<A>>(
-    found: Option<A>,
-    place: &mut P,
-) -> Result<bool, AllocError>
-    ensures { IfOk result (TakesPart P.Puts found place.old place.new) }
+pub(crate) fn taken<A: Drop>(found: Option<A>, place: &mut Vec<A>) -> Result<bool, AllocError>
+    ensures { IfOk result (TakesLast found place.old.items place.new.items) }
 {
     match found {
         Some(item) => {
-            place.put(item)?;
+            place.push(item)?;
             Ok(true)
         }
         None => Ok(false),
@@ -76,22 +38,22 @@ pub(crate) fn taken<A: Drop, P: AttributePlace<A>>(
 
 /// The same of what a form answers that asks for memory.
 #[inline(always)]
-pub(crate) fn taken_attribute_result<A: Drop, P: AttributePlace<A>>(
+pub(crate) fn taken_attribute_result<A: Drop>(
     answer: Result<Option<A>, AllocError>,
-    place: &mut P,
+    place: &mut Vec<A>,
 ) -> Result<bool, AllocError>
-    ensures { IfOk result (λ taken. (found : Option A) × (answer ≡ Ok found) × TakesPart P.Puts found place.old place.new taken) }
+    ensures { IfOk result (λ taken. (found : Option A) × (answer ≡ Ok found) × TakesLast found place.old.items place.new.items taken) }
 {
     taken(answer?, place)
 }
 
-/// Puts the attribute of the line in its place, where it is one; whether it is.
-fn take_attribute_content<A: Attribute, P: AttributePlace<A>>(
+/// Puts the attribute of the line behind the others, where it is one; whether it is.
+fn take_attribute_content<A: Attribute>(
     alloc: Global,
     line: &str,
-    place: &mut P,
+    place: &mut Vec<A>,
 ) -> Result<bool, AllocError>
-    ensures { IfOk result (TakesPart P.Puts (read_attribute A.reading line.now) place.old place.new) }
+    ensures { IfOk result (TakesLast (read_attribute A.reading line.now) place.old.items place.new.items) }
 {
     match strip(line, "a=") {
         Some(text) => A::take(alloc, text, place),
@@ -99,13 +61,13 @@ fn take_attribute_content<A: Attribute, P: AttributePlace<A>>(
     }
 }
 
-/// The attribute of the line. No list is made for it, which would take memory.
+/// The attribute of the line: of a list of one, so that the forms are compiled once, for lists.
 pub(crate) fn line<A: Attribute>(alloc: Global, line: &str) -> Result<Option<A>, AllocError>
     ensures { IfOk result (λ found. found ≡ read_attribute A.reading line.now) }
 {
-    let mut found = None;
+    let mut found = Vec::with_capacity(alloc, 1)?;
     take_attribute_content(alloc, line, &mut found)?;
-    Ok(found)
+    Ok(found.pop())
 }
 
 /// The attribute of the first line, and what follows that line.

@@ -4,10 +4,10 @@ ghost use Rattle.std.specs.Prelude.{◌≡◌, IfOk, List, ℕ, codes, option_ma
 ghost use Rattle.str0m_signal.specs.form.FormReading.{digits_read};
 ghost use Rattle.str0m_signal.specs.line.Heads.{session_head};
 ghost use Rattle.str0m_signal.specs.line.Lines.{Run, OneLine};
-ghost use Rattle.str0m_signal.specs.line.LinesReading.{lines_of, line_read, lines_left, both_lines_left, NextPart};
-ghost use Rattle.str0m_signal.specs.session.Header.{IsInfo, IsHeader};
+ghost use Rattle.str0m_signal.specs.line.LinesReading.{lines_of, line_read, lines_left, both_lines_left, NextLinePart};
+ghost use Rattle.str0m_signal.specs.session.Header.{IsHeaderInfo, IsHeader};
 ghost use Rattle.str0m_signal.specs.session.HeaderReading.{exact_read, origin_read, info_read, opening_read};
-ghost use Rattle.str0m_signal.specs.session.Section.{IsField};
+ghost use Rattle.str0m_signal.specs.session.Section.{IsSessionField};
 
 use crate::line::fields::{field, num_u64, read_field};
 use crate::line::lines::clean_line;
@@ -105,7 +105,7 @@ fn read_info(text: &str) -> Option<(&str, &str)>
 }
 
 fn skip_header_infos(text: &str) -> &str
-    ensures { (infos : List (List ℕ)) × Run (OneLine IsInfo) (lines_of text.now) infos (lines_of result.now) }
+    ensures { (infos : List (List ℕ)) × Run (OneLine IsHeaderInfo) (lines_of text.now) infos (lines_of result.now) }
 {
     let mut rest = text;
     while let Some((_, after)) = read_info(rest) {
@@ -115,7 +115,7 @@ fn skip_header_infos(text: &str) -> &str
 }
 
 fn skip_header_repeats(text: &str) -> &str
-    ensures { (repeats : List (List ℕ)) × Run (OneLine (IsField (codes "r="))) (lines_of text.now) repeats (lines_of result.now) }
+    ensures { (repeats : List (List ℕ)) × Run (OneLine (IsSessionField (codes "r="))) (lines_of text.now) repeats (lines_of result.now) }
 {
     let mut rest = text;
     while let Some((_, after)) = read_field(rest, "r=") {
@@ -129,7 +129,7 @@ pub(crate) fn next_header(
     alloc: Global,
     text: &str,
 ) -> Result<Option<(SessionHead, &str)>, AllocError>
-    ensures { IfOk result (λ found. NextPart IsHeader text.now (option_map session_head found)) }
+    ensures { IfOk result (λ found. NextLinePart IsHeader text.now (option_map session_head found)) }
 {
     let Some((id, rest)) = header_opening(text) else {
         return Ok(None);

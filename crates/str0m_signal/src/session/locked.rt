@@ -1,7 +1,7 @@
 //! The rows that rounds have locked.
 
 ghost use Rattle.std.specs.Prelude.{◌≡◌, ◌≢◌, [], IfOk};
-ghost use Rattle.str0m_signal.specs.back.ReadBack.{MayBePrinted};
+ghost use Rattle.str0m_signal.specs.back.ReadBack.{CanRowsBeReadBack};
 ghost use Rattle.str0m_signal.specs.session.Locked.{is_carried_by_section, locked_of_kind};
 
 use std::alloc::{AllocError, Global};
@@ -44,7 +44,7 @@ fn locked_among(
 /// The only error is that memory was refused. The configuration stays as it is.
 pub fn locked_rows(config: &CodecConfig, kind: MediaKind) -> Result<Vec<PayloadParams>, AllocError>
     ensures locked { IfOk result (λ rows. rows.items ≡ locked_of_kind kind config.now.params.items) }
-    ensures printable { MayBePrinted config.now.params.items → IfOk result (λ rows. rows.items ≢ [] → MayBePrinted rows.items) }
+    ensures printable { CanRowsBeReadBack config.now.params.items → IfOk result (λ rows. rows.items ≢ [] → CanRowsBeReadBack rows.items) }
 {
     locked_among(*config.allocator(), kind, config.params())
 }

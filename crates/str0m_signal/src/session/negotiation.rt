@@ -2,12 +2,12 @@
 
 ghost use Rattle.std.specs.Prelude.{◌≡◌, All, IfErr, IfOk, OnErr, filter_map, map, option_map, ℕ};
 ghost use Rattle.str0m_signal.specs.Prelude.{AllTypesDistinct, HasBoundedRows, IsPlain, Sdp, types};
-ghost use Rattle.str0m_signal.specs.back.ReadBack.{MayBePrinted, ReadsBack};
+ghost use Rattle.str0m_signal.specs.back.ReadBack.{CanRowsBeReadBack, ReadsBack};
 ghost use Rattle.str0m_signal.specs.back.Writable.{Writable};
 ghost use Rattle.str0m_signal.specs.back.WritableAgain.{IsWritableOverSrtp, IsRead, MayBeWrittenAgain};
 ghost use Rattle.str0m_signal.specs.session.Negotiation.{Negotiated, NegotiatedText, brought_by_round, brought_by_section};
-ghost use Rattle.str0m_signal.specs.session.Reader.{Described};
-ghost use Rattle.str0m_signal.specs.session.ReaderAnswers.{Refuses};
+ghost use Rattle.str0m_signal.specs.session.Reader.{DescribesSession};
+ghost use Rattle.str0m_signal.specs.session.ReaderAnswers.{ReaderRefuses};
 
 use crate::session::offer::described_offer;
 use std::alloc::{AllocError, Global};
@@ -50,7 +50,7 @@ fn negotiate(
     ensures err { OnErr result (config.new ≡ config.old) }
     ensures distinct { AllTypesDistinct (types config.old.params.items) → AllTypesDistinct (types config.new.params.items) }
     ensures plain { All HasBoundedRows sections.now → All IsPlain config.old.params.items → All IsPlain config.new.params.items }
-    ensures printable { All HasBoundedRows sections.now → MayBePrinted config.old.params.items → MayBePrinted config.new.params.items }
+    ensures printable { All HasBoundedRows sections.now → CanRowsBeReadBack config.old.params.items → CanRowsBeReadBack config.new.params.items }
 {
     let rounds = rounds_of(*config.allocator(), sections)?;
     config.update_all(rounds.as_slice())
@@ -77,20 +77,20 @@ pub fn negotiate_text(
     text: &str,
 ) -> Result<Vec<Result<(), NegotiationError>>, SdpError>
     ensures ok { IfOk result (λ outcomes. NegotiatedText text.now config.old.params.items outcomes.items config.new.params.items) }
-    ensures refused { IfErr result (λ error. Refuses error (Described text.now)) }
+    ensures refused { IfErr result (λ error. ReaderRefuses error (DescribesSession text.now)) }
     ensures err { OnErr result (config.new ≡ config.old) }
     ensures else_same { config.new ≡ record config.old { params = config.new.params } }
 
     // Whatever is answered, payload types that were distinct are distinct, and rows that were plain are plain.
     ensures distinct { AllTypesDistinct (types config.old.params.items) → AllTypesDistinct (types config.new.params.items) }
     ensures plain { All IsPlain config.old.params.items → All IsPlain config.new.params.items }
-    ensures printable { MayBePrinted config.old.params.items → MayBePrinted config.new.params.items }
+    ensures printable { CanRowsBeReadBack config.old.params.items → CanRowsBeReadBack config.new.params.items }
 
     // So they are read back: the rows that are left, printed in any session that is writable, at any place.
-    ensures read_back { MayBePrinted config.old.params.items → (sdp : Sdp) (i : ℕ) → Writable sdp i → ReadsBack sdp i config.new.params.items }
+    ensures read_back { CanRowsBeReadBack config.old.params.items → (sdp : Sdp) (i : ℕ) → Writable sdp i → ReadsBack sdp i config.new.params.items }
 
     // And so in every session that was read, in each section over Srtp: `is_writable` needn't be asked.
-    ensures back_in_readings { MayBePrinted config.old.params.items → (sdp : Sdp) (i : ℕ) → IsRead sdp → MayBeWrittenAgain sdp
+    ensures back_in_readings { CanRowsBeReadBack config.old.params.items → (sdp : Sdp) (i : ℕ) → IsRead sdp → MayBeWrittenAgain sdp
         → IsWritableOverSrtp sdp i → ReadsBack sdp i config.new.params.items }
 {
     let sdp = described_offer(*config.allocator(), text)?;

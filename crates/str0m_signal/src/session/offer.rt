@@ -3,8 +3,8 @@
 
 ghost use Rattle.std.specs.Prelude.{◌≡◌, All, IfOk, Some, string_bytes};
 ghost use Rattle.str0m_signal.specs.Prelude.{HasBoundedRows, sdp_text};
-ghost use Rattle.str0m_signal.specs.session.Reader.{Described};
-ghost use Rattle.str0m_signal.specs.session.ReaderAnswers.{Answers, AtMostOne};
+ghost use Rattle.str0m_signal.specs.session.Reader.{DescribesSession};
+ghost use Rattle.str0m_signal.specs.session.ReaderAnswers.{Answers, AtMostOneAnswer};
 
 use crate::line::lines::BYTES_OF_A_LINE;
 use crate::session::reader::sdp_parser;
@@ -24,8 +24,8 @@ pub struct SdpAnswer(Sdp);
 
 /// The description that a text begins with; what follows it is dropped.
 pub(crate) fn described_offer(alloc: Global, text: &str) -> Result<Sdp, SdpError>
-    ensures read { Answers (λ sdp. sdp) result (Described text.now) }
-    ensures one { AtMostOne (Described text.now) }
+    ensures read { Answers (λ sdp. sdp) result (DescribesSession text.now) }
+    ensures one { AtMostOneAnswer (DescribesSession text.now) }
     ensures bounded { IfOk result (λ sdp. All HasBoundedRows sdp.media_lines) }
 {
     match sdp_parser(alloc, text) {
@@ -73,8 +73,8 @@ impl SdpOffer {
     /// `ParseError` exactly where a header line is missing or wrong, or where a section that is
     /// reached isn't consistent; `Memory` where a growth was refused.
     pub fn from_sdp_string(alloc: Global, text: &str) -> Result<SdpOffer, SdpError>
-        ensures read { Answers (λ offer. offer) result (Described text.now) }
-        ensures one { AtMostOne (Described text.now) }
+        ensures read { Answers (λ offer. offer) result (DescribesSession text.now) }
+        ensures one { AtMostOneAnswer (DescribesSession text.now) }
 
         // The rows of its sections have types of seven bits, and modes and distances in their ranges.
         ensures bounded { IfOk result (λ offer. All HasBoundedRows offer.media_lines) }
@@ -139,8 +139,8 @@ impl SdpAnswer {
     /// `ParseError` exactly where a header line is missing or wrong, or where a section that is
     /// reached isn't consistent; `Memory` where a growth was refused.
     pub fn from_sdp_string(alloc: Global, text: &str) -> Result<SdpAnswer, SdpError>
-        ensures read { Answers (λ answer. answer) result (Described text.now) }
-        ensures one { AtMostOne (Described text.now) }
+        ensures read { Answers (λ answer. answer) result (DescribesSession text.now) }
+        ensures one { AtMostOneAnswer (DescribesSession text.now) }
 
         // The rows of its sections have types of seven bits, and modes and distances in their ranges.
         ensures bounded { IfOk result (λ answer. All HasBoundedRows answer.media_lines) }

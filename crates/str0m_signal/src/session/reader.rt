@@ -8,7 +8,7 @@ ghost use Rattle.str0m_signal.specs.form.SessionAttribute.{IsSessionLine};
 ghost use Rattle.str0m_signal.specs.line.Lines.{FirstLine};
 ghost use Rattle.str0m_signal.specs.line.LinesReading.{lines_left, line_read, lines_of, read_attribute};
 ghost use Rattle.str0m_signal.specs.session.Reader.{IsFromLine, Sections, IsSession, IsReading, Reading, SessionReading};
-ghost use Rattle.str0m_signal.specs.session.ReaderAnswers.{Answers, AtMostOne, GivesRead, IsReaderRefusal, unread};
+ghost use Rattle.str0m_signal.specs.session.ReaderAnswers.{Answers, AtMostOneAnswer, GivesRead, IsReaderRefusal, unread};
 
 use crate::form::session_attribute::session_attributes;
 use crate::session::attributes::{Attribute, next_line};
@@ -87,7 +87,7 @@ fn first_attribute<A: Attribute>(alloc: Global, text: &str) -> Result<(A, &str),
 /// refused.
 pub fn session_parser(alloc: Global, text: &str) -> Result<(Session, &str), SdpError>
     ensures read { Answers unread result (SessionReading text.now) }
-    ensures one { AtMostOne (SessionReading text.now) }
+    ensures one { AtMostOneAnswer (SessionReading text.now) }
 
     // The rest begins a line, or is nothing.
     ensures rest { IfOk result (λ found. IsFromLine text.now found.1.now) }
@@ -105,7 +105,7 @@ pub fn session_parser(alloc: Global, text: &str) -> Result<(Session, &str), SdpE
 /// isn't consistent; `Memory` where a growth was refused.
 pub fn sdp_parser(alloc: Global, text: &str) -> Result<(Sdp, &str), SdpError>
     ensures read { Answers unread result (Reading text.now) }
-    ensures one { AtMostOne (Reading text.now) }
+    ensures one { AtMostOneAnswer (Reading text.now) }
 
     // The rest begins a line, or is nothing.
     ensures rest { IfOk result (λ found. IsFromLine text.now found.1.now) }
@@ -128,7 +128,7 @@ pub fn session_attribute_line(
     text: &str,
 ) -> Result<(SessionAttribute, &str), SdpError>
     ensures read { Answers unread result (FirstLine IsSessionLine text.now) }
-    ensures one { AtMostOne (FirstLine IsSessionLine text.now) }
+    ensures one { AtMostOneAnswer (FirstLine IsSessionLine text.now) }
 
     // The rest begins a line, or is nothing.
     ensures rest { IfOk result (λ found. IsFromLine text.now found.1.now) }
@@ -145,7 +145,7 @@ pub fn session_attribute_line(
 /// refused.
 pub fn media_attribute_line(alloc: Global, text: &str) -> Result<(MediaAttribute, &str), SdpError>
     ensures read { Answers unread result (FirstLine IsMediaLine text.now) }
-    ensures one { AtMostOne (FirstLine IsMediaLine text.now) }
+    ensures one { AtMostOneAnswer (FirstLine IsMediaLine text.now) }
 
     // The rest begins a line, or is nothing.
     ensures rest { IfOk result (λ found. IsFromLine text.now found.1.now) }
@@ -161,7 +161,7 @@ pub fn media_attribute_line(alloc: Global, text: &str) -> Result<(MediaAttribute
 /// `ParseError` exactly where the first line is no candidate's; `Memory` where a growth was refused.
 pub fn candidate_attribute(alloc: Global, text: &str) -> Result<(Candidate, &str), SdpError>
     ensures read { Answers unread result (FirstLine IsCandidateLine text.now) }
-    ensures one { AtMostOne (FirstLine IsCandidateLine text.now) }
+    ensures one { AtMostOneAnswer (FirstLine IsCandidateLine text.now) }
 
     // The rest begins a line, or is nothing.
     ensures rest { IfOk result (λ found. IsFromLine text.now found.1.now) }

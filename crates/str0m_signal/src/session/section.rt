@@ -4,7 +4,7 @@ ghost use Rattle.std.specs.Prelude.{◌≡◌, IfOk, List, ℕ, Option, codes, o
 ghost use Rattle.str0m_signal.specs.line.Heads.{media_head_left};
 ghost use Rattle.str0m_signal.specs.line.Lines.{TakenLine, OneLine};
 ghost use Rattle.str0m_signal.specs.line.LinesReading.{lines_of, line_read};
-ghost use Rattle.str0m_signal.specs.session.Section.{IsField};
+ghost use Rattle.str0m_signal.specs.session.Section.{IsSessionField};
 ghost use Rattle.str0m_signal.specs.session.SectionReading.{head_read, NextSection};
 
 use crate::form::media_attribute::media_attributes;
@@ -16,7 +16,7 @@ use std::alloc::{AllocError, Global};
 use str0m_sdp::MediaLine;
 
 fn skip_connection(text: &str) -> &str
-    ensures { (connection : Option (List ℕ)) × TakenLine (OneLine (IsField (codes "c="))) (lines_of text.now) connection (lines_of result.now) }
+    ensures { (connection : Option (List ℕ)) × TakenLine (OneLine (IsSessionField (codes "c="))) (lines_of text.now) connection (lines_of result.now) }
 {
     match read_field(text, "c=") {
         Some((_, rest)) => rest,

@@ -1,6 +1,6 @@
 use Rattle.c_calls.proofs.offer_calls.zaxp_exchange_add_media.Goals as goal
-use Rattle.c_calls.specs.Common.{Of}
-use Rattle.c_parts.specs.Fault.{RefusesCall, ToldFault}
+use Rattle.c_calls.specs.Common.{OfHandle}
+use Rattle.c_parts.specs.Fault.{FaultRefusesCall, ToldFault}
 use Rattle.c_parts.specs.Side.{side_kind_numbered}
 use Rattle.c_parts.specs.declared.fault.Fault.TheVariants.{Refused}
 use Rattle.exchange.specs.declared.state.exchange.Exchange.{Exchange}
@@ -12,8 +12,8 @@ use Rattle.str0m_values.specs.declared.media_kind.MediaKind.{MediaKind}
 -- the fault is the error of the exchange
 pub returns-in-Err-clause-refused : goal.returns-in-Err-clause-refused
 returns-in-Err-clause-refused c = λ failed.
-    subst (λ (inner : Option Exchange). Of inner
-    (λ before. ToldFault (RefusesCall (RefusesMedia before (side_kind_numbered c.args.kind))) c.tell_error.result))
+    subst (λ (inner : Option Exchange). OfHandle inner
+    (λ before. ToldFault (FaultRefusesCall (RefusesMedia before (side_kind_numbered c.args.kind))) c.tell_error.result))
     (sym c.take-exchange.ensures.0) (
       Refused c.in-Err.error,
       subst (λ (before : Exchange). RefusesMedia before (side_kind_numbered c.args.kind) c.in-Err.error) c.deref_mut.ensures.value

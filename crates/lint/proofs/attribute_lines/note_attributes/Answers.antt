@@ -1,4 +1,4 @@
-use Rattle.lint.proofs.AttributeLinesLaws.{here, one_line_further, without_lines}
+use Rattle.lint.proofs.AttributeLinesLaws.{attribute_line_has_number, one_line_further, without_lines}
 use Rattle.lint.proofs.Common.{◌≡◌, ◌+◌, ◌∙◌, arith, rules}
 use Rattle.lint.proofs.attribute_lines.note_attributes.Goals as goal
 use Rattle.lint.specs.Findings.{NotesLine}
@@ -12,7 +12,8 @@ loop-line-preserved c =
       c.note_line.ensures.last ∙ now.invariant.1,
       λ fits.
           let so_far = now.invariant.2 fits in
-          let numbered = here c.args.notes.now c.args.before c.args.text.now c.args.marks.now now.notes now.passed now.rest.now now.left.now
+          let numbered = attribute_line_has_number c.args.notes.now c.args.before c.args.text.now c.args.marks.now now.notes now.passed
+          now.rest.now now.left.now
           c.in-Some.line.now c.in-Some.after.now fits so_far c.in-Some.ensures.line in
           let is : c.saturating_add-passed.result ≡ now.passed + 1 = omega (arith, numbered.1, now.notes.bounded) in
           let number : IsLineNumber now.notes.last c.saturating_add-passed.result = rw is numbered in

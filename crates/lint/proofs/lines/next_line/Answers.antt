@@ -5,8 +5,8 @@ use Rattle.str0m_signal.proofs.{part_cut_shorter}
 
 pub returns-in-Some-clause-line : goal.returns-in-Some-clause-line
 returns-in-Some-clause-line c =
-    line_at_feed c.args.text.now c.in-Some.line.now c.in-Some.rest.now c.without_return.result.now c.in-Some.ensures
-    c.without_return.ensures
+    line_at_feed c.args.text.now c.in-Some.line.now c.in-Some.rest.now c.line_without_return.result.now c.in-Some.ensures
+    c.line_without_return.ensures
 
 pub returns-in-Some-clause-shorter : goal.returns-in-Some-clause-shorter
 returns-in-Some-clause-shorter c = part_cut_shorter 10 c.args.text.now c.in-Some.line.now c.in-Some.rest.now (sym c.in-Some.ensures)

@@ -1,4 +1,4 @@
-use Rattle.show.proofs.NegotiationLinesLaws.{one_outcome_more}
+use Rattle.show.proofs.NegotiationLinesLaws.{one_outcome_line_more}
 use Rattle.show.proofs.negotiation_lines.outcome_lines.Goals as goal
 use Rattle.show.specs.NegotiationLines.{outcome_line}
 use Rattle.std.proofs.Common.{◌+◌, ◌++◌, List, ℕ, sym, ap, ◌∙◌}
@@ -11,4 +11,4 @@ loop-i-preserved c =
     c.in_ok-push_str.ensures.bytes
     ∙ ap (λ (line : List ℕ). string_bytes c.loop-i.text ++ line) (c.as_str.ensures.value ∙ c.in_ok-line.ensures.ok)
     ∙ ap (λ (lines : List ℕ). lines ++ outcome_line (i + 1) outcome) c.loop-i.invariant
-    ∙ sym (one_outcome_more c.args.outcomes.now i outcome c.loop-i-test.true c.index-outcomes-i.is)
+    ∙ sym (one_outcome_line_more c.args.outcomes.now i outcome c.loop-i-test.true c.index-outcomes-i.is)

@@ -3,7 +3,7 @@ use Rattle.str0m_values.proofs.CandidateText.{printed_candidate}
 use Rattle.str0m_values.proofs.Common.{◌≡◌, Result, Ok, Err, Option, Some, List, ℕ, ◌∙◌, ap, IfOk}
 use Rattle.str0m_values.proofs.CutsOnlyLaws.{only_read}
 use Rattle.str0m_values.proofs.candidate_text.candidate.Goals as goal
-use Rattle.str0m_values.specs.Candidate.{IsCandidateText, IsPrintable, candidate_text}
+use Rattle.str0m_values.specs.Candidate.{IsCandidateText, IsPrintableCandidate, candidate_text}
 use Rattle.str0m_values.specs.CandidateReading.{candidate_read}
 use Rattle.str0m_values.specs.Cuts.{IsTheOnly}
 use Rattle.str0m_values.specs.declared.candidate.Candidate.{Candidate}
@@ -14,7 +14,7 @@ candidate_found text (Ok found) h = only_read candidate_both text found h
 candidate_found text (Err e) h = tt
 
 printed : {E : Type 0} (text : List ℕ) (r : Result (Option Candidate) E) → IfOk r (λ found. found ≡ candidate_read text) → (c : Candidate)
-    → IsPrintable c → text ≡ candidate_text c → IfOk r (λ found. found ≡ Some c)
+    → IsPrintableCandidate c → text ≡ candidate_text c → IfOk r (λ found. found ≡ Some c)
 printed text (Ok found) h c fits is = h ∙ ap candidate_read is ∙ candidate_both.complete (candidate_text c) c (printed_candidate c fits)
 printed text (Err e) h c fits is = tt
 

@@ -4,7 +4,8 @@ use Rattle.c_parts.proofs.PartsFullness.{part_full_is}
 use Rattle.c_parts.proofs.PartsSteps.{◌≡◌, refl, [], ◌∷◌, ◌++◌, Val, SProp, id⊢, ftrue, fsep, WpFn, fact, tables, ‵, raw, ◌⊛◌, ◌$◌, ◌∵◌, ! }
 use Rattle.c_parts.proofs.PartsSteps.{qed, by, move, keep, use1, rewrite, prop, agg, no_more, and_then, of_opd, returns, enter, alloc_all}
 use Rattle.c_parts.proofs.PartsSteps.{pass_all, free_all, look_at, get, sets, RattleType, yes, type_at, heard, Stays, stay_dropped, walk_of}
-use Rattle.c_parts.proofs.PartsSteps.{Goes-dropped, proved_at, leaves, X, D, B, word, box_typed, box_in, takes_parts, begins, told_parts}
+use Rattle.c_parts.proofs.PartsSteps.{Goes-dropped, proved_at, leaves, X, D, B, word, box_typed, box_in, takes_parts, begins_parts}
+use Rattle.c_parts.proofs.PartsSteps.{told_parts}
 use Rattle.c_parts.proofs.PartsSteps.{spent_parts}
 use Rattle.c_parts.proofs.PartsSteps.{field_of_parts}
 use Rattle.c_parts.proofs.config_handle.ConfigHandle.into_parts.Code as code
@@ -35,7 +36,7 @@ into_parts_spec 𝓤 𝓛 𝓜 𝓡 wired =
     holds refl $
     use1 𝓛 (‵ ((B E).own_val held z.0.4.0)) (id⊢ 𝓤 _) $
     -- the handle is one word, which is the parts', too
-    begins E held z.0.4.0 (λ vs. prop (WpFn 𝓤 H 𝓣.C 𝓣.Λ fn (vs ++ []) Post)) ! refl (λ b o hv at fits. let w = word E hv b o in
+    begins_parts E held z.0.4.0 (λ vs. prop (WpFn 𝓤 H 𝓣.C 𝓣.Λ fn (vs ++ []) Post)) ! refl (λ b o hv at fits. let w = word E hv b o in
     box_in E ! held b o x at refl $ use1 𝓛 (‵ (To.own_val made (w ∷ []))) (id⊢ 𝓤 _) $
     enter ! 𝓣.C 𝓣.Λ fn (w ∷ []) Post $ alloc_all ! (λ l. pass_all ! refl (box_typed E hv b o fits, tt) $
     sets ! (field_of_parts 0 ! refl refl refl) refl (tt, tt) $ sets ! (field_of_parts 1 ! refl refl refl) refl fits $

@@ -3,7 +3,8 @@ use Rattle.c_parts.proofs.ConfigHandleAsBox.{ConfigBoxed as E, FromConfigParts a
 use Rattle.c_parts.proofs.PartsSteps.{◌≡◌, refl, [], ◌∷◌, ◌++◌, Val, SProp, id⊢, ftrue, fsep, WpFn, tables, ‵, raw, ◌⊛◌, ◌$◌, ◌∵◌, !, qed}
 use Rattle.c_parts.proofs.PartsSteps.{by, keep, use1, prop, agg, no_more, and_then, of_opd, returns, enter, alloc_all, pass_all, free_all}
 use Rattle.c_parts.proofs.PartsSteps.{look_at, get, sets, RattleType, type_at, Stays, stay_dropped, walk_of, Goes-dropped, proved_at}
-use Rattle.c_parts.proofs.PartsSteps.{leaves, D, B, word, box_typed, box_in, takes_parts, begins, told_parts, spent_parts, field_of_parts}
+use Rattle.c_parts.proofs.PartsSteps.{leaves, D, B, word, box_typed, box_in, takes_parts, begins_parts, told_parts, spent_parts}
+use Rattle.c_parts.proofs.PartsSteps.{field_of_parts}
 use Rattle.c_parts.proofs.config_handle.ConfigHandle.of_parts.Code as code
 use Rattle.c_parts.proofs.config_handle.ConfigHandle.of_parts.Statement.{statement}
 use Rattle.c_parts.specs.contracts.config_handle.ConfigHandle.of_parts.{ended, clauses}
@@ -23,7 +24,7 @@ of_parts_spec 𝓤 𝓛 𝓜 𝓡 wired =
     let made : To.Denot = record { ptr = held.ptr; alloc = held.alloc; inner = Some held.value } in
     qed 𝓛 ((‵ ftrue ⊛ ‵ (fsep ((B E).own_val held z.0.4.0) ftrue)) ∷ raw ((c tt z.0.3).requires z.1) ∷ []) ∵
     -- the parts are one word, which is the handle's, too
-    takes_parts ! $ begins E held z.0.4.0 (λ vs. prop (WpFn 𝓤 H 𝓣.C 𝓣.Λ fn (vs ++ []) Post)) ! refl
+    takes_parts ! $ begins_parts E held z.0.4.0 (λ vs. prop (WpFn 𝓤 H 𝓣.C 𝓣.Λ fn (vs ++ []) Post)) ! refl
     (λ b o hv at fits. let w = word E hv b o in
     box_in E ! held b o held.value at refl $ use1 𝓛 (‵ (To.own_val made (w ∷ []))) (id⊢ 𝓤 _) $
     enter ! 𝓣.C 𝓣.Λ fn (w ∷ []) Post $ alloc_all ! (λ l. pass_all ! refl (box_typed E hv b o fits, tt) $

@@ -4,7 +4,8 @@ use Rattle.c_parts.proofs.PartsSteps.{‵, raw, ◌⊛◌, at_ret, ◌$◌, ◌�
 use Rattle.c_parts.proofs.PartsSteps.{and_then, of_opd, returns, enter, first, blocks, exec, alloc_all, pass_all, free_all, look_at, get}
 use Rattle.c_parts.proofs.PartsSteps.{sets, lands_last, env, RattleType, no, block_ptr, plain, calls_at_last, Stays, stay_dropped, walk_of}
 use Rattle.c_parts.proofs.PartsSteps.{Goes-blank, after, fm, proved_at, leaves, D, R, P, B, args, word, box_typed, alive, boxed}
-use Rattle.c_parts.proofs.PartsSteps.{asked_parts_triple, takes_parts, begins, one_box, box_apart, answer, spent_parts, field_of_parts}
+use Rattle.c_parts.proofs.PartsSteps.{asked_parts_triple, takes_parts, begins_parts, one_box, box_apart, answer_parts, spent_parts}
+use Rattle.c_parts.proofs.PartsSteps.{field_of_parts}
 use Rattle.c_parts.proofs.parts.Parts.into_box.Code as code
 use Rattle.c_parts.proofs.parts.Parts.into_box.Statement.{statement}
 use Rattle.c_parts.specs.contracts.parts.Parts as parts
@@ -27,7 +28,7 @@ into_box_spec 𝓤 𝓛 𝓜 𝓡 wired X Z LX LZ g d dd allocator freed =
     let lasting = raw (fact 𝓤 (z.0.0.0 ⊑ X.lives)) ⊛ raw (fact 𝓤 (z.0.0.1.0 ⊑ Z.lives)) ⊛ ‵ ftrue in
     qed 𝓛 ((raw (alive 𝓛 S.signature z.0.0 z.0.1) ⊛ ‵ (fsep ((B E).own_val held z.0.4.0) ftrue)) ∷ lasting ∷ []) ∵
     -- the parts are one word, an allocator and a pointer
-    takes_parts ! $ begins E held z.0.4.0 (λ vs. prop (WpFn 𝓤 H 𝓣.C 𝓣.Λ fn (vs ++ []) Post)) ! refl
+    takes_parts ! $ begins_parts E held z.0.4.0 (λ vs. prop (WpFn 𝓤 H 𝓣.C 𝓣.Λ fn (vs ++ []) Post)) ! refl
     (λ b o hv at fits. box_apart E held b o hv ! $
     let k = asked_parts_triple 𝓛 T e in let w = word E hv b o in let y : k.Ghost =
     ((z.0.0, z.0.1, tt, (held.alloc, (block_ptr b o, tt)), (hv ∷ [], (vptr b o ∷ [], tt))), held.value) in
@@ -40,7 +41,7 @@ into_box_spec 𝓤 𝓛 𝓜 𝓡 wired X Z LX LZ g d dd allocator freed =
     calls_at_last ! (fm 𝓛 𝓜 𝓡) k (met 𝓤 𝓛 𝓜 𝓡 (code.calls-std_alloc::boxed::Box::from_raw 𝓡.env wired) X Z LX LZ g d dd allocator freed) y
     (and_then ! (get ! refl) (and_then ! (get ! refl) (no_more !))) (λ u.
     -- the box that comes back has the value
-    answer 𝓛 T e y u ! tt (λ r ls. use1 𝓛 (raw (fact 𝓤 (r.value ≡ held.value)))
+    answer_parts 𝓛 T e y u ! tt (λ r ls. use1 𝓛 (raw (fact 𝓤 (r.value ≡ held.value)))
     (fst∗ 𝓤 (fact 𝓤 (r.value ≡ held.value)) (fact 𝓤 (r.alloc ≡ held.alloc))) $ move ! (1 ∷ []) $
     one_box E r u ! (λ typed.
     lands_last ! refl typed $ exec ! 𝓣.C 𝓣.Λ (env fn.locals l) (after 3 fn.body) (at_ret (env fn.locals l) Post)

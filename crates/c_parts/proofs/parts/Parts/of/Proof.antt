@@ -3,8 +3,9 @@ use Rattle.c_parts.proofs.PartsSteps.{◌≡◌, refl, ap, [], ◌∷◌, ◌++�
 use Rattle.c_parts.proofs.PartsSteps.{tables, ‵, raw, ◌⊛◌, ◌$◌, ◌∵◌, !, qed, by, keep, use1, join, prop, agg, no_more, and_then, of_opd}
 use Rattle.c_parts.proofs.PartsSteps.{returns, enter, alloc_all, pass_all, free_all, look_at, get, sets, lands_as, no, bounded, plain, only}
 use Rattle.c_parts.proofs.PartsSteps.{calls_at, Stays, stay_dropped, walk_of, Goes-blank, fm, proved_at, leaves, B, D, word, box_typed}
-use Rattle.c_parts.proofs.PartsSteps.{box_in, alive, boxed, asked_parts_triple, takes_parts, hands_parts, begins, box_in_one, box_both}
-use Rattle.c_parts.proofs.PartsSteps.{answer}
+use Rattle.c_parts.proofs.PartsSteps.{box_in, alive, boxed, asked_parts_triple, takes_parts, hands_parts, begins_parts, box_in_one}
+use Rattle.c_parts.proofs.PartsSteps.{box_both}
+use Rattle.c_parts.proofs.PartsSteps.{answer_parts}
 use Rattle.c_parts.proofs.PartsSteps.{told_parts, spent_parts}
 use Rattle.c_parts.proofs.PartsSteps.{field_of_parts}
 use Rattle.c_parts.proofs.parts.Parts.of.Code as code
@@ -26,7 +27,7 @@ of_spec 𝓤 𝓛 𝓜 𝓡 wired X Z LX LZ g d dd dx allocator freed dropped =
     let v : D E = z.0.3.0 in let Post : Val → SProp 𝓤 = (walk_of 𝓛 S gone c).post z in
     qed 𝓛 ((raw (alive 𝓛 S.signature z.0.0 z.0.1) ⊛ ‵ (fsep ((B E).own_val v z.0.4.0) ftrue)) ∷ raw ((c z.0.0 z.0.3).requires z.1) ∷ []) ∵
     -- the box is one word, which is handed on
-    takes_parts ! $ begins E v z.0.4.0 (λ vs. prop (WpFn 𝓤 H 𝓣.C 𝓣.Λ fn (vs ++ []) Post)) ! refl (λ b o hv at fits.
+    takes_parts ! $ begins_parts E v z.0.4.0 (λ vs. prop (WpFn 𝓤 H 𝓣.C 𝓣.Λ fn (vs ++ []) Post)) ! refl (λ b o hv at fits.
     let k = asked_parts_triple 𝓛 T e in let w = word E hv b o in let y : k.Ghost = ((z.0.0, z.0.1, tt, (v, tt), (w ∷ [], tt)), tt) in
     box_in E ! v b o v.value at refl $ hands_parts ! $ join ! $ use1 𝓛 (raw (k.pre y)) (id⊢ 𝓤 _) $
     enter ! 𝓣.C 𝓣.Λ fn (w ∷ []) Post
@@ -34,7 +35,7 @@ of_spec 𝓤 𝓛 𝓜 𝓡 wired X Z LX LZ g d dd dx allocator freed dropped =
     calls_at ! (fm 𝓛 𝓜 𝓡) k (met 𝓤 𝓛 𝓜 𝓡 (code.calls-std_alloc::boxed::Box::into_raw_with_allocator 𝓡.env wired) X Z LX LZ g d dd dx
     allocator freed dropped) y (and_then ! (get ! refl) (no_more !)) (λ u.
     -- the pair that comes back is the parts' word, and owns what they do
-    answer 𝓛 T e y u ! tt (λ r ls. box_both E v.alloc v.value r (u ∷ []) ! $
+    answer_parts 𝓛 T e y u ! tt (λ r ls. box_both E v.alloc v.value r (u ∷ []) ! $
     let made : D E = record { ptr = r.0; alloc = r.1; value = v.value } in box_in_one E made (u ∷ []) ! (λ b' o' hv' is fits'.
     let typed = box_typed E hv' b' o' fits' in lands_as ! (ap only is) refl typed $
     -- its fields are moved

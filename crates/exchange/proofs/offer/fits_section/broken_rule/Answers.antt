@@ -8,13 +8,13 @@ pub returns-then-not-branch : goal.returns-then-not-branch
 returns-then-not-branch c =
     first_rule_broken c.args.ours.now.params.items c.args.answer.now c.args.offered.now c.args.answered.now
     c.rules-rule-items.result.now c.rules-rule-items.ensures c.loop-rule.rule-index
-    c.loop-rule-test.true c.loop-rule.invariant (λ kept. true≢false (sym (c.in_ok-keeps.ensures.1 kept) ∙ c.if-not-branch.true))
+    c.loop-rule-test.true c.loop-rule.invariant (λ kept. true≢false (sym (c.in_ok-fit_keeps_rule.ensures.1 kept) ∙ c.if-not-branch.true))
 
 pub loop-rule-preserved : goal.loop-rule-preserved
 loop-rule-preserved c =
     All-more (KeepsRule c.args.ours.now.params.items c.args.answer.now c.args.offered.now c.args.answered.now) c.rules-rule-items.result.now
     c.loop-rule.rule-index Sections
-    c.loop-rule-test.true c.loop-rule.invariant (c.in_ok-keeps.ensures.0 c.if-not-branch.false)
+    c.loop-rule-test.true c.loop-rule.invariant (c.in_ok-fit_keeps_rule.ensures.0 c.if-not-branch.false)
 
 pub returns : goal.returns
 returns c =

@@ -5,7 +5,7 @@ use Rattle.str0m_signal.proofs.session.HeaderLaws.{header_info_both}
 use Rattle.str0m_signal.proofs.session.header.skip_header_infos.Goals as goal
 use Rattle.str0m_signal.specs.line.Lines.{OneLine}
 use Rattle.str0m_signal.specs.line.LinesReading.{lines_of}
-use Rattle.str0m_signal.specs.session.Header.{IsInfo}
+use Rattle.str0m_signal.specs.session.Header.{IsHeaderInfo}
 
 pub loop-after-init : goal.loop-after-init
 loop-after-init c = (search rules, ([], refl))
@@ -17,7 +17,7 @@ loop-after-preserved c =
       search rules,
       (
         c.loop-after.invariant.1.0 ++ c.in-Some.field-0-0.now ∷ [],
-        chain_more (OneLine IsInfo) (lines_of c.args.text.now) c.loop-after.invariant.1.0 (lines_of c.loop-after.rest.now)
+        chain_more (OneLine IsHeaderInfo) (lines_of c.args.text.now) c.loop-after.invariant.1.0 (lines_of c.loop-after.rest.now)
             c.in-Some.field-0-0.now (lines_of c.in-Some.after.now) c.loop-after.invariant.1.1 next,
       ),
     )
@@ -26,7 +26,7 @@ pub loop-after-smaller : goal.loop-after-smaller
 loop-after-smaller c =
     let next = line_found header_info_both (lines_of c.loop-after.rest.now) c.in-Some.field-0-0.now (lines_of c.in-Some.after.now)
     (sym c.in-Some.ensures) in
-    chain_one_fewer IsInfo (lines_of c.loop-after.rest.now) c.in-Some.field-0-0.now (lines_of c.in-Some.after.now) next
+    chain_one_fewer IsHeaderInfo (lines_of c.loop-after.rest.now) c.in-Some.field-0-0.now (lines_of c.in-Some.after.now) next
 
 pub returns : goal.returns
 returns c = (

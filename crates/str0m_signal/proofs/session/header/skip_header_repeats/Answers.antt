@@ -5,7 +5,7 @@ use Rattle.str0m_signal.proofs.session.SectionLaws.{section_field_both}
 use Rattle.str0m_signal.proofs.session.header.skip_header_repeats.Goals as goal
 use Rattle.str0m_signal.specs.line.Lines.{OneLine}
 use Rattle.str0m_signal.specs.line.LinesReading.{lines_of}
-use Rattle.str0m_signal.specs.session.Section.{IsField}
+use Rattle.str0m_signal.specs.session.Section.{IsSessionField}
 
 pub loop-after-init : goal.loop-after-init
 loop-after-init c = (search rules, ([], refl))
@@ -18,7 +18,8 @@ loop-after-preserved c =
       search rules,
       (
         c.loop-after.invariant.1.0 ++ c.in-Some.field-0-0.now ∷ [],
-        chain_more (OneLine (IsField (codes "r="))) (lines_of c.args.text.now) c.loop-after.invariant.1.0 (lines_of c.loop-after.rest.now)
+        chain_more (OneLine (IsSessionField (codes "r="))) (lines_of c.args.text.now) c.loop-after.invariant.1.0
+            (lines_of c.loop-after.rest.now)
             c.in-Some.field-0-0.now (lines_of c.in-Some.after.now) c.loop-after.invariant.1.1 next,
       ),
     )
@@ -28,7 +29,8 @@ loop-after-smaller c =
     let next = line_found (section_field_both (codes "r=")) (lines_of c.loop-after.rest.now) c.in-Some.field-0-0.now
     (lines_of c.in-Some.after.now)
     (sym c.in-Some.ensures) in
-    chain_one_fewer (IsField (codes "r=")) (lines_of c.loop-after.rest.now) c.in-Some.field-0-0.now (lines_of c.in-Some.after.now) next
+    chain_one_fewer (IsSessionField (codes "r=")) (lines_of c.loop-after.rest.now) c.in-Some.field-0-0.now (lines_of c.in-Some.after.now)
+    next
 
 pub returns : goal.returns
 returns c = (

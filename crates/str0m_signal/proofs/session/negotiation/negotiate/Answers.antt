@@ -3,7 +3,7 @@ use Rattle.str0m_signal.proofs.Common.{All, types, AllTypesDistinct, IsPlain}
 use Rattle.str0m_signal.proofs.back.ReadBackRows.{rows_still_printable}
 use Rattle.str0m_signal.proofs.session.NegotiationLaws.{round_kept_or_same, rounds_bounded}
 use Rattle.str0m_signal.proofs.session.negotiation.negotiate.Goals as goal
-use Rattle.str0m_signal.specs.back.ReadBack.{MayBePrinted}
+use Rattle.str0m_signal.specs.back.ReadBack.{CanRowsBeReadBack}
 
 pub returns-clause-distinct : goal.returns-clause-distinct
 returns-clause-distinct c =
@@ -21,7 +21,7 @@ returns-clause-plain c = λ bounded.
 
 pub returns-clause-printable : goal.returns-clause-printable
 returns-clause-printable c = λ bounded.
-    round_kept_or_same (λ (config : CodecConfig). MayBePrinted config.params.items) _ c.update_all.result c.args.config.now
+    round_kept_or_same (λ (config : CodecConfig). CanRowsBeReadBack config.params.items) _ c.update_all.result c.args.config.now
     c.update_all.new.self
     (λ outcomes promises. rows_still_printable _ _ promises.rows
     (λ before. promises.plain before (rw c.as_slice.ensures.value (rounds_bounded c.args.sections.now c.in_ok-rounds.rounds.items

@@ -1,5 +1,5 @@
 use Rattle.str0m_sdp.proofs.Common.{◌++◌, ◌==◌, ℕ, List, replicate, filter, filter_map, option_to_list, refl, rules, tests, sym, ap, ◌∙◌}
-use Rattle.str0m_sdp.proofs.Common.{Bor, list_any, take_all, All-same, line_values, FormatParam, CodecSpec, PayloadParams, IsBounded}
+use Rattle.str0m_sdp.proofs.Common.{Bor, list_any, take_all, All-same, format_line_values, FormatParam, CodecSpec, PayloadParams, IsBounded}
 use Rattle.str0m_sdp.proofs.section.MappingsFilterMap.{filter_map_kept, filter_map_left_out}
 use Rattle.str0m_sdp.proofs.section.SectionRowsBoundLaws.{rows_bounded}
 use Rattle.str0m_sdp.proofs.section.SectionRowsGatherLaws.{TypeMarks, row_nothing_gathered, row_all_gathered}
@@ -16,7 +16,7 @@ loop-pt-init c =
     let m = c.args.self.now in
     let all = rw (c.as_slice-2.ensures, c.requires) at c.in_ok-lines.ensures.words in (
       c.in_ok-groups.ensures m.attrs
-          (λ pt. ap (λ (ls : List (ℕ × Bor (List FormatParam))). line_values (fmtp_lines_with pt ls)) c.as_slice-3.ensures.value
+          (λ pt. ap (λ (ls : List (ℕ × Bor (List FormatParam))). format_line_values (fmtp_lines_with pt ls)) c.as_slice-3.ensures.value
           ∙ all.gathered pt),
       search (rules, tests),
     )
@@ -36,7 +36,7 @@ loop-pt-preserved c =
       | goal.then-is_kept+in_ok-format+in_ok-push_row w ↦
           let pt = item.0 in
           let own =
-          ap (λ (ls : List (ℕ × Bor (List FormatParam))). line_values (fmtp_lines_with pt ls)) w.as_slice-lines.ensures.value
+          ap (λ (ls : List (ℕ × Bor (List FormatParam))). format_line_values (fmtp_lines_with pt ls)) w.as_slice-lines.ensures.value
           ∙ all.gathered pt in (
             rw w.groups-is (w.in_ok-format.ensures.known m.attrs known),
             rw w.rows-is (

@@ -2,7 +2,7 @@ use Rattle.str0m_sdp.proofs.Common.{Some, nat_eq, refl, ap, ◌∙◌, insert_en
 use Rattle.str0m_sdp.proofs.section.SourceLaws.{source_written}
 use Rattle.str0m_sdp.proofs.section.sources.Sources.add_repair.Goals as goal
 use Rattle.str0m_sdp.specs.declared.section.ssrc_info.SsrcInfo.{SsrcInfo}
-use Rattle.str0m_sdp.specs.section.Sources.{entries}
+use Rattle.str0m_sdp.specs.section.Sources.{source_entries}
 
 pub returns-clause-entries : goal.returns-clause-entries
 returns-clause-entries c =
@@ -12,7 +12,7 @@ returns-clause-entries c =
     let is = source_written c.args.repairing c.in_ok-place.place old.infos.items c.place_of.new.self.infos.items (repairing was) was
     repairing
     (λ info. refl) c.in_ok-place.ensures.info c.index_mut-info.ensures.value refl in
-    (c.in_ok-place.ensures.put (repairing was) is.1).0 ∙ ap (λ info. insert_entry nat_eq (entries old) c.args.repairing info) is.0
+    (c.in_ok-place.ensures.put (repairing was) is.1).0 ∙ ap (λ info. insert_entry nat_eq (source_entries old) c.args.repairing info) is.0
 
 pub returns-clause-placed : goal.returns-clause-placed
 returns-clause-placed c =
