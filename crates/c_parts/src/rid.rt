@@ -1,7 +1,7 @@
 //! Streams that may be restricted, as C holds them.
 
 ghost use Rattle.c_parts.specs.Rid.{c_rid, c_rids, rid_way_number};
-ghost use Rattle.std.specs.Prelude.{◌≡◌, IfOk, filter_map};
+ghost use Rattle.std.specs.Prelude.{◌≡◌, ◌++◌, IfOk, OnOk, filter_map, option_to_list};
 
 use crate::section::section_direction_of;
 use crate::section_item::SectionItem;
@@ -39,10 +39,25 @@ fn rid_of(line: &MediaAttribute) -> Option<SectionRid>
     }
 }
 
+/// Puts the rid of a line behind the others, where it is one.
+fn push_rid(made: &mut Vec<SectionRid>, line: &MediaAttribute) -> Result<(), AllocError>
+    ensures { OnOk result (made.new.items ≡ made.old.items ++ option_to_list (c_rid line.now)) }
+{
+    if let Some(rid) = rid_of(line) {
+        made.push(rid)?;
+    }
+    Ok(())
+}
+
+/// The rids of the lines. Not by `collect`, which asks again for less where memory is refused.
 fn rids_among(alloc: Global, lines: &[MediaAttribute]) -> Result<Vec<SectionRid>, AllocError>
     ensures { IfOk result (λ made. made.items ≡ filter_map c_rid lines.now) }
 {
-    lines.iter().filter_map(|line| rid_of(line)).collect(alloc)
+    let mut made = Vec::new(alloc);
+    for line in lines {
+        push_rid(&mut made, line)?;
+    }
+    Ok(made)
 }
 
 /// The rid lines of a section.

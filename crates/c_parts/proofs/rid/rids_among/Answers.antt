@@ -1,10 +1,10 @@
 use Rattle.c_parts.proofs.rid.rids_among.Goals as goal
-use Rattle.std.proofs.Common.{rules, tests}
-use Rattle.std.proofs.lemmas.Iterator.{YieldsList-from_slice, items_from_collect}
-use Rattle.std.proofs.lemmas.Iterator.Consumers.{YieldsList-from_filter_map}
+use Rattle.c_parts.specs.Rid.{c_rid}
+use Rattle.std.proofs.Common.{arith}
+use Rattle.std.proofs.lemmas.Grind.{common_steps}
+use Rattle.str0m_sdp.proofs.{map_more}
 
-pub returns : goal.returns
-returns c =
-    items_from_collect _ c.collect.ensures.ran
-    (YieldsList-from_filter_map _ _ (YieldsList-from_slice c.args.lines.now (cc)) c.filter_map.ensures.closure
-    (λ x r q k. search (rules, tests)))
+pub loop-line-preserved : goal.loop-line-preserved
+loop-line-preserved c =
+    let more = map_more c_rid c.args.lines.now c.loop-line.line-index c.line-item.result c.loop-line-test.true c.line-item.is in
+    grind (arith, common_steps, more)
