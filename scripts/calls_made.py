@@ -6,9 +6,7 @@ has `NAME(` for a function, `TYPE::NAME` for one that takes no value, `.NAME(` f
 a parameter is a value of the type, as `value: &TYPE`. Comments and texts are no code.
 
 A case comes to the functions `answers` of the files that have its word, without the arms of `match word` that other words take, and from there
-to each function whose name is called.
-
-No source calls `collect` or `extend`, which ask again for less where memory is refused."""
+to each function whose name is called."""
 import re
 from dataclasses import dataclass
 
@@ -27,7 +25,6 @@ ARM = re.compile(r'(?:"[\w-]+"\s*(?:\|\s*)?)+(?:if [^=]*)?=> ')
 ASKED = re.compile(r"\bmatch (?:word|asked) \{")
 WORD = re.compile(r'"([\w-]+)"')
 CALLED = re.compile(r"\b(\w+)(?:::<[^()]*>)?\(")
-COLLECTED = re.compile(r"\.(collect|extend)(?:::<[^()]*>)?\(")
 
 
 @dataclass(frozen=True)
@@ -154,16 +151,8 @@ def runs():
         yield reached([it for it in of_cases if it.name == "answers" and it.file in files], of_cases, word)
 
 
-def asked_again():
-    """The files that call what std asks again for less memory, once it is refused: there the first refusal is not the answer."""
-    for file in sorted(TOP.glob("crates/*/src/**/*.rt")):
-        for found in COLLECTED.finditer(file.read_text("utf-8")):
-            yield f"{file.relative_to(TOP)}: {found[1]} asks again where memory is refused: push each item, with ?"
-
-
 def faults():
-    """The public calls that may need memory and that nothing makes, and what doesn't answer a refusal at once."""
-    yield from asked_again()
+    """The public calls that may need memory and that nothing makes."""
     own = [it for it in functions("str0m_*", "exchange") if it.is_public]
     wants = {"AllocError", *(it for crate in ("str0m_*", "exchange") for file in TOP.glob(f"crates/{crate}/src/**/*.rt") for it in WANT.findall(file.read_text()))}
     names, made_by = [it.name for it in own], list(runs())
