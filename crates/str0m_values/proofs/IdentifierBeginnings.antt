@@ -2,7 +2,7 @@
 use Rattle.std.specs.Fmt.Cut.{floor_char_boundary}
 use Rattle.str0m_values.proofs.Common.{◌≡◌, ◌⊎◌, ℕ, zero, suc, ◌<◌, ◌≤◌, true, false, leb, List, [], ◌++◌, length, take, drop, refl, sym}
 use Rattle.str0m_values.proofs.Common.{ap, ◌∙◌, inl, inr, arith, take-append-drop, length-take-le, IsCharBoundary, ltb-true, leb-true}
-use Rattle.str0m_values.proofs.Common.{cases_Bool, cases_lt, take-append_seam, ◌+◌, ◌∷◌, length-append, is_char_start, leb-false}
+use Rattle.str0m_values.proofs.Common.{cases_Bool, cases_lt, take-append_seam, ◌∷◌, length-append, is_char_start, leb-false}
 use Rattle.str0m_values.proofs.Common.{append-nil}
 use Rattle.str0m_values.specs.ShortText.{IsLongestShortText, text_beginning_of}
 

@@ -2,7 +2,7 @@
 use Rattle.std.specs.Char.{encode_utf8}
 use Rattle.std.specs.Fmt.{digits}
 use Rattle.std.specs.Str.{trim_end, chars, trim_start}
-use Rattle.str0m_formats.proofs.Common.{◌≡◌, ◌≢◌, ◌≤◌, ◌<◌, ◌^◌, ◌-◌, inl, ℕ, Bool, true, false, List, [], ◌∷◌, ◌++◌, get_or, replicate}
+use Rattle.str0m_formats.proofs.Common.{◌≡◌, ◌≢◌, ◌≤◌, ◌<◌, ◌^◌, inl, ℕ, Bool, true, false, List, [], ◌∷◌, ◌++◌, get_or, replicate}
 use Rattle.str0m_formats.proofs.Common.{refl, sym, ap, ◌∙◌, arith, lit<, decimal, AllDigits, digits_value, decimal_is_IsNumeral}
 use Rattle.str0m_formats.proofs.Common.{digits_is_IsNumeral, length-append, false≢true, IsNumber, IsNum, IsRest, Option, Some, None}
 use Rattle.str0m_formats.proofs.Common.{MatchOption, nat_le, inr, ◌==◌, ◌&&◌, and_parts, cases_lt, eqb-true, leb-true, zero, suc, IsNumeral}

@@ -1,6 +1,6 @@
 -- What each field of a format prints: keys with values, and the range of events.
 use Rattle.std.specs.Fmt.{digits}
-use Rattle.str0m_formats.proofs.Common.{◌≡◌, ◌≤◌, ◌<◌, ◌-◌, ℕ, replicate, Bool, true, false, List, [], ◌∷◌, ◌++◌, map, Option, Some, None}
+use Rattle.str0m_formats.proofs.Common.{◌≡◌, ◌≤◌, ℕ, replicate, Bool, true, false, List, [], ◌∷◌, ◌++◌, map, Option, Some, None}
 use Rattle.str0m_formats.proofs.Common.{IfSome, option_map, refl, sym, ap, ◌∙◌, arith, lit≤, lit<, codes, decimal, AllByRecursion}
 use Rattle.str0m_formats.proofs.Common.{cons_option, join_with_byte, list_all, false≢true, append_assoc, length-append, none-some, IsRest}
 use Rattle.str0m_formats.proofs.Common.{decimal_is_IsNumeral, digits_is_IsNumeral, ProfileTierLevel, zero, suc}

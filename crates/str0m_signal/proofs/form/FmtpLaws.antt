@@ -3,7 +3,7 @@ use Rattle.str0m_sdp.specs.declared.label.TheConstants as label
 use Rattle.str0m_signal.proofs.Common.{◌≡◌, ◌⊎◌, ℕ, suc, ◌<◌, Bool, true, false, List, [], ◌∷◌, ◌++◌, length, Option, Some, None, refl, sym}
 use Rattle.str0m_signal.proofs.Common.{ap, subst, ◌∙◌, arith, inl, inr, length-append, codes, ne_eqb, ltb-true, lt-ltb, cases_eq, both_ways}
 use Rattle.str0m_signal.proofs.Common.{append-nil, some_pair_parts, FormatParam, Lacks, IsRest, Bor, pair_texts, pairs_read_is, params_read}
-use Rattle.str0m_signal.proofs.Common.{FirstFit, lacks, ◌>>=◌, cut, strip, when, is_rest, num, before, cut_at, cut_found, strip_found}
+use Rattle.str0m_signal.proofs.Common.{FirstFit, ◌>>=◌, cut, strip, when, is_rest, num, before, cut_at, cut_found, strip_found}
 use Rattle.str0m_signal.proofs.Common.{strip_at, cuts_when_some, lacks_cut_true, lacks_cut_from, LacksCut-append, cuts_bind_some}
 use Rattle.str0m_signal.proofs.Common.{cuts_some_is, cuts_if_some, cuts_reads_first}
 use Rattle.str0m_signal.proofs.Common.{num_rest_true, number_lacks, num_found, num_reads, cut_before_front, Reads, ArePairsRead}

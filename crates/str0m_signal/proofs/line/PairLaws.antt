@@ -1,5 +1,5 @@
 -- The parts of an fmtp pair.
-use Rattle.str0m_signal.proofs.Common.{◌≡◌, ◌⊎◌, ℕ, ◌<◌, ◌≤◌, zero, suc, true, false, not, ◌&&◌, List, [], ◌∷◌, ◌++◌, length, take, drop}
+use Rattle.str0m_signal.proofs.Common.{◌≡◌, ◌⊎◌, ℕ, ◌<◌, ◌≤◌, zero, suc, true, not, ◌&&◌, List, [], ◌∷◌, ◌++◌, length, take, drop}
 use Rattle.str0m_signal.proofs.Common.{None, Some, refl, sym, ap, ◌∙◌, arith, inl, inr, lt-ltb, false≢true, append-nil, AllByRecursion}
 use Rattle.str0m_signal.proofs.Common.{list_any, Lacks, IsRest, before, lacks, when, is_rest, cut_before_front, strip_at, if◌then◌else◌}
 use Rattle.str0m_signal.proofs.Common.{take-append-drop}

@@ -1,5 +1,5 @@
 -- Lists of words are read both ways.
-use Rattle.str0m_signal.proofs.Common.{rules, ◌≡◌, ◌≢◌, ◌⊎◌, ◌<◌, ◌≤◌, ◌+◌, ℕ, List, [], ◌∷◌, ◌++◌, Option, Some, None, refl, sym, ap, ◌∙◌}
+use Rattle.str0m_signal.proofs.Common.{rules, ◌≡◌, ◌≢◌, ◌⊎◌, ◌<◌, ◌≤◌, ℕ, List, [], ◌∷◌, ◌++◌, Option, Some, None, refl, sym, ap, ◌∙◌}
 use Rattle.str0m_signal.proofs.Common.{arith, inl, inr, codes, digit_value, lt-ltb, eq-eqb, ne_eqb, cases_eq, ◌>>=◌, cut, strip, lacks, num}
 use Rattle.str0m_signal.proofs.Common.{PartedAddress, Lacks, IsRest, IsNum, beginning_is, beginning_only, cuts_bind_some, cuts_if_some}
 use Rattle.str0m_signal.proofs.Common.{cuts_some_is}

@@ -1,6 +1,5 @@
 -- Printed sections: their m-line, `c=` and `b=` lines, and the whole of them.
 use Rattle.str0m_sdp.specs.attribute.Proto.{proto_text}
-use Rattle.str0m_sdp.specs.declared.attribute.media_type.MediaType.TheVariants as typ
 use Rattle.str0m_signal.proofs.Common.{◌≡◌, ◌≤◌, inl, ℕ, Bool, true, List, [], ◌∷◌, ◌++◌, refl, sym, ap, ◌∙◌, subst, arith, lit<, ◌↔◌}
 use Rattle.str0m_signal.proofs.Common.{IsTrue, codes, AllByRecursion, join_by, decimal, append_assoc, append-nil, FirstFit, PartedAddress}
 use Rattle.str0m_signal.proofs.Common.{IsWord}

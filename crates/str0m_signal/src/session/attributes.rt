@@ -48,6 +48,7 @@ pub(crate) fn taken_attribute_result<A: Drop>(
 }
 
 /// Puts the attribute of the line behind the others, where it is one; whether it is.
+#[inline(always)]
 fn take_attribute_content<A: Attribute>(
     alloc: Global,
     line: &str,
