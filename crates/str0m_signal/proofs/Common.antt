@@ -66,7 +66,7 @@ pub use Rattle.str0m_sdp.specs.section.MediaLine.{formats_text, m_line, media_li
 pub use Rattle.str0m_sdp.specs.section.RowAttributes.{row_attrs, feedback_line, feedback_attrs, fmtp_line, format_values, format_attrs}
 pub use Rattle.str0m_sdp.specs.section.RowAttributes.{rtx_lines, rtx_attrs, red_lines, red_attrs}
 pub use Rattle.str0m_sdp.specs.section.SectionRows.{KeepsToRowLine, IsRowInBounds, KeepsToRowLines}
-pub use Rattle.str0m_sdp.specs.session.Session.{origin_line, session_text}
+pub use Rattle.str0m_sdp.specs.session.Session.{session_lines, versioned_origin, versioned_text}
 pub use Rattle.str0m_signal.specs.Prelude.{codec_of, IsReadAsCodec, FormatParam, PayloadParams, pair_texts, IsEventRange, AllTypesDistinct}
 pub use Rattle.str0m_signal.specs.Prelude.{types}
 pub use Rattle.str0m_signal.specs.Prelude.{IsPlain, media_attribute_text, session_attribute_text, media_words, session_words}

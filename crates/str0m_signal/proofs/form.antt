@@ -10,6 +10,7 @@ pub mod FormTableAgain
 pub mod FormTableLaws
 pub mod MediaAttributeAgain
 pub mod MediaAttributeLaws
+pub mod MediaAttributePlain
 pub mod RidAgain
 pub mod RidLaws
 pub mod RtpMapLaws

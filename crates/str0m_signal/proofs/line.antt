@@ -4,6 +4,7 @@ pub mod LinesChainLaws
 pub mod LinesEndLaws
 pub mod LinesLaws
 pub mod LinesPrinted
+pub mod LinesWhole
 pub mod PairLaws
 pub mod PairsOneByOne
 pub mod PartLaws

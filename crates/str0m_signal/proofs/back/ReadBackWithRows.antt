@@ -3,9 +3,9 @@
 use Rattle.str0m_signal.proofs.Common.{◌≡◌, ◌≢◌, ◌<◌, ◌^◌, inl, inr, ℕ, zero, suc, true, List, [], ◌∷◌, ◌++◌, Some, refl, arith}
 use Rattle.str0m_signal.proofs.Common.{AllByRecursion, flat_map, slice_get, types, FormatParam, PayloadParams, session_attribute_text}
 use Rattle.str0m_signal.proofs.Common.{Consistent, is_media, row_attrs, is_of_type, sdp_text, MediaLine, Sdp, reads, slice_set, not, filter}
-use Rattle.str0m_signal.proofs.Common.{made}
+use Rattle.str0m_signal.proofs.Common.{codes, made}
 use Rattle.str0m_signal.proofs.back.ReadBackRowLines.{ReadAs, read_as_joined, rows_read}
-use Rattle.str0m_signal.proofs.session.AttributesPrinted.{LinesReadAs}
+use Rattle.str0m_signal.proofs.session.AttributesPrinted.{LinesReadAs, no_end}
 use Rattle.str0m_signal.proofs.session.ReaderPrinted.{read_of, reading_printed}
 use Rattle.str0m_signal.proofs.session.SectionLines.{AreTypes, head_printed}
 use Rattle.str0m_signal.proofs.session.Sections.{SectionReadAs, AreSectionsRead}
@@ -98,7 +98,8 @@ with_rows_read sdp i w row rows values small media fits each consistent =
     record {
       read = read_of sdp w.session.0 sections.sections;
       whole =
-          reading_printed (with_rows sdp i w.section theirs) w.session.0 sections.sections small w.bandwidth
+          reading_printed (codes "2") (with_rows sdp i w.section theirs) w.session.0 sections.sections (no_end (codes "2") refl refl) small
+          w.bandwidth
           (read_back_plainly session_attribute_text IsSessionLine writable.SessionGoesWith sdp.session.attrs w.session.0 w.session.1)
           sections.are;
       at = sections.at;

@@ -5,13 +5,13 @@ use Rattle.str0m_signal.proofs.Common.{inl, inr, codes, AllByRecursion, append_a
 use Rattle.str0m_signal.proofs.Common.{LacksCut-append}
 use Rattle.str0m_signal.proofs.Common.{bandwidth_text, m_line_pts_text, formats_text, media_type_text, Bandwidth, MediaLine, MediaType}
 use Rattle.str0m_signal.proofs.Common.{Proto}
-use Rattle.str0m_signal.proofs.Common.{Sctp, cuts_none_reads}
+use Rattle.str0m_signal.proofs.Common.{Sctp, ap, cuts_none_reads, is_media, m_line, sym, true}
 use Rattle.str0m_signal.proofs.form.FmtpPrinted.{fmtp_behind_lacks}
 use Rattle.str0m_signal.proofs.form.FormPiecesAgain.{num_again, parted_again}
 use Rattle.str0m_signal.proofs.line.WordsCharacterStarts.{StartsWithin, front_starts, behind_starts}
 use Rattle.str0m_signal.proofs.session.AttributesPrinted.{HoldsNoEnd, no_end}
 use Rattle.str0m_signal.proofs.session.SectionLaws.{numbers_both}
-use Rattle.str0m_signal.proofs.session.SectionLines.{head_line_read}
+use Rattle.str0m_signal.proofs.session.SectionLines.{AreTypes, head_line_read, head_printed}
 use Rattle.str0m_signal.specs.back.Writable.{IsReadBackLine, HasTypes}
 use Rattle.str0m_signal.specs.back.WritableAgain.{FitsKind}
 use Rattle.str0m_signal.specs.line.Lines.{Chain, TakenLine, Line, lines_joined, AreLines, OneLine}
@@ -75,6 +75,36 @@ types_again types (pt ∷ pts) (inl are) some quiet =
 channel_line_is : AreLineFormats (codes "webrtc-datachannel") []
 channel_line_is = grind (arith, cuts_none_reads, numbers_both)
 
+-- ---- m-lines that say what they are
+
+abbrev pub head_of : MediaLine → Head
+head_of m = record { typ = m.typ; disabled = m.disabled; proto = m.proto; pts = m.pts }
+
+-- the m-line of media with types, or of data channels without any
+abbrev pub IsPlainHead : MediaLine → Type 0
+IsPlainHead m =
+    ((is_media m.typ ≡ true) × (m.pts ≢ []) × AreTypes m.pts)
+    ⊎ ((m.typ ≡ typ.Application) × (m.pts ≡ []))
+
+channel_kind_line : (t : MediaType) → t ≡ typ.Application
+    → IsWord (media_type_text t) × IsMediaKindText (media_type_text t) t × HoldsNoEnd (media_type_text t)
+channel_kind_line t e = grind (arith, no_end)
+
+channel_head_line : (m : MediaLine) → m.typ ≡ typ.Application → m.pts ≡ [] → IsReadBackLine IsHead (m_line m) (head_of m)
+channel_head_line m e none =
+    head_line_read m (codes "webrtc-datachannel") m.pts (channel_kind_line m.typ e) (ap (λ (t : MediaType). formats_text t m.pts) e)
+    (no_end (codes "webrtc-datachannel") refl refl)
+    (subst (AreLineFormats (codes "webrtc-datachannel")) (sym none) channel_line_is)
+
+media_head_line : (m : MediaLine) (pts : List ℕ) → m.pts ≡ pts → is_media m.typ ≡ true → pts ≢ [] → AreTypes pts
+    → IsReadBackLine IsHead (m_line m) (head_of m)
+media_head_line m [] e media some fit = absurd (some refl)
+media_head_line m (pt ∷ pts) e media some fit = head_printed m media pt pts e fit
+
+pub plain_head_line : (m : MediaLine) → IsPlainHead m → IsReadBackLine IsHead (m_line m) (head_of m)
+plain_head_line m (inl (media, some, fit)) = media_head_line m m.pts refl media some fit
+plain_head_line m (inr (channel, none)) = channel_head_line m channel none
+
 -- the formats as they print, and the types that they are read as
 record FormatsAgain (t : MediaType) (proto : Proto) (pts : List ℕ) : Type 0 where
   types : List ℕ
@@ -91,9 +121,6 @@ formats_again (typ.Unknown name) proto pts types fits are quiet = grind (arith, 
 
 kind_again : (kind : List ℕ) (t : MediaType) → IsMediaKindText kind t → kind ≡ media_type_text t
 kind_again kind t h = grind arith
-
-abbrev pub head_of : MediaLine → Head
-head_of m = record { typ = m.typ; disabled = m.disabled; proto = m.proto; pts = m.pts }
 
 -- an m-line is read with its own types, or with none where it is of a channel
 pub head_again : (m : MediaLine) → FitsKind m.typ m.proto m.pts → IsOnLine IsHead (head_of m)
