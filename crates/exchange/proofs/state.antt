@@ -1,4 +1,6 @@
 pub mod CopiedOverLaws
 pub mod ExchangeFollowLaws
+pub mod LineByLineLaws
+pub mod ReadBackConsistent
 pub mod ReadBackEqual
 pub mod ReadBackLaws

@@ -43,6 +43,7 @@
 //!   - `copied_over`: Descriptions that were read back, made equal to those that were said.
 //!   - `exchange`: Exchanges of offers and answers.
 //!   - `exchange_error`: Why a call of an exchange is refused.
+//!   - `line_by_line`: Descriptions each of whose lines is read as what it says.
 //!   - `own_side`: What this side says of itself.
 //!   - `read_back`: A description whose text is read again.
 //!   - `signaling_state`: Where an exchange of offers and answers stands.

@@ -24,6 +24,7 @@ use crate::offer::pending::Pending;
 use crate::section::places::sections_of;
 use crate::state::copied_over::copy_over;
 use crate::state::exchange_error::ExchangeError;
+use crate::state::line_by_line::{is_read_by_lines, session_number};
 use crate::state::own_side::{OwnSide, with_own_side_entry};
 use crate::state::read_back::read_back;
 use crate::state::signaling_state::SignalingState;
@@ -58,12 +59,8 @@ struct Offering {
 /// The room that most printed descriptions fit in, in bytes: no answer depends on it.
 const USUAL_EXCHANGE_ROOM: usize = 4096;
 
-/// A copy of a description, where the other side reads the text that it prints with this version as what it says.
-pub(crate) fn exchange_copy_read_back(
-    alloc: Global,
-    sdp: &Sdp,
-    version: u64,
-) -> Result<Option<Sdp>, AllocError>
+/// A copy of a description, where the text that it prints with this version is read to its end as what it says.
+fn exchange_text_copy(alloc: Global, sdp: &Sdp, version: u64) -> Result<Option<Sdp>, AllocError>
     ensures { IfOk result (λ found. MatchOption found
         (IsReadBack sdp.now (versioned_text version sdp.now) → ⊥)
         (λ copy. (copy ≡ sdp.now) × IsReadBack sdp.now (versioned_text version sdp.now))) }
@@ -76,6 +73,25 @@ pub(crate) fn exchange_copy_read_back(
     };
     copy_over(sdp, &mut copy)?;
     Ok(Some(copy))
+}
+
+/// A copy of a description, where the other side reads the text that it prints with this version as what it says: told line
+/// by line, and by its whole text where that says nothing.
+pub(crate) fn exchange_copy_read_back(
+    alloc: Global,
+    sdp: &Sdp,
+    version: u64,
+) -> Result<Option<Sdp>, AllocError>
+    ensures { IfOk result (λ found. MatchOption found
+        (IsReadBack sdp.now (versioned_text version sdp.now) → ⊥)
+        (λ copy. (copy ≡ sdp.now) × IsReadBack sdp.now (versioned_text version sdp.now))) }
+{
+    // Of 64 bits, as the `o=` line wants it.
+    session_number(sdp.session.id);
+    if is_read_by_lines(alloc, sdp)? {
+        return Ok(Some(sdp.clone()?));
+    }
+    exchange_text_copy(alloc, sdp, version)
 }
 
 /// A copy of the configuration after these rounds of an offer.
