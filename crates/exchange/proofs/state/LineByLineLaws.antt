@@ -1,7 +1,6 @@
 -- Lines that are read as what they say; a description all of whose lines are is read back whole.
 use Rattle.exchange.proofs.Common.{◌≡◌, ◌≢◌, ◌≤◌, ◌<◌, ◌^◌, ◌++◌, ◌∷◌, ℕ, Bool, true, List, [], Option, None, Some, All, All-head}
-use Rattle.exchange.proofs.Common.{All-tail}
-use Rattle.exchange.proofs.Common.{All-weaker, AllZip, IfSome, refl, sym, subst, arith, inl, inr, Alike, Consistent, FirstLine}
+use Rattle.exchange.proofs.Common.{All-tail, All-weaker, AllZip, IfSome, refl, sym, subst, arith, inl, inr, Alike, Consistent, FirstLine}
 use Rattle.exchange.proofs.Common.{All-more, Err, FormatParam, IfOk, IsTrue, Ok, Result, get_or, take, take_all, ◌+◌, MediaAttribute}
 use Rattle.exchange.proofs.Common.{MediaLine, RtcpFb, length, ◌&&◌, Sdp, SessionAttribute, versioned_text}
 use Rattle.exchange.proofs.state.ReadBackConsistent.{read_back_consistent}
@@ -13,11 +12,14 @@ use Rattle.std.proofs.lemmas.List.Elements.{recursion_from_All}
 use Rattle.str0m_formats.specs.declared.codec.Codec.TheVariants.{Null}
 use Rattle.str0m_formats.specs.declared.format.format_param.FormatParam.TheVariants.{Apt}
 use Rattle.str0m_sdp.specs.attribute.Attribute.{media_attribute_text, session_attribute_text}
-use Rattle.str0m_sdp.specs.declared.attribute.MediaAttribute.TheVariants.{ExtMap, Fmtp, RtpMap}
+use Rattle.str0m_sdp.specs.declared.attribute.MediaAttribute.TheVariants as media
 use Rattle.str0m_sdp.specs.declared.attribute.rtp_map.RtpMap.{RtpMap as Mapping}
+use Rattle.str0m_sdp.specs.declared.attribute.setup.Setup.{Setup as Role}
 use Rattle.str0m_sdp.specs.form.Printed.{printed_line_end}
 use Rattle.str0m_signal.proofs.{AreSectionsRead, IsPlainHead, LinesReadAs, SectionReadAs, apt_printed, feedback_printed, is_media_word}
-use Rattle.str0m_signal.proofs.{line_whole_read, media_extension_read, media_word_read, named_mapping_read_back, plain_head_line}
+use Rattle.str0m_signal.proofs.{line_whole_read, media_extension_read, media_mid_read, media_options_read, media_password_read}
+use Rattle.str0m_signal.proofs.{media_role_read, media_stream_read, media_ufrag_read, media_word_read, named_mapping_read_back}
+use Rattle.str0m_signal.proofs.{plain_head_line}
 use Rattle.str0m_signal.proofs.{versioned_reading_printed}
 use Rattle.str0m_signal.specs.Prelude.{IsRest, Lacks, is_rest, lacks}
 use Rattle.str0m_signal.specs.back.Writable.{IsReadBackLine}
@@ -29,9 +31,9 @@ use Rattle.str0m_values.specs.declared.extension.Extension.{Extension}
 -- ---- what an attribute tells
 
 pub line_mapping_told : (pt : ℕ) (map : Mapping) → pt ≤ 127 → 0 < map.clock_rate → map.clock_rate < 2 ^ 32
-    → IfSome map.channels (λ n. n < 2 ^ 8) → map.codec ≢ Null → IsLineReadAlike (RtpMap pt map)
+    → IfSome map.channels (λ n. n < 2 ^ 8) → map.codec ≢ Null → IsLineReadAlike (media.RtpMap pt map)
 line_mapping_told pt map small positive clock channels named = (
-  RtpMap pt map,
+  media.RtpMap pt map,
   named_mapping_read_back pt map small (record { clock = (positive, omega arith); channels = few map.channels channels }) named,
   refl,
 )
@@ -60,21 +62,55 @@ line_feedback_told pt value small e =
     (RtcpFb pt value, feedback_printed pt value small text.filled text.quiet, refl)
 
 pub line_extension_told : (id : ℕ) (ext : Extension) → id < 2 ^ 8 → ext.serialized ≡ true
-    → is_line_text ext.uri && lacks 32 ext.uri ≡ true → IsLineReadAlike (ExtMap id ext)
+    → is_line_text ext.uri && lacks 32 ext.uri ≡ true → IsLineReadAlike (media.ExtMap id ext)
 line_extension_told id ext small said e =
     let parts = and_parts (is_line_text ext.uri) (lacks 32 ext.uri) e in
     let text = line_text_is ext.uri parts.0 in
-    subst (λ (b : Bool). IsLineReadAlike (ExtMap id (record { uri = ext.uri; serialized = b }))) (sym said) (
-      ExtMap id (record { uri = ext.uri; serialized = true }),
+    subst (λ (b : Bool). IsLineReadAlike (media.ExtMap id (record { uri = ext.uri; serialized = b }))) (sym said) (
+      media.ExtMap id (record { uri = ext.uri; serialized = true }),
       media_extension_read id ext.uri (omega arith) text.filled (lacks_cut_from 32 ext.uri parts.1) text.quiet,
       refl,
     )
 
+pub line_ufrag_told : (text : List ℕ) → is_line_text text ≡ true → IsLineReadAlike (media.IceUfrag text)
+line_ufrag_told text e =
+    let own = line_text_is text e in
+    (media.IceUfrag text, media_ufrag_read text (own.filled, own.quiet), refl)
+
+pub line_password_told : (text : List ℕ) → is_line_text text ≡ true → IsLineReadAlike (media.IcePwd text)
+line_password_told text e =
+    let own = line_text_is text e in
+    (media.IcePwd text, media_password_read text (own.filled, own.quiet), refl)
+
+pub line_options_told : (text : List ℕ) → is_line_text text ≡ true → IsLineReadAlike (media.IceOptions text)
+line_options_told text e =
+    let own = line_text_is text e in
+    (media.IceOptions text, media_options_read text (own.filled, own.quiet), refl)
+
+pub line_mid_told : (mid : List ℕ) → length mid ≤ 16 → is_line_text mid ≡ true → IsLineReadAlike (media.Mid mid)
+line_mid_told mid short e =
+    let own = line_text_is mid e in
+    (media.Mid mid, media_mid_read mid short (own.filled, own.quiet), refl)
+
+pub line_stream_told : (stream track : List ℕ) → is_line_text stream && lacks 32 stream ≡ true → is_line_text track ≡ true
+    → IsLineReadAlike (media.Msid (record { stream_id = stream; track_id = track }))
+line_stream_told stream track e f =
+    let parts = and_parts (is_line_text stream) (lacks 32 stream) e in
+    let own = line_text_is stream parts.0 in
+    let other = line_text_is track f in (
+      media.Msid (record { stream_id = stream; track_id = track }),
+      media_stream_read stream track (own.filled, own.quiet) (lacks_cut_from 32 stream parts.1) (other.filled, other.quiet),
+      refl,
+    )
+
+pub line_role_told : (role : Role) → IsLineReadAlike (media.Setup role)
+line_role_told role = (media.Setup role, media_role_read role, refl)
+
 pub line_format_told : (pt primary : ℕ) (values : List FormatParam) → values ≡ Apt primary ∷ [] → pt ≤ 127 → primary ≤ 127
-    → IsLineReadAlike (Fmtp pt values)
+    → IsLineReadAlike (media.Fmtp pt values)
 line_format_told pt primary values e small fits =
-    subst (λ (values : List FormatParam). IsLineReadAlike (Fmtp pt values)) (sym e)
-    (Fmtp pt (Apt primary ∷ []), apt_printed pt primary small (omega arith), (refl, refl))
+    subst (λ (values : List FormatParam). IsLineReadAlike (media.Fmtp pt values)) (sym e)
+    (media.Fmtp pt (Apt primary ∷ []), apt_printed pt primary small (omega arith), (refl, refl))
 
 pub line_word_told : (attr : MediaAttribute) → is_media_word attr ≡ true → IsLineReadAlike attr
 line_word_told attr word = (attr, media_word_read attr word, alike attr)

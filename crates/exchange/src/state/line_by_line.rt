@@ -5,13 +5,14 @@ ghost use Rattle.exchange.specs.state.LineByLine.{AreRtpTypes, IsFrameTold, IsHe
 ghost use Rattle.std.specs.Prelude.{All, ◌≡◌, ◌<◌, ◌≤◌, ◌^◌, ◌∷◌, ◌&&◌, [], IfOk, IfSome, IsTrue, None};
 ghost use Rattle.str0m_formats.specs.declared.format.format_param.FormatParam.TheVariants.{Apt};
 ghost use Rattle.str0m_sdp.specs.attribute.Attribute.{media_attribute_text, session_attribute_text};
-ghost use Rattle.str0m_sdp.specs.declared.attribute.MediaAttribute.TheVariants.{ExtMap, Fmtp, RtcpFb, RtpMap as Mapped};
+ghost use Rattle.str0m_sdp.specs.declared.attribute.MediaAttribute.TheVariants.{ExtMap, Fmtp, IceOptions, IcePwd, IceUfrag, Mid as Named, Msid as Streamed, RtcpFb, RtpMap as Mapped, Setup as InRole};
 ghost use Rattle.str0m_values.specs.Cuts.{lacks};
 
 use std::alloc::{AllocError, Global};
 use str0m_signal::{
-    Bandwidth, Codec, Extension, FormatParam, MediaAttribute, MediaLine, MediaType, Pt, RtpMap,
-    Sdp, SdpError, SessionAttribute, SessionId, media_attribute_line, session_attribute_line,
+    Bandwidth, Codec, Extension, FormatParam, MediaAttribute, MediaLine, MediaType, Mid, Msid, Pt,
+    RtpMap, Sdp, SdpError, SessionAttribute, SessionId, Setup, media_attribute_line,
+    session_attribute_line,
 };
 use str0m_values::Separator;
 use str0m_values::cuts::has;
@@ -91,6 +92,46 @@ fn is_format_told(pt: Pt, values: &[FormatParam]) -> bool
     }
 }
 
+/// Whether the text of ICE credentials or options tells that its line is read as it.
+fn is_ufrag_told(text: &str) -> bool
+    ensures { IsTrue result → IsLineReadAlike (IceUfrag text.now) }
+{
+    is_line_text(text)
+}
+
+fn is_password_told(text: &str) -> bool
+    ensures { IsTrue result → IsLineReadAlike (IcePwd text.now) }
+{
+    is_line_text(text)
+}
+
+fn are_options_told(text: &str) -> bool
+    ensures { IsTrue result → IsLineReadAlike (IceOptions text.now) }
+{
+    is_line_text(text)
+}
+
+/// Whether the characters of a name tell that its line is read as it: a name has sixteen bytes at most.
+fn is_mid_told(mid: Mid) -> bool
+    ensures { IsTrue result → IsLineReadAlike (Named mid) }
+{
+    is_line_text(mid.as_str())
+}
+
+/// Whether the ids of a stream and a track tell that their line is read as they are.
+fn is_stream_told(msid: &Msid) -> bool
+    ensures { IsTrue result → IsLineReadAlike (Streamed msid.now) }
+{
+    is_line_word(msid.stream_id.as_str()) && is_line_text(msid.track_id.as_str())
+}
+
+#[tactic(auto, using(crate::proofs::state::LineByLineLaws::line_role_told))]
+fn is_role_told(role: Setup) -> bool
+    ensures { IsTrue result → IsLineReadAlike (InRole role) }
+{
+    matches!(role, Setup::ActPass | Setup::Active | Setup::Passive)
+}
+
 /// Whether an attribute is a word alone.
 #[tactic(auto, using(crate::proofs::state::LineByLineLaws::line_word_told))]
 fn is_word_told(attr: &MediaAttribute) -> bool
@@ -118,6 +159,12 @@ fn is_line_told(attr: &MediaAttribute) -> bool
         MediaAttribute::RtcpFb { pt, value } => is_feedback_told(*pt, value.as_str()),
         MediaAttribute::ExtMap { id, ext } => is_extension_told(*id, ext),
         MediaAttribute::Fmtp { pt, values } => is_format_told(*pt, values.as_slice()),
+        MediaAttribute::IceUfrag(text) => is_ufrag_told(text.as_str()),
+        MediaAttribute::IcePwd(text) => is_password_told(text.as_str()),
+        MediaAttribute::IceOptions(text) => are_options_told(text.as_str()),
+        MediaAttribute::Mid(mid) => is_mid_told(*mid),
+        MediaAttribute::Msid(msid) => is_stream_told(msid),
+        MediaAttribute::Setup(role) => is_role_told(*role),
         _ => is_word_told(attr),
     }
 }
