@@ -1,9 +1,13 @@
 pub mod Common
 -- What crates above name of the laws of rooms, which are private as their code is.
 pub use Rattle.str0m_signal.proofs.back.ReadBackRowLines.{named_mapping_read_back}
+pub use Rattle.str0m_signal.proofs.form.FmtpAgain.{keyed_values_read}
 pub use Rattle.str0m_signal.proofs.form.FmtpPrinted.{apt_printed}
 pub use Rattle.str0m_signal.proofs.form.FormTableLaws.{form_tail_is}
-pub use Rattle.str0m_signal.proofs.form.MediaAttributePlain.{is_media_word, media_extension_read, media_word_read}
+pub use Rattle.str0m_signal.proofs.form.MediaAttributePlain.{IsMediaText, is_media_word, media_extension_read, media_hash_read}
+pub use Rattle.str0m_signal.proofs.form.MediaAttributePlain.{media_mid_read}
+pub use Rattle.str0m_signal.proofs.form.MediaAttributePlain.{media_options_read, media_password_read, media_port_read, media_role_read}
+pub use Rattle.str0m_signal.proofs.form.MediaAttributePlain.{media_size_read, media_stream_read, media_ufrag_read, media_word_read}
 pub use Rattle.str0m_signal.proofs.form.RtpMapPrinted.{feedback_printed}
 pub use Rattle.str0m_signal.proofs.line.LinesAgain.{IsPlainHead, head_of, plain_head_line}
 pub use Rattle.str0m_signal.proofs.line.LinesLaws.{attribute_both, line_here, line_without_suffix}

@@ -30,7 +30,7 @@ pub record IsPairsLine (shown : List FormatParam) : Type 0 where
 
 -- ---- parameters of the table alone
 
-keyed_line : (params : List FormatParam) → AreKeyed params → IsPairsLine params
+pub keyed_line : (params : List FormatParam) → AreKeyed params → IsPairsLine params
 keyed_line params keyed = grind (arith, keyed_pairs, keyed_texts, format_pairs_unmarked, keyed_unmarked, keyed_params)
 
 pairs_read_alone : (pairs : List (List ℕ × List ℕ)) (params : List FormatParam) → AreParsedParams pairs params

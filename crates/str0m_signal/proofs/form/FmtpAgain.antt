@@ -1,5 +1,5 @@
 -- An fmtp line is printed with the values that it was read as and that print something, and is read as these again.
-use Rattle.str0m_formats.proofs.{IsPairsLine, pairs_again}
+use Rattle.str0m_formats.proofs.{IsKeyed, IsPairsLine, keyed_line, keyed_shown, pairs_again}
 use Rattle.str0m_signal.proofs.Common.{rules, ◌≡◌, ◌≢◌, ◌⊎◌, ◌≤◌, ℕ, List, [], ◌∷◌, map, filter, refl, subst, arith, inl, inr}
 use Rattle.str0m_signal.proofs.Common.{AllByRecursion, join_with_byte, cases_Bool, ltb-true, param_text, params_read, FormatParam}
 use Rattle.str0m_signal.proofs.Common.{BarePtList, BareRange, IsSolidPair, joined_pair, media_attribute_text, is_fmtp_shown}
@@ -21,15 +21,22 @@ fmtp_shown_are (v ∷ vs) = grind (arith, cases_Bool, ltb-true, fmtp_shown_are v
 abbrev IsShownLine : ℕ → List FormatParam → Type 0
 IsShownLine pt shown = IsReadBackLine IsMediaLine (shown_fmtp_line pt shown) (Fmtp pt shown)
 
+line_of_pairs_read : (pt : ℕ) (v : FormatParam) (vs : List FormatParam) (pairs : List (List ℕ × List ℕ)) → pt ≤ 127
+    → AreFmtpPairsShown (v ∷ vs)
+    → AllByRecursion IsSolidPair pairs → join_with_byte 59 (map param_text (v ∷ vs)) ≡ join_with_byte 59 (map joined_pair pairs)
+    → params_read pairs ≡ v ∷ vs → pairs ≢ [] → IsReadBackLine IsMediaLine (media_attribute_text (Fmtp pt (v ∷ vs))) (Fmtp pt (v ∷ vs))
+line_of_pairs_read pt v vs [] small shows plain text read some = absurd (some refl)
+line_of_pairs_read pt v vs (p ∷ ps) small shows plain text read some =
+    subst (λ (values : List FormatParam). IsReadBackLine IsMediaLine (media_attribute_text (Fmtp pt (v ∷ vs))) (Fmtp pt values)) read
+    (pairs_printed pt v vs p ps small shows plain text)
+
 fmtp_of_pairs : (pt : ℕ) (v : FormatParam) (vs : List FormatParam) (pairs : List (List ℕ × List ℕ)) → pt ≤ 127 → AreFmtpPairsShown (v ∷ vs)
     → AllByRecursion IsSolidPair pairs → join_with_byte 59 (map param_text (v ∷ vs)) ≡ join_with_byte 59 (map joined_pair pairs)
     → params_read pairs ≡ v ∷ vs → pairs ≢ [] → IsShownLine pt (v ∷ vs)
-fmtp_of_pairs pt v vs [] small shows plain text read some = absurd (some refl)
-fmtp_of_pairs pt v vs (p ∷ ps) small shows plain text read some =
-    subst (λ (values : List FormatParam). IsReadBackLine IsMediaLine (shown_fmtp_line pt (v ∷ vs)) (Fmtp pt values)) read
-    (subst (λ (values : List FormatParam). IsReadBackLine IsMediaLine (shown_fmtp_line pt values) (Fmtp pt (params_read (p ∷ ps))))
+fmtp_of_pairs pt v vs pairs small shows plain text read some =
+    subst (λ (values : List FormatParam). IsReadBackLine IsMediaLine (shown_fmtp_line pt values) (Fmtp pt (v ∷ vs)))
     (fmtp_all_shown (v ∷ vs) shows)
-    (pairs_printed pt v vs p ps small shows plain text))
+    (line_of_pairs_read pt v vs pairs small shows plain text read some)
 
 of_line : (pt : ℕ) (shown : List FormatParam) → pt ≤ 127 → AreFmtpPairsShown shown → IsPairsLine shown → IsShownLine pt shown ⊎ (shown ≡ [])
 of_line pt [] small shows line = inr refl
@@ -56,3 +63,16 @@ pub fmtp_again : (text : List ℕ) (pt : ℕ) (values : List FormatParam) → Is
     → IsReadBackLine IsMediaLine (media_attribute_text (Fmtp pt values)) (Fmtp pt (filter is_fmtp_shown values)) ⊎
     (filter is_fmtp_shown values ≡ [])
 fmtp_again text pt values h = values_again pt h.more values h.number_is.fits h.values_are
+
+-- ---- values that each have a key
+
+keyed_all_shown : (values : List FormatParam) → AllByRecursion IsKeyed values → AreFmtpPairsShown values
+keyed_all_shown [] keyed = tt
+keyed_all_shown (v ∷ vs) keyed = (keyed_shown v keyed.0, keyed_all_shown vs keyed.1)
+
+-- one or more values of the table of keys, each in its range
+pub keyed_values_read : (pt : ℕ) (v : FormatParam) (vs : List FormatParam) → pt ≤ 127 → AllByRecursion IsKeyed (v ∷ vs)
+    → IsReadBackLine IsMediaLine (media_attribute_text (Fmtp pt (v ∷ vs))) (Fmtp pt (v ∷ vs))
+keyed_values_read pt v vs small keyed =
+    let line = keyed_line (v ∷ vs) keyed in
+    line_of_pairs_read pt v vs line.pairs small (keyed_all_shown (v ∷ vs) keyed) line.plain line.text line.read (line.some (λ e. cc))

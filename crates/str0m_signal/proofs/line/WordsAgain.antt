@@ -33,7 +33,7 @@ name_again = record {
 
 -- ---- bytes
 
-word_glyph_lacks : (c d : ℕ) → 16 ≤ digit_value c → d < 16 → digit_glyph true d ≡ c → ⊥
+pub word_glyph_lacks : (c d : ℕ) → 16 ≤ digit_value c → d < 16 → digit_glyph true d ≡ c → ⊥
 word_glyph_lacks c d far lt e = grind arith
 
 word_pair_small : (text : List ℕ) (byte : ℕ) → IsHexPair text byte → (byte / 16 < 16) × (byte % 16 < 16)
