@@ -272,6 +272,7 @@ fn media_unused(alloc: Global, text: &str) -> Result<Option<MediaAttribute>, All
 impl Attribute for MediaAttribute {
     ghost reading = { media_read };
 
+    #[inline(always)]
     fn take(
         alloc: Global,
         text: &str,
