@@ -44,6 +44,7 @@
 //!   - `exchange`: Exchanges of offers and answers.
 //!   - `exchange_error`: Why a call of an exchange is refused.
 //!   - `line_by_line`: Descriptions each of whose lines is read as what it says.
+//!   - `line_told`: Attributes that tell by what they hold that their lines are read as what they say.
 //!   - `own_side`: What this side says of itself.
 //!   - `read_back`: A description whose text is read again.
 //!   - `signaling_state`: Where an exchange of offers and answers stands.

@@ -2,7 +2,6 @@ pub mod Common
 -- What crates above name of the laws of rooms, which are private as their code is.
 pub use Rattle.str0m_signal.proofs.back.ReadBackRowLines.{named_mapping_read_back}
 pub use Rattle.str0m_signal.proofs.form.FmtpAgain.{keyed_values_read}
-pub use Rattle.str0m_signal.proofs.form.FmtpPrinted.{apt_printed}
 pub use Rattle.str0m_signal.proofs.form.FormTableLaws.{form_tail_is}
 pub use Rattle.str0m_signal.proofs.form.MediaAttributePlain.{IsMediaText, is_media_word, media_extension_read, media_hash_read}
 pub use Rattle.str0m_signal.proofs.form.MediaAttributePlain.{media_mid_read}

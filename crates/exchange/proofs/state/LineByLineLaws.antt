@@ -1,86 +1,20 @@
--- Lines that are read as what they say; a description all of whose lines are is read back whole.
-use Rattle.exchange.proofs.Common.{◌≡◌, ◌≢◌, ◌≤◌, ◌<◌, ◌^◌, ◌++◌, ◌∷◌, ℕ, Bool, true, List, [], Option, None, Some, All, All-head}
-use Rattle.exchange.proofs.Common.{All-tail}
-use Rattle.exchange.proofs.Common.{All-weaker, AllZip, IfSome, refl, sym, subst, arith, inl, inr, Alike, Consistent, FirstLine}
-use Rattle.exchange.proofs.Common.{All-more, Err, FormatParam, IfOk, IsTrue, Ok, Result, get_or, take, take_all, ◌+◌, MediaAttribute}
-use Rattle.exchange.proofs.Common.{MediaLine, RtcpFb, length, ◌&&◌, Sdp, SessionAttribute, versioned_text}
+-- A description all of whose lines are read as what they say is read back whole.
+use Rattle.exchange.proofs.Common.{◌≡◌, ◌≤◌, ◌<◌, ◌^◌, ◌++◌, ◌∷◌, ℕ, Bool, List, [], Option, None, Some, All, All-head, All-tail}
+use Rattle.exchange.proofs.Common.{All-weaker, AllZip, IfSome, refl, subst, arith, inl, inr, Alike, Consistent, FirstLine, All-more, Err}
+use Rattle.exchange.proofs.Common.{IfOk, IsTrue, Ok, Result, get_or, take, take_all, ◌+◌, MediaAttribute, MediaLine, length, Sdp}
+use Rattle.exchange.proofs.Common.{SessionAttribute, versioned_text}
 use Rattle.exchange.proofs.state.ReadBackConsistent.{read_back_consistent}
-use Rattle.exchange.specs.state.LineByLine.{IsHeadTold, IsFrameTold, IsLineReadAlike, IsReadByLines, is_line_text}
-use Rattle.exchange.specs.state.LineByLine.{IsSectionReadByLines, IsSessionLineRead}
+use Rattle.exchange.specs.state.LineByLine.{IsHeadTold, IsFrameTold, IsLineReadAlike, IsReadByLines, IsSectionReadByLines}
+use Rattle.exchange.specs.state.LineByLine.{IsSessionLineRead}
 use Rattle.exchange.specs.state.ReadBack.{IsReadBack, IsSectionReadAs}
-use Rattle.std.proofs.lemmas.Bool.{and_parts, ltb-true}
 use Rattle.std.proofs.lemmas.List.Elements.{recursion_from_All}
-use Rattle.str0m_formats.specs.declared.codec.Codec.TheVariants.{Null}
-use Rattle.str0m_formats.specs.declared.format.format_param.FormatParam.TheVariants.{Apt}
 use Rattle.str0m_sdp.specs.attribute.Attribute.{media_attribute_text, session_attribute_text}
-use Rattle.str0m_sdp.specs.declared.attribute.MediaAttribute.TheVariants.{ExtMap, Fmtp, RtpMap}
-use Rattle.str0m_sdp.specs.declared.attribute.rtp_map.RtpMap.{RtpMap as Mapping}
 use Rattle.str0m_sdp.specs.form.Printed.{printed_line_end}
-use Rattle.str0m_signal.proofs.{AreSectionsRead, IsPlainHead, LinesReadAs, SectionReadAs, apt_printed, feedback_printed, is_media_word}
-use Rattle.str0m_signal.proofs.{line_whole_read, media_extension_read, media_word_read, named_mapping_read_back, plain_head_line}
+use Rattle.str0m_signal.proofs.{AreSectionsRead, IsPlainHead, LinesReadAs, SectionReadAs, line_whole_read, plain_head_line}
 use Rattle.str0m_signal.proofs.{versioned_reading_printed}
-use Rattle.str0m_signal.specs.Prelude.{IsRest, Lacks, is_rest, lacks}
 use Rattle.str0m_signal.specs.back.Writable.{IsReadBackLine}
 use Rattle.str0m_signal.specs.form.MediaAttribute.{IsMediaLine}
 use Rattle.str0m_signal.specs.form.SessionAttribute.{IsSessionLine}
-use Rattle.str0m_values.proofs.CutLaws.{lacks_cut_from}
-use Rattle.str0m_values.specs.declared.extension.Extension.{Extension}
-
--- ---- what an attribute tells
-
-pub line_mapping_told : (pt : ℕ) (map : Mapping) → pt ≤ 127 → 0 < map.clock_rate → map.clock_rate < 2 ^ 32
-    → IfSome map.channels (λ n. n < 2 ^ 8) → map.codec ≢ Null → IsLineReadAlike (RtpMap pt map)
-line_mapping_told pt map small positive clock channels named = (
-  RtpMap pt map,
-  named_mapping_read_back pt map small (record { clock = (positive, omega arith); channels = few map.channels channels }) named,
-  refl,
-)
-  where
-    few : (o : Option ℕ) → IfSome o (λ n. n < 2 ^ 8) → IfSome o (λ n. n ≤ 255)
-    few None h = tt
-    few (Some n) h = omega arith
-
--- one or more characters, and no end of a line among them
-record IsLineText (text : List ℕ) : Type 0 where
-  filled : IsRest text
-  quiet : Lacks 10 text × Lacks 13 text
-
-line_text_is : (text : List ℕ) → is_line_text text ≡ true → IsLineText text
-line_text_is text e =
-    let whole = and_parts (is_rest text) (lacks 10 text && lacks 13 text) e in
-    let ends = and_parts (lacks 10 text) (lacks 13 text) whole.1 in
-    record {
-      filled = ltb-true 0 (length text) whole.0;
-      quiet = (lacks_cut_from 10 text ends.0, lacks_cut_from 13 text ends.1);
-    }
-
-pub line_feedback_told : (pt : ℕ) (value : List ℕ) → pt ≤ 127 → is_line_text value ≡ true → IsLineReadAlike (RtcpFb pt value)
-line_feedback_told pt value small e =
-    let text = line_text_is value e in
-    (RtcpFb pt value, feedback_printed pt value small text.filled text.quiet, refl)
-
-pub line_extension_told : (id : ℕ) (ext : Extension) → id < 2 ^ 8 → ext.serialized ≡ true
-    → is_line_text ext.uri && lacks 32 ext.uri ≡ true → IsLineReadAlike (ExtMap id ext)
-line_extension_told id ext small said e =
-    let parts = and_parts (is_line_text ext.uri) (lacks 32 ext.uri) e in
-    let text = line_text_is ext.uri parts.0 in
-    subst (λ (b : Bool). IsLineReadAlike (ExtMap id (record { uri = ext.uri; serialized = b }))) (sym said) (
-      ExtMap id (record { uri = ext.uri; serialized = true }),
-      media_extension_read id ext.uri (omega arith) text.filled (lacks_cut_from 32 ext.uri parts.1) text.quiet,
-      refl,
-    )
-
-pub line_format_told : (pt primary : ℕ) (values : List FormatParam) → values ≡ Apt primary ∷ [] → pt ≤ 127 → primary ≤ 127
-    → IsLineReadAlike (Fmtp pt values)
-line_format_told pt primary values e small fits =
-    subst (λ (values : List FormatParam). IsLineReadAlike (Fmtp pt values)) (sym e)
-    (Fmtp pt (Apt primary ∷ []), apt_printed pt primary small (omega arith), (refl, refl))
-
-pub line_word_told : (attr : MediaAttribute) → is_media_word attr ≡ true → IsLineReadAlike attr
-line_word_told attr word = (attr, media_word_read attr word, alike attr)
-  where
-    alike : (attr : MediaAttribute) → Alike attr attr
-    alike attr = grind arith
 
 -- ---- what the text of an attribute is read as
 

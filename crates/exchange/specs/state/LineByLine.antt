@@ -1,6 +1,8 @@
 -- Descriptions each of whose lines is read as what it says, whatever stands before and behind it.
 use Rattle.exchange.specs.Prelude.{Alike, Consistent, MediaAttribute, MediaLine, Sdp, SessionAttribute, is_media}
-use Rattle.std.specs.Prelude.{◌≡◌, ◌≢◌, ◌≤◌, ◌⊎◌, ◌&&◌, ℕ, Bool, true, List, [], None, All}
+use Rattle.std.specs.Prelude.{◌≡◌, ◌≢◌, ◌≤◌, ◌⊎◌, ◌&&◌, ℕ, Bool, true, List, [], MatchOption, None, All}
+use Rattle.str0m_formats.specs.declared.format.format_param.FormatParam.{FormatParam}
+use Rattle.str0m_formats.specs.format.FormatParam.{IsParamInRange, entry, kind}
 use Rattle.str0m_sdp.specs.attribute.Attribute.{media_attribute_text, session_attribute_text}
 use Rattle.str0m_sdp.specs.declared.attribute.media_type.MediaType.TheVariants.{Application}
 use Rattle.str0m_signal.specs.Prelude.{is_rest, lacks}
@@ -15,6 +17,10 @@ is_line_text text = is_rest text && (lacks 10 text && lacks 13 text)
 -- the line of a section's attribute is read as one alike
 abbrev pub IsLineReadAlike : MediaAttribute → Type 0
 IsLineReadAlike attr = (read : MediaAttribute) × IsReadBackLine IsMediaLine (media_attribute_text attr) read × Alike attr read
+
+-- a parameter that is written `key=value`, with a value that is read back as it prints
+abbrev pub IsParamTold : FormatParam → Type 0
+IsParamTold param = MatchOption (entry param) ⊥ (λ e. IsParamInRange (kind e.0) e.1)
 
 -- the line of a session's attribute is read as it
 abbrev pub IsSessionLineRead : SessionAttribute → Type 0

@@ -1,126 +1,19 @@
 //! Descriptions each of whose lines is read as what it says.
 
 ghost use Rattle.exchange.specs.Prelude.{Alike, Consistent};
-ghost use Rattle.exchange.specs.state.LineByLine.{AreRtpTypes, IsFrameTold, IsHeadTold, IsLineReadAlike, is_line_text, IsReadByLines, IsSectionReadByLines, IsSessionLineRead};
-ghost use Rattle.std.specs.Prelude.{All, ◌≡◌, ◌<◌, ◌≤◌, ◌^◌, ◌∷◌, ◌&&◌, [], IfOk, IfSome, IsTrue, None};
-ghost use Rattle.str0m_formats.specs.declared.format.format_param.FormatParam.TheVariants.{Apt};
+ghost use Rattle.exchange.specs.state.LineByLine.{AreRtpTypes, IsFrameTold, IsHeadTold, IsLineReadAlike, IsReadByLines, IsSectionReadByLines, IsSessionLineRead};
+ghost use Rattle.std.specs.Prelude.{All, ◌≡◌, ◌<◌, ◌^◌, [], IfOk, IsTrue, None};
 ghost use Rattle.str0m_sdp.specs.attribute.Attribute.{media_attribute_text, session_attribute_text};
-ghost use Rattle.str0m_sdp.specs.declared.attribute.MediaAttribute.TheVariants.{ExtMap, Fmtp, RtcpFb, RtpMap as Mapped};
-ghost use Rattle.str0m_values.specs.Cuts.{lacks};
 
+use crate::state::line_told::{HIGHEST_TYPE, is_line_told};
 use std::alloc::{AllocError, Global};
 use str0m_signal::{
-    Bandwidth, Codec, Extension, FormatParam, MediaAttribute, MediaLine, MediaType, Pt, RtpMap,
-    Sdp, SdpError, SessionAttribute, SessionId, media_attribute_line, session_attribute_line,
+    Bandwidth, MediaAttribute, MediaLine, MediaType, Pt, Sdp, SdpError, SessionAttribute,
+    SessionId, media_attribute_line, session_attribute_line,
 };
-use str0m_values::Separator;
-use str0m_values::cuts::has;
-
-/// The highest payload type of RTP (RFC 3550, section 5.1).
-const HIGHEST_TYPE: u8 = 127;
 
 /// The room that the text of most lines fits in, in bytes: no answer depends on it.
 const USUAL_LINE: usize = 128;
-
-/// Whether the text is one or more characters, none of which ends a line.
-fn is_line_text(text: &str) -> bool
-    ensures { result ≡ is_line_text text.now }
-{
-    !text.is_empty() && !has(text, Separator::LineFeed) && !has(text, Separator::CarriageReturn)
-}
-
-/// Whether the text is such characters, none of which is a space.
-fn is_line_word(text: &str) -> bool
-    ensures { result ≡ is_line_text text.now && lacks 32 text.now }
-{
-    is_line_text(text) && !has(text, Separator::Space)
-}
-
-/// Whether the numbers of a mapping tell that its line is read as it.
-#[tactic(auto, using(crate::proofs::state::LineByLineLaws::line_mapping_told))]
-fn is_mapping_told(pt: Pt, map: RtpMap) -> bool
-    ensures { IsTrue result → IsLineReadAlike (Mapped pt map) }
-{
-    let hertz = map.clock_rate.get();
-    match (map.codec, map.channels) {
-        (Codec::Null, _) => false,
-        (_, None) => pt.value() <= HIGHEST_TYPE && hertz > 0,
-        (_, Some(channels)) => pt.value() <= HIGHEST_TYPE && hertz > 0 && channels > 0,
-    }
-}
-
-/// Whether the type and the characters of feedback tell that its line is read as it.
-#[tactic(auto, using(crate::proofs::state::LineByLineLaws::line_feedback_told))]
-fn is_feedback_told(pt: Pt, value: &str) -> bool
-    ensures { IsTrue result → IsLineReadAlike (RtcpFb pt value.now) }
-{
-    pt.value() <= HIGHEST_TYPE && is_line_text(value)
-}
-
-/// Whether the characters of a header extension tell that its line is read as it.
-#[tactic(auto, using(crate::proofs::state::LineByLineLaws::line_extension_told))]
-fn is_extension_told(id: u8, ext: &Extension) -> bool
-    ensures { IsTrue result → IsLineReadAlike (ExtMap id ext.now) }
-{
-    ext.is_serialized() && is_line_word(ext.as_uri())
-}
-
-/// The primary payload type that a format names, where it names nothing else (RFC 4588, section 8.1).
-fn primary_alone(values: &[FormatParam]) -> Option<Pt>
-    ensures { IfSome result (λ primary. values.now ≡ Apt primary ∷ []) }
-{
-    match values {
-        [FormatParam::Apt(primary)] => Some(*primary),
-        _ => None,
-    }
-}
-
-fn are_types_of_rtx(pt: Pt, primary: Pt) -> bool
-    ensures { IsTrue result → (pt ≤ 127) × (primary ≤ 127) }
-{
-    pt.value() <= HIGHEST_TYPE && primary.value() <= HIGHEST_TYPE
-}
-
-/// Whether the types of RTX tell that the line of its format is read as it.
-fn is_format_told(pt: Pt, values: &[FormatParam]) -> bool
-    ensures { IsTrue result → IsLineReadAlike (Fmtp pt values.now) }
-{
-    match primary_alone(values) {
-        Some(primary) => are_types_of_rtx(pt, primary),
-        None => false,
-    }
-}
-
-/// Whether an attribute is a word alone.
-#[tactic(auto, using(crate::proofs::state::LineByLineLaws::line_word_told))]
-fn is_word_told(attr: &MediaAttribute) -> bool
-    ensures { IsTrue result → IsLineReadAlike attr.now }
-{
-    matches!(
-        attr,
-        MediaAttribute::RecvOnly
-            | MediaAttribute::SendRecv
-            | MediaAttribute::SendOnly
-            | MediaAttribute::Inactive
-            | MediaAttribute::RtcpMux
-            | MediaAttribute::RtcpMuxOnly
-            | MediaAttribute::RtcpRsize
-            | MediaAttribute::EndOfCandidates
-    )
-}
-
-/// Whether what an attribute holds tells that its line is read as it: where it doesn't, nothing is said.
-fn is_line_told(attr: &MediaAttribute) -> bool
-    ensures { IsTrue result → IsLineReadAlike attr.now }
-{
-    match attr {
-        MediaAttribute::RtpMap { pt, value } => is_mapping_told(*pt, *value),
-        MediaAttribute::RtcpFb { pt, value } => is_feedback_told(*pt, value.as_str()),
-        MediaAttribute::ExtMap { id, ext } => is_extension_told(*id, ext),
-        MediaAttribute::Fmtp { pt, values } => is_format_told(*pt, values.as_slice()),
-        _ => is_word_told(attr),
-    }
-}
 
 /// Whether an attribute was read as one alike, with nothing left.
 fn is_read_alike(attr: &MediaAttribute, read: &MediaAttribute, rest: &str) -> bool
