@@ -3,7 +3,7 @@ pub mod Common
 pub use Rattle.str0m_signal.proofs.back.ReadBackRowLines.{named_mapping_read_back}
 pub use Rattle.str0m_signal.proofs.form.FmtpAgain.{keyed_values_read}
 pub use Rattle.str0m_signal.proofs.form.FormTableLaws.{form_tail_is}
-pub use Rattle.str0m_signal.proofs.form.MediaAttributePlain.{IsMediaText, is_media_word, media_extension_read, media_hash_read}
+pub use Rattle.str0m_signal.proofs.form.MediaAttributePlain.{IsMediaText, is_media_word, media_candidate_read, media_extension_read, media_hash_read}
 pub use Rattle.str0m_signal.proofs.form.MediaAttributePlain.{media_mid_read}
 pub use Rattle.str0m_signal.proofs.form.MediaAttributePlain.{media_options_read, media_password_read, media_port_read, media_role_read}
 pub use Rattle.str0m_signal.proofs.form.MediaAttributePlain.{media_size_read, media_stream_read, media_ufrag_read, media_word_read}

@@ -218,26 +218,32 @@ module _ (c : ℕ) (text : List ℕ) (candidate : Candidate) (h : IsCandidateTex
       let names = fmtp_behind_lacks c h.generation _ generation in
       candidate_fragment_lacks c candidate.ufrag h.names h.names_are (LacksCut-append c h.names h.cost names) label
 
+-- a candidate's text holds no end of a line where its words hold none
+pub candidate_quiet : (c : Candidate) → IsPrintableCandidate c → HoldsNoEnd c.foundation
+    → HoldsNoEnd (optional_text candidate_label.UFRAG.now (λ t. t) c.ufrag) → HoldsNoEnd (candidate_text c)
+candidate_quiet c is own fragment =
+    let space = no_end (codes " ") refl refl in
+    no_ends candidate_label.CANDIDATE.now _ (no_end candidate_label.CANDIDATE.now refl refl)
+    (no_ends c.foundation _ own
+    (no_ends (codes " ") _ space
+    (no_ends (decimal c.component_id) _ (decimal_no_end c.component_id (omega (arith, is.component_id)))
+    (no_ends (codes " ") _ space
+    (no_ends (protocol_text c.proto) _ (protocol_no_end c.proto)
+    (no_ends (codes " ") _ space
+    (no_ends (decimal c.prio) _ (decimal_no_end c.prio (omega (arith, is.prio)))
+    (no_ends (socket_text (codes " ") (codes " ") c.addr) _ (socket_no_end (codes " ") (codes " ") c.addr space space is.addr)
+    (no_ends candidate_label.TYPE.now _ (no_end candidate_label.TYPE.now refl refl)
+    (no_ends (kind_text c.kind) (extras_text c) (kind_no_end c.kind)
+    (no_ends (related_text c.raddr) _ (related_no_end c.raddr is.raddr)
+    (no_ends (optional_text candidate_label.TCP_TYPE.now tcp_type_text c.tcptype) _ (tcp_type_no_end c.tcptype) fragment))))))))))))
+
 -- a candidate that a text was read as prints a text that stands for it
 pub candidate_again : (text : List ℕ) (c : Candidate) → HoldsNoEnd text → IsCandidateText text c
     → IsCandidateText (candidate_text c) c × HoldsNoEnd (candidate_text c)
 candidate_again text c quiet h =
     let is = candidate_printable text c h in
-    let space = no_end (codes " ") refl refl in
     let label = no_end candidate_label.UFRAG.now refl refl in (
       printed_candidate c is,
-      no_ends candidate_label.CANDIDATE.now _ (no_end candidate_label.CANDIDATE.now refl refl)
-          (no_ends c.foundation _ (foundation_lacks 10 text c h quiet.0, foundation_lacks 13 text c h quiet.1)
-          (no_ends (codes " ") _ space
-          (no_ends (decimal c.component_id) _ (decimal_no_end c.component_id (omega (arith, is.component_id)))
-          (no_ends (codes " ") _ space
-          (no_ends (protocol_text c.proto) _ (protocol_no_end c.proto)
-          (no_ends (codes " ") _ space
-          (no_ends (decimal c.prio) _ (decimal_no_end c.prio (omega (arith, is.prio)))
-          (no_ends (socket_text (codes " ") (codes " ") c.addr) _ (socket_no_end (codes " ") (codes " ") c.addr space space is.addr)
-          (no_ends candidate_label.TYPE.now _ (no_end candidate_label.TYPE.now refl refl)
-          (no_ends (kind_text c.kind) (extras_text c) (kind_no_end c.kind)
-          (no_ends (related_text c.raddr) _ (related_no_end c.raddr is.raddr)
-          (no_ends (optional_text candidate_label.TCP_TYPE.now tcp_type_text c.tcptype) _ (tcp_type_no_end c.tcptype)
-          (candidate_fragments_lack 10 text c h quiet.0 label.0, candidate_fragments_lack 13 text c h quiet.1 label.1))))))))))))),
+      candidate_quiet c is (foundation_lacks 10 text c h quiet.0, foundation_lacks 13 text c h quiet.1)
+          (candidate_fragments_lack 10 text c h quiet.0 label.0, candidate_fragments_lack 13 text c h quiet.1 label.1),
     )

@@ -7,6 +7,8 @@ use Rattle.str0m_signal.proofs.Common.{codes, decimal, append-nil, false≢true,
 use Rattle.str0m_signal.proofs.Common.{AllByRecursion, IsCharBoundary-end, IsLongestShortText, MediaAttribute, PartedAddress, ◌/◌, ◌%◌, ◌<◌}
 use Rattle.str0m_signal.proofs.Common.{◌∷◌, attribute_line}
 use Rattle.str0m_signal.proofs.Common.{digit_glyph, fingerprint_text, flat_map, hash_glyph_value, hex_pair, length, pairs_text, setup_text}
+use Rattle.str0m_signal.proofs.Common.{IfSome, IsPrintableCandidate, None, Option, Some, candidate_text}
+use Rattle.str0m_signal.proofs.form.CandidateLineAgain.{candidate_quiet}
 use Rattle.str0m_signal.proofs.line.WordsAgain.{word_glyph_lacks}
 use Rattle.str0m_signal.proofs.session.AttributesPrinted.{HoldsNoEnd, no_ends, no_end, attribute_num_is, attribute_decimal_lacks}
 use Rattle.str0m_signal.proofs.session.AttributesPrinted.{attribute_printed, decimal_no_end}
@@ -15,6 +17,10 @@ use Rattle.str0m_signal.specs.form.FormTable.{any_form, any_word_form, texts}
 use Rattle.str0m_signal.specs.form.Forms.{Behind, TwoFormParts, IsBeforeDroppedFormTail, IsText}
 use Rattle.str0m_signal.specs.form.MediaAttribute.{IsMediaLine, media_forms, media_texts}
 use Rattle.str0m_signal.specs.line.Words.{IsHexPair}
+use Rattle.str0m_values.proofs.CandidateText.{printed_candidate}
+use Rattle.str0m_values.specs.Labels.{optional_text}
+use Rattle.str0m_values.specs.declared.candidate.Candidate.{Candidate}
+use Rattle.str0m_values.specs.declared.candidate_label.TheConstants as candidate_label
 use Rattle.str0m_values.specs.declared.direction_label.TheConstants as way_label
 use Rattle.str0m_values.specs.declared.fingerprint.Fingerprint.{Fingerprint as TheFingerprint}
 
@@ -235,3 +241,16 @@ media_hash_read name byte bytes own no_space small =
       ),
       refl,
     )))))))))))
+
+-- ---- candidates
+
+media_fragment_quiet : (o : Option (List ℕ)) → IfSome o HoldsNoEnd → HoldsNoEnd (optional_text candidate_label.UFRAG.now (λ t. t) o)
+media_fragment_quiet None quiet = (tt, tt)
+media_fragment_quiet (Some text) quiet = no_ends candidate_label.UFRAG.now text (no_end candidate_label.UFRAG.now refl refl) quiet
+
+-- numbers that fit their types, and words that hold no end of a line
+pub media_candidate_read : (c : Candidate) → IsPrintableCandidate c → HoldsNoEnd c.foundation → IfSome c.ufrag HoldsNoEnd
+    → IsReadBackLine IsMediaLine (media_attribute_text (media.Candidate c)) (media.Candidate c)
+media_candidate_read c is own fragment =
+    attribute_printed (candidate_text c) (media.Candidate c) (candidate_quiet c is own (media_fragment_quiet c.ufrag fragment))
+    (inr (inr (inr (inr (inl (c, printed_candidate c is, refl))))))
