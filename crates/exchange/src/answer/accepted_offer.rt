@@ -142,6 +142,8 @@ impl Exchange {
         let rounds = rounds_of(alloc, &remote)?;
         let config = negotiated_by(&self.config, &remote, rounds.as_slice())?;
         let sdp = answer_description_for(alloc, &self.own, &config, &remote, rounds.as_slice())?;
+        // As much memory as the offer takes: the copy of the answer takes it next.
+        drop(rounds);
         let local = self.printable_answer(&config, &remote, &sdp)?;
         let names = grown_names(alloc, &self.names, local.media_lines.as_slice())?;
         Ok(Answering {
