@@ -16,7 +16,9 @@ use crate::label;
 use std::alloc::AllocError;
 use std::fmt;
 use str0m_formats::FormatParam;
-use str0m_values::{Candidate, Direction, Extension, Fingerprint, Items, Mid, Pt, Ssrc, Text};
+use str0m_values::{
+    Boxed, Candidate, Direction, Extension, Fingerprint, Items, Mid, Pt, Ssrc, Text,
+};
 
 pub(crate) mod bandwidth;
 pub(crate) mod ext_map;
@@ -72,7 +74,8 @@ pub enum SessionAttribute {
     Unused(Text),
 }
 
-/// An attribute line of a section (RFC 8866, section 5.13).
+/// An attribute line of a section (RFC 8866, section 5.13). What is large and rare lies in memory of its own, since each line
+/// takes as much room as the largest.
 #[derive(Clone, Debug, PartialEq, Eq, Drop)]
 pub enum MediaAttribute {
     /// `a=rtcp:` (RFC 3605, section 2.1).
@@ -119,7 +122,7 @@ pub enum MediaAttribute {
     /// `a=rtcp-rsize` (RFC 5506, section 5).
     RtcpRsize,
     /// `a=candidate:` (RFC 8839, section 5.1).
-    Candidate(Candidate),
+    Candidate(Boxed<Candidate>),
     /// `a=end-of-candidates` (RFC 8840, section 8.1).
     EndOfCandidates,
     /// `a=rtpmap:` (RFC 8866, section 6.6).
@@ -146,14 +149,14 @@ pub enum MediaAttribute {
     /// `a=rid:` (RFC 8851, section 4). The direction is `send` or `recv` in what is read.
     Rid {
         /// The name of the stream. The line doesn't say whether the stream is active.
-        id: RestrictionId,
+        id: Boxed<RestrictionId>,
         /// Which way the stream goes.
         direction: Word,
         /// The payload types that the stream may have, in order, 0 to 127 in what is read; none
         /// where it may have any.
         pt: Items<Pt>,
         /// The names and values of the other restrictions, in order (RFC 8851, section 5).
-        restriction: Items<(Text, Text)>,
+        restriction: Boxed<Items<(Text, Text)>>,
     },
     /// `a=simulcast:` (RFC 8853, section 5.1).
     Simulcast(Simulcast),
@@ -276,7 +279,7 @@ impl MediaAttribute {
             MediaAttribute::RtcpMux => Line::Word(label::RTCP_MUX),
             MediaAttribute::RtcpMuxOnly => Line::Word(label::RTCP_MUX_ONLY),
             MediaAttribute::RtcpRsize => Line::Word(label::RTCP_RSIZE),
-            MediaAttribute::Candidate(candidate) => Line::Candidate(candidate),
+            MediaAttribute::Candidate(candidate) => Line::Candidate(candidate.get()),
             MediaAttribute::EndOfCandidates => Line::Word(label::END_OF_CANDIDATES),
             MediaAttribute::RtpMap { pt, value } => Line::Numbered(NumberedLine::RtpMap(
                 *pt, value,
@@ -292,7 +295,12 @@ impl MediaAttribute {
                 direction,
                 pt,
                 restriction,
-            } => Line::Structured(StructuredLine::Rid(id, direction, pt, restriction)),
+            } => Line::Structured(StructuredLine::Rid(
+                id.get(),
+                direction,
+                pt,
+                restriction.get(),
+            )),
             MediaAttribute::Simulcast(simulcast) => Line::Structured(StructuredLine::Simulcast(
                 simulcast,
             )),

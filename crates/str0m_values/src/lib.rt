@@ -1,6 +1,7 @@
 //! Values that session descriptions speak of, and the parts that their lines are made of.
 //!
 //! - `address`: IP addresses.
+//! - `boxed`: A value in memory of its own that contracts see as the value.
 //! - `candidate`: Candidates.
 //! - `candidate_kind`: Where the address of a candidate comes from.
 //! - `candidate_label`: What stands in front of each part of a candidate.
@@ -31,6 +32,7 @@
 #![tactic(auto)]
 
 mod address;
+mod boxed;
 mod candidate;
 mod candidate_kind;
 pub mod candidate_label;
@@ -60,6 +62,7 @@ mod text;
 mod words;
 
 pub use address::{IpAddr, SocketAddr};
+pub use boxed::Boxed;
 pub use candidate::Candidate;
 pub use candidate_kind::CandidateKind;
 pub use direction::Direction;

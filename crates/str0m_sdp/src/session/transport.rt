@@ -142,7 +142,7 @@ impl TransportAttribute for MediaAttribute {
 
     fn as_candidate(&self) -> Option<&Candidate> {
         match self {
-            MediaAttribute::Candidate(candidate) => Some(candidate),
+            MediaAttribute::Candidate(candidate) => Some(candidate.get()),
             _ => None,
         }
     }

@@ -21,7 +21,7 @@ use std::alloc::{AllocError, Global};
 use str0m_sdp::{MediaAttribute, Msid, label};
 use str0m_values::candidate_text::candidate;
 use str0m_values::cuts::{num_u16, strip};
-use str0m_values::{Items, Text};
+use str0m_values::{Boxed, Items, Text};
 
 /// The attributes that are a label and a text.
 fn media_text(alloc: Global, text: &str) -> Result<Option<MediaAttribute>, AllocError>
@@ -97,7 +97,9 @@ fn media_candidate(alloc: Global, text: &str) -> Result<Option<MediaAttribute>, 
     ensures { IfOk result (λ found. found ≡ (form_made_as candidate Candidate).read text.now) }
 {
     match candidate(alloc, text)? {
-        Some(candidate) => Ok(Some(MediaAttribute::Candidate(candidate))),
+        Some(candidate) => Ok(Some(MediaAttribute::Candidate(Boxed::new(
+            alloc, candidate,
+        )?))),
         None => Ok(None),
     }
 }

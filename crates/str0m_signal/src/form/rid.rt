@@ -15,7 +15,7 @@ use crate::line::words::Number;
 use std::alloc::{AllocError, Global};
 use str0m_sdp::{MediaAttribute, RestrictionId, Word, label};
 use str0m_values::cuts::{cut, strip};
-use str0m_values::{Items, Pt, Separator, Text};
+use str0m_values::{Boxed, Items, Pt, Separator, Text};
 
 /// What stands after a value: the end, or `;` and more.
 fn rid_next(text: &str) -> Option<Option<&str>>
@@ -221,15 +221,22 @@ fn rid_fields(text: &str) -> Option<(&str, &'static str, &str)>
 }
 
 /// The rid line of these parts.
-fn made_rid(name: Text, word: &'static str, lists: RidLists) -> MediaAttribute
-    ensures { result ≡ Rid (record { 0 = name; 1 = true }) word.now lists.types lists.restrictions }
+fn made_rid(
+    alloc: Global,
+    name: Text,
+    word: &'static str,
+    lists: RidLists,
+) -> Result<MediaAttribute, AllocError>
+    ensures { IfOk result (λ line. line ≡ Rid (record { 0 = name; 1 = true }) word.now lists.types lists.restrictions) }
 {
-    MediaAttribute::Rid {
-        id: RestrictionId(name, true),
+    let id = Boxed::new(alloc, RestrictionId(name, true))?;
+    let restriction = Boxed::new(alloc, lists.restrictions)?;
+    Ok(MediaAttribute::Rid {
+        id,
         direction: Word(word),
         pt: lists.types,
-        restriction: lists.restrictions,
-    }
+        restriction,
+    })
 }
 
 /// The rid line of the text after `a=`.
@@ -243,5 +250,5 @@ pub(crate) fn rid(alloc: Global, text: &str) -> Result<Option<MediaAttribute>, A
         return Ok(None);
     };
     let name = Text::from_str(alloc, name)?;
-    Ok(Some(made_rid(name, word, lists)))
+    Ok(Some(made_rid(alloc, name, word, lists)?))
 }
