@@ -18,7 +18,7 @@ pub cut_at : (c : ℕ) (a b : List ℕ) → Lacks c a → cut c (a ++ (c ∷ b))
 cut_at c [] b h = rw (eq-eqb c c refl) refl
 cut_at c (x ∷ xs) b h = rw (ne_eqb x c h.0) (ap (before_cut x) (cut_at c xs b h.1))
 
-before_cut_some : (x : ℕ) (o : Option (List ℕ × List ℕ)) (a b : List ℕ) → before_cut x o ≡ Some (a, b)
+pub before_cut_some : (x : ℕ) (o : Option (List ℕ × List ℕ)) (a b : List ℕ) → before_cut x o ≡ Some (a, b)
     → (rest : List ℕ) × (o ≡ Some (rest, b)) × (x ∷ rest ≡ a)
 before_cut_some x o a b e = grind arith
 
@@ -35,7 +35,7 @@ cut_found c (x ∷ xs) a b e =
           (rw (← p.2) (ap (λ (t : List ℕ). x ∷ t) q.0), rw (← p.2) (other, q.1))
     ]
 
-before_cut_none : (x : ℕ) (o : Option (List ℕ × List ℕ)) → before_cut x o ≡ None → o ≡ None
+pub before_cut_none : (x : ℕ) (o : Option (List ℕ × List ℕ)) → before_cut x o ≡ None → o ≡ None
 before_cut_none x o e = grind arith
 
 pub cut_none_lacks : (c : ℕ) (text : List ℕ) → cut c text ≡ None → Lacks c text

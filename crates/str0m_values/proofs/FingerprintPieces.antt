@@ -1,70 +1,105 @@
--- Pairs of hex digits at places of a text, as its pieces.
-use Rattle.std.proofs.Common.{drop-cons}
-use Rattle.std.proofs.lemmas.List.{drop_all}
-use Rattle.std.proofs.lemmas.List.Splits.{slice_split_at, slice_split_none}
-use Rattle.str0m_values.proofs.Common.{◌≡◌, ◌≢◌, ◌==◌, ◌<◌, ℕ, suc, false, List, [], ◌∷◌, ◌++◌, All, length, get_or, drop, arith, refl}
-use Rattle.str0m_values.proofs.Common.{sym, ap, ◌∙◌, subst, append_assoc, ne_eqb, digit_value, AllZip}
+-- The pieces of a text, first by first, and the bytes that are read of them.
+use Rattle.std.specs.List.{onto_first}
+use Rattle.str0m_values.proofs.Common.{◌≡◌, ◌≢◌, ◌<◌, ℕ, inl, inr, List, [], ◌∷◌, ◌++◌, length, get_or, drop, Option, Some, None}
+use Rattle.str0m_values.proofs.Common.{arith, refl, sym, ap, ◌∙◌, subst, append_assoc, cases_eq, eq-eqb, ne_eqb, none-some, digit_value}
+use Rattle.str0m_values.proofs.Common.{AllZip}
+use Rattle.str0m_values.proofs.Common.{IfSome, IsSome, some_pair_parts, length-append}
+use Rattle.str0m_values.proofs.CutLaws.{before_cut_some, before_cut_none}
 use Rattle.str0m_values.proofs.FingerprintPairs.{two_digits_read}
-use Rattle.str0m_values.specs.Fingerprint.{IsHexByte, IsFingerprintWrittenBy, hash_pieces}
+use Rattle.str0m_values.proofs.FingerprintZipLaws.{AllZip-push}
+use Rattle.str0m_values.specs.Cuts.{cut, IsTheOnly}
+use Rattle.str0m_values.specs.Fingerprint.{IsHexByte, IsFingerprintWrittenBy, HasBadHashPiece, IsHashFront, hash_pieces, hash_pieces_after}
+
+-- ---- the first piece
+
+-- it reaches to the first `:`
+pub hash_front_cut : (text piece rest : List ℕ) → cut 58 text ≡ Some (piece, rest) → hash_pieces text ≡ piece ∷ hash_pieces rest
+hash_front_cut [] piece rest e = absurd cc
+hash_front_cut (x ∷ xs) piece rest e =
+    elim (cases_eq x 58) [
+      | inl same ↦ let pair = some_pair_parts [] piece xs rest (rw (eq-eqb x 58 same) at e) in
+          rw (eq-eqb x 58 same, ← pair.0, ← pair.1) refl
+      | inr other ↦
+          let p = before_cut_some x (cut 58 xs) piece rest (rw (ne_eqb x 58 other) at e) in
+          rw (ne_eqb x 58 other) (ap (onto_first x) (hash_front_cut xs p.0 rest p.1) ∙ ap (λ front. front ∷ hash_pieces rest) p.2)
+    ]
+
+-- or is the whole
+pub hash_front_whole : (text : List ℕ) → cut 58 text ≡ None → hash_pieces text ≡ text ∷ []
+hash_front_whole [] e = refl
+hash_front_whole (x ∷ xs) e =
+    elim (cases_eq x 58) [
+      | inl same ↦ absurd (none-some ([], xs) (sym (rw (eq-eqb x 58 same) at e)))
+      | inr other ↦ rw (ne_eqb x 58 other, hash_front_whole xs (before_cut_none x (cut 58 xs) (rw (ne_eqb x 58 other) at e))) refl
+    ]
+
+-- ---- two hex digits
 
 -- a hex digit is no character that isn't a digit
 digit_apart : (c digit : ℕ) → digit_value c ≡ 36 → digit_value digit < 16 → digit ≢ c
 digit_apart c digit far lt = λ e. omega (arith, ap digit_value e, far, lt)
 
--- so the pair is one piece
-hash_pair_whole : (high low byte : ℕ) → IsFingerprintWrittenBy high low byte → All (λ c. (c == 58) ≡ false) (high ∷ low ∷ [])
-hash_pair_whole high low byte h = grind (arith, ne_eqb, digit_apart 58 high refl h.0, digit_apart 58 low refl h.1)
+-- they read as the byte that they write, and as no other
+written_pair_only : (high low byte : ℕ) → IsFingerprintWrittenBy high low byte → IsTheOnly (IsHexByte (high ∷ low ∷ [])) (Some byte)
+written_pair_only high low byte h =
+    let read = two_digits_read high low _ _ byte (digit_apart 43 high refl h.0) refl refl h.0 h.1 (sym h.2) in
+    record { found = read; only = λ other is. ap Some (sym read.value ∙ is.value) }
 
--- and its byte is what is read of it
-written_hash_pair_reads : (high low byte : ℕ) → IsFingerprintWrittenBy high low byte → IsHexByte (high ∷ low ∷ []) byte
-written_hash_pair_reads high low byte h = two_digits_read high low _ _ byte (digit_apart 43 high refl h.0) refl refl h.0 h.1 (sym h.2)
+pub hash_pair_alone : (piece : List ℕ) (byte : Option ℕ) → length piece ≡ 2
+    → IfSome byte (IsFingerprintWrittenBy (get_or piece 0 0) (get_or piece 1 0)) → IsSome byte → IsTheOnly (IsHexByte piece) byte
+hash_pair_alone [] byte two h some = absurd (omega (arith, two))
+hash_pair_alone (high ∷ []) byte two h some = absurd (omega (arith, two))
+hash_pair_alone (high ∷ low ∷ []) None two h some = absurd cc
+hash_pair_alone (high ∷ low ∷ []) (Some byte) two h some = written_pair_only high low byte h
+hash_pair_alone (high ∷ low ∷ more ∷ rest) byte two h some = absurd (omega (arith, two))
 
-hash_pair_then : (high low byte : ℕ) (rest more : List ℕ) → IsFingerprintWrittenBy high low byte → AllZip IsHexByte (hash_pieces rest) more
-    → AllZip IsHexByte (hash_pieces (high ∷ low ∷ 58 ∷ rest)) (byte ∷ more)
-hash_pair_then high low byte rest more h are =
-    subst (λ (pieces : List (List ℕ)). AllZip IsHexByte pieces (byte ∷ more))
-    (sym (slice_split_at (λ b. b == 58) (high ∷ low ∷ []) 58 rest (hash_pair_whole high low byte h) refl))
-    (written_hash_pair_reads high low byte h, are)
+pub hash_pair_front : (text : List ℕ) (byte : Option ℕ) → 2 < length text → get_or text 2 0 ≡ 58
+    → IfSome byte (IsFingerprintWrittenBy (get_or text 0 0) (get_or text 1 0)) → IsSome byte → IsHashFront text byte (Some (drop 3 text))
+hash_pair_front [] byte long is h some = absurd (omega (arith, long))
+hash_pair_front (high ∷ []) byte long is h some = absurd (omega (arith, long))
+hash_pair_front (high ∷ low ∷ []) byte long is h some = absurd (omega (arith, long))
+hash_pair_front (high ∷ low ∷ colon ∷ rest) None long is h some = absurd cc
+hash_pair_front (high ∷ low ∷ colon ∷ rest) (Some byte) long is h some =
+    let e : hash_pieces (high ∷ low ∷ colon ∷ rest) ≡ (high ∷ low ∷ []) ∷ hash_pieces rest =
+    rw (ne_eqb high 58 (digit_apart 58 high refl h.0), ne_eqb low 58 (digit_apart 58 low refl h.1), eq-eqb colon 58 is) refl in
+    (high ∷ low ∷ [], e, written_pair_only high low byte h)
 
-hash_pair_alone : (high low byte : ℕ) → IsFingerprintWrittenBy high low byte → AllZip IsHexByte (hash_pieces (high ∷ low ∷ [])) (byte ∷ [])
-hash_pair_alone high low byte h =
-    subst (λ (pieces : List (List ℕ)). AllZip IsHexByte pieces (byte ∷ []))
-    (sym (slice_split_none (λ b. b == 58) (high ∷ low ∷ []) (hash_pair_whole high low byte h)))
-    (written_hash_pair_reads high low byte h, tt)
+-- ---- the loop over the pieces
 
--- ---- at places
+-- the pieces before what is left are these bytes
+abbrev pub AreHashBytesBefore : List ℕ → List ℕ → List ℕ → Type 0
+AreHashBytesBefore text left bytes = (pieces : List (List ℕ)) × (hash_pieces text ≡ pieces ++ hash_pieces left)
+    × AllZip IsHexByte pieces bytes
 
-hash_three_at : (text : List ℕ) (a b c d : ℕ) → b ≡ suc a → c ≡ suc b → d ≡ suc c → c < length text
-    → drop a text ≡ get_or text a 0 ∷ get_or text b 0 ∷ get_or text c 0 ∷ drop d text
-hash_three_at text a b c d eb ec ed lt =
-    let third : drop c text ≡ get_or text c 0 ∷ drop d text = rw ed (drop-cons text c 0 lt) in
-    let second : drop b text ≡ get_or text b 0 ∷ drop c text = rw ec (drop-cons text b 0 (omega arith)) in
-    let first : drop a text ≡ get_or text a 0 ∷ drop b text = rw eb (drop-cons text a 0 (omega arith)) in
-    first ∙ ap (λ l. get_or text a 0 ∷ l) (second ∙ ap (λ l. get_or text b 0 ∷ l) third)
+pub hash_bytes_more : (text left rest bytes : List ℕ) (byte : ℕ) → AreHashBytesBefore text left bytes
+    → IsHashFront left (Some byte) (Some rest)
+    → AreHashBytesBefore text rest (bytes ++ byte ∷ [])
+hash_bytes_more text left rest bytes byte h front = (
+  h.0 ++ front.0 ∷ [],
+  h.1 ∙ (ap (λ l. h.0 ++ l) front.1 ∙ sym (append_assoc h.0 (front.0 ∷ []) (hash_pieces rest))),
+  AllZip-push IsHexByte h.0 bytes front.0 byte h.2 front.2.found,
+)
 
-hash_two_at : (text : List ℕ) (a b : ℕ) → b ≡ suc a → length text ≡ suc b → drop a text ≡ get_or text a 0 ∷ get_or text b 0 ∷ []
-hash_two_at text a b eb el =
-    let second : drop b text ≡ get_or text b 0 ∷ [] =
-    drop-cons text b 0 (omega arith) ∙ ap (λ l. get_or text b 0 ∷ l) (drop_all (suc b) text (omega arith)) in
-    let first : drop a text ≡ get_or text a 0 ∷ drop b text = rw eb (drop-cons text a 0 (omega arith)) in
-    first ∙ ap (λ l. get_or text a 0 ∷ l) second
-
--- what the text from the place on reads as, after these bytes, is what the whole reads as
-abbrev pub IsHashReadTo : List ℕ → ℕ → List ℕ → Type 0
-IsHashReadTo text place bytes =
-    (more : List ℕ) → AllZip IsHexByte (hash_pieces (drop place text)) more → AllZip IsHexByte (hash_pieces text) (bytes ++ more)
-
-pub hash_read_on : (text bytes : List ℕ) (byte a b c d : ℕ) → b ≡ suc a → c ≡ suc b → d ≡ suc c → c < length text → get_or text c 0 ≡ 58
-    → IsFingerprintWrittenBy (get_or text a 0) (get_or text b 0) byte → IsHashReadTo text a bytes → IsHashReadTo text d (bytes ++ byte ∷ [])
-hash_read_on text bytes byte a b c d eb ec ed lt colon h so_far = λ more are.
-    let places = hash_three_at text a b c d eb ec ed lt ∙ ap (λ x. get_or text a 0 ∷ get_or text b 0 ∷ x ∷ drop d text) colon in
-    subst (λ (all : List ℕ). AllZip IsHexByte (hash_pieces text) all) (sym (append_assoc bytes (byte ∷ []) more))
-    (so_far (byte ∷ more) (subst (λ (left : List ℕ). AllZip IsHexByte (hash_pieces left) (byte ∷ more)) (sym places)
-    (hash_pair_then (get_or text a 0) (get_or text b 0) byte (drop d text) more h are)))
-
-pub hash_read_out : (text bytes : List ℕ) (byte a b : ℕ) → b ≡ suc a → length text ≡ suc b
-    → IsFingerprintWrittenBy (get_or text a 0) (get_or text b 0) byte → IsHashReadTo text a bytes
+pub hash_bytes_all : (text left bytes : List ℕ) (byte : ℕ) → AreHashBytesBefore text left bytes → IsHashFront left (Some byte) None
     → AllZip IsHexByte (hash_pieces text) (bytes ++ byte ∷ [])
-hash_read_out text bytes byte a b eb el h so_far =
-    so_far (byte ∷ []) (subst (λ (left : List ℕ). AllZip IsHexByte (hash_pieces left) (byte ∷ [])) (sym (hash_two_at text a b eb el))
-    (hash_pair_alone (get_or text a 0) (get_or text b 0) byte h))
+hash_bytes_all text left bytes byte h front =
+    subst (λ (pieces : List (List ℕ)). AllZip IsHexByte pieces (bytes ++ byte ∷ [])) (sym (h.1 ∙ ap (λ l. h.0 ++ l) front.1))
+    (AllZip-push IsHexByte h.0 bytes front.0 byte h.2 front.2.found)
+
+hash_piece_there : (before : List (List ℕ)) (piece : List ℕ) (after : List (List ℕ))
+    → get_or (before ++ piece ∷ after) (length before) piece ≡ piece
+hash_piece_there [] piece after = refl
+hash_piece_there (first ∷ before) piece after = hash_piece_there before piece after
+
+-- a piece that is no byte stands in the text
+pub hash_bytes_bad : (text left bytes : List ℕ) (rest : Option (List ℕ)) → AreHashBytesBefore text left bytes → IsHashFront left None rest
+    → HasBadHashPiece text
+hash_bytes_bad text left bytes rest h front =
+    let e = h.1 ∙ ap (λ l. h.0 ++ l) front.1 in
+    rw e (
+      length h.0,
+      front.0,
+      omega (arith, length-append h.0 (front.0 ∷ hash_pieces_after rest)),
+      hash_piece_there h.0 front.0 (hash_pieces_after rest),
+      λ byte is. none-some byte (front.2.only byte is),
+    )

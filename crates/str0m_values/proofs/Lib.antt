@@ -12,6 +12,7 @@ pub mod CutsBothWays
 pub mod CutsNearLaws
 pub mod CutsNumLaws
 pub mod CutsOnlyLaws
+pub mod FingerprintDigits
 pub mod FingerprintLaws
 pub mod FingerprintPairs
 pub mod FingerprintPieces

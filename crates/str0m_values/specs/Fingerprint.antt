@@ -2,8 +2,9 @@
 use Rattle.std.specs.Char.{digit_value}
 use Rattle.std.specs.Fmt.{digit_glyph}
 use Rattle.std.specs.List.{AllZip, slice_split}
-use Rattle.std.specs.Prelude.{◌≡◌, ◌<◌, ◌==◌, ◌+◌, ◌*◌, ◌/◌, ◌%◌, ⊤, ℕ, true, List, [], ◌∷◌, ◌++◌, length, All, Any, Result, Ok, Err, codes, if◌then◌else◌, flat_map}
+use Rattle.std.specs.Prelude.{◌≡◌, ◌<◌, ◌==◌, ◌+◌, ◌*◌, ◌/◌, ◌%◌, ⊤, ℕ, true, List, [], ◌∷◌, ◌++◌, length, All, Any, Option, Some, None, Result, Ok, Err, codes, if◌then◌else◌, flat_map}
 use Rattle.std.specs.Str.{str_eq_ignore_ascii_case}
+use Rattle.str0m_values.specs.Cuts.{IsTheOnly}
 use Rattle.str0m_values.specs.CutsParts.{Lacks, IsNumber}
 use Rattle.str0m_values.specs.declared.fingerprint.Fingerprint.{Fingerprint}
 use Rattle.str0m_values.specs.declared.fingerprint.FingerprintError.{FingerprintError}
@@ -59,6 +60,15 @@ HasBadByte text = (name : List ℕ) × (rest : List ℕ) × IsNamed text name re
 abbrev pub GivesFingerprint : Fingerprint → Result Fingerprint FingerprintError → Type 0
 GivesFingerprint f (Ok g) = g ≡ f
 GivesFingerprint f (Err e) = e ≡ Memory
+
+-- the pieces that follow the first
+abbrev pub hash_pieces_after : Option (List ℕ) → List (List ℕ)
+hash_pieces_after None = []
+hash_pieces_after (Some rest) = hash_pieces rest
+
+-- the byte of the text's first piece, if it is one, and what follows the piece's `:`, if any
+abbrev pub IsHashFront : List ℕ → Option ℕ → Option (List ℕ) → Type 0
+IsHashFront text byte rest = (piece : List ℕ) × (hash_pieces text ≡ piece ∷ hash_pieces_after rest) × IsTheOnly (IsHexByte piece) byte
 
 -- what the bytes of a text are read as, or why they aren't
 abbrev pub IsBytesReading : List ℕ → Result (List ℕ) FingerprintError → Type 0

@@ -1,9 +1,10 @@
 //! Fingerprints of certificates.
+ghost use Rattle.std.specs.Char.{digit_value};
 ghost use Rattle.std.specs.Fmt.{digit_glyph};
-ghost use Rattle.std.specs.List.{AllZip};
-ghost use Rattle.std.specs.Prelude.{◌≡◌, ◌<◌, ◌∷◌, ◌↔◌, IfOk, IfSome, IsErr, IsErrOf, IsTrue, Some, true, flat_map};
-ghost use Rattle.str0m_values.specs.CutsParts.{Lacks};
-ghost use Rattle.str0m_values.specs.Fingerprint.{IsFingerprint, IsHexByte, IsFingerprintWrittenBy, HasBadByte, IsBytesReading, IsFingerprintReading, GivesFingerprint, CanFingerprintBeReadBack, fingerprint_text, hex_pair, pairs_text, hash_pieces, hash_preference_of};
+ghost use Rattle.std.specs.Prelude.{◌≡◌, ◌<◌, ◌∷◌, ◌↔◌, IfOk, IfSome, IsErr, IsErrOf, IsTrue, Some, length, true, flat_map};
+ghost use Rattle.str0m_values.specs.Cuts.{IsTheOnly};
+ghost use Rattle.str0m_values.specs.CutsParts.{Lacks, part_text_of};
+ghost use Rattle.str0m_values.specs.Fingerprint.{IsFingerprint, IsHexByte, IsFingerprintWrittenBy, HasBadByte, IsHashFront, IsBytesReading, IsFingerprintReading, GivesFingerprint, CanFingerprintBeReadBack, fingerprint_text, hex_pair, pairs_text, hash_preference_of};
 ghost use Rattle.str0m_values.specs.declared.fingerprint.Fingerprint.{Fingerprint};
 ghost use Rattle.str0m_values.specs.declared.fingerprint.FingerprintError.TheVariants.{NoSpace, BadByte, Memory};
 
@@ -113,13 +114,66 @@ fn read_fingerprint(alloc: Global, text: &str) -> Result<Fingerprint, Fingerprin
     Ok(Fingerprint { hash_func, bytes })
 }
 
+/// The bytes of the pieces, in one run over the text. Nearly all are two hex digits for each, and then the room that is asked
+/// for at first is theirs.
 fn read_bytes(alloc: Global, text: &str) -> Result<Items<u8>, FingerprintError>
     ensures { IsBytesReading text.now result }
 {
-    match read_hash_pairs(alloc, text.as_bytes())? {
-        Some(bytes) => Ok(bytes),
-        None => read_hash_pieces(alloc, text),
+    let mut bytes = Vec::with_capacity(alloc, text.len() / 3 + 1)?;
+    let mut left = text;
+    loop {
+        let (byte, rest) = first_hash_byte(left);
+        let Some(byte) = byte else {
+            return Err(FingerprintError::BadByte);
+        };
+        bytes.push(byte)?;
+        match rest {
+            Some(rest) => left = rest,
+            None => return Ok(Items(bytes)),
+        }
     }
+}
+
+/// The byte of the first piece, `None` where it is none, and what follows its `:`. Two hex digits and a `:` are read in place.
+#[inline(always)]
+fn first_hash_byte(text: &str) -> (Option<u8>, Option<&str>)
+    ensures front { IsHashFront text.now result.0 (part_text_of result.1) }
+    ensures shorter { IfSome result.1 (λ rest. length rest.now < length text.now) }
+{
+    let bytes = text.as_bytes();
+    if bytes.len() > 2 && bytes[2] == b':' {
+        let byte = pair_byte(bytes[0], bytes[1]);
+        if byte.is_some() {
+            return (byte, Some(&text[3..]));
+        }
+    }
+    other_hash_byte(text)
+}
+
+/// The same of any text.
+#[inline(never)]
+fn other_hash_byte(text: &str) -> (Option<u8>, Option<&str>)
+    ensures front { IsHashFront text.now result.0 (part_text_of result.1) }
+    ensures shorter { IfSome result.1 (λ rest. length rest.now < length text.now) }
+{
+    match cut(text, Separator::Colon) {
+        Some((piece, rest)) => (hash_byte(piece), Some(rest)),
+        None => (hash_byte(text), None),
+    }
+}
+
+/// The byte that std reads in a piece in hexadecimal. Two digits, as the last piece mostly is, are read in place.
+fn hash_byte(piece: &str) -> Option<u8>
+    ensures { IsTheOnly (IsHexByte piece.now) result }
+{
+    let bytes = piece.as_bytes();
+    if bytes.len() == 2 {
+        let byte = pair_byte(bytes[0], bytes[1]);
+        if byte.is_some() {
+            return byte;
+        }
+    }
+    hex_u8(piece)
 }
 
 /// The byte that two hex digits write.
@@ -127,49 +181,43 @@ fn read_bytes(alloc: Global, text: &str) -> Result<Items<u8>, FingerprintError>
 fn pair_byte(high: u8, low: u8) -> Option<u8>
     ensures { IfSome result (IsFingerprintWrittenBy high low) }
 {
-    let high = (high as char).to_digit(16)?;
-    let low = (low as char).to_digit(16)?;
-    Some((high * 16 + low) as u8)
+    let (high, low) = (value_of_digit(high), value_of_digit(low));
+    if high < 16 && low < 16 {
+        Some(high * 16 + low)
+    } else {
+        None
+    }
 }
 
-/// The bytes of a text that is two hex digits for each, as nearly all are: these are read in place. `None` where it is
-/// another text, which may hold bytes nevertheless.
-fn read_hash_pairs(alloc: Global, text: &[u8]) -> Result<Option<Items<u8>>, AllocError>
-    ensures { IfOk result (λ found. IfSome found (AllZip IsHexByte (hash_pieces text.now))) }
+/// What each byte is worth as a digit of std, below 36, and 36 where it is none: one load takes the place of six tests.
+static DIGIT_VALUES: [u8; 256] = [
+    36, 36, 36, 36, 36, 36, 36, 36, 36, 36, 36, 36, 36, 36, 36, 36, 36, 36, 36, 36, 36, 36, 36, 36,
+    36, 36, 36, 36, 36, 36, 36, 36, 36, 36, 36, 36, 36, 36, 36, 36, 36, 36, 36, 36, 36, 36, 36, 36,
+    0, 1, 2, 3, 4, 5, 6, 7, 8, 9, 36, 36, 36, 36, 36, 36, 36, 10, 11, 12, 13, 14, 15, 16, 17, 18,
+    19, 20, 21, 22, 23, 24, 25, 26, 27, 28, 29, 30, 31, 32, 33, 34, 35, 36, 36, 36, 36, 36, 36, 10,
+    11, 12, 13, 14, 15, 16, 17, 18, 19, 20, 21, 22, 23, 24, 25, 26, 27, 28, 29, 30, 31, 32, 33, 34,
+    35, 36, 36, 36, 36, 36, 36, 36, 36, 36, 36, 36, 36, 36, 36, 36, 36, 36, 36, 36, 36, 36, 36, 36,
+    36, 36, 36, 36, 36, 36, 36, 36, 36, 36, 36, 36, 36, 36, 36, 36, 36, 36, 36, 36, 36, 36, 36, 36,
+    36, 36, 36, 36, 36, 36, 36, 36, 36, 36, 36, 36, 36, 36, 36, 36, 36, 36, 36, 36, 36, 36, 36, 36,
+    36, 36, 36, 36, 36, 36, 36, 36, 36, 36, 36, 36, 36, 36, 36, 36, 36, 36, 36, 36, 36, 36, 36, 36,
+    36, 36, 36, 36, 36, 36, 36, 36, 36, 36, 36, 36, 36, 36, 36, 36, 36, 36, 36, 36, 36, 36, 36, 36,
+    36, 36, 36, 36, 36, 36, 36, 36, 36, 36, 36, 36, 36, 36,
+];
+
+/// The table, whose length a call knows.
+#[inline(always)]
+fn digit_values() -> &'static [u8; 256]
+    ensures { result.now ≡ DIGIT_VALUES }
 {
-    if text.len() % 3 != 2 {
-        return Ok(None);
-    }
-    let last = text.len() / 3;
-    let mut bytes = Vec::with_capacity(alloc, last + 1)?;
-    for i in 0..last {
-        let Some(byte) = pair_byte(text[3 * i], text[3 * i + 1]) else {
-            return Ok(None);
-        };
-        if text[3 * i + 2] != b':' {
-            return Ok(None);
-        }
-        bytes.push(byte)?;
-    }
-    let Some(byte) = pair_byte(text[3 * last], text[3 * last + 1]) else {
-        return Ok(None);
-    };
-    bytes.push(byte)?;
-    Ok(Some(Items(bytes)))
+    &DIGIT_VALUES
 }
 
-/// The bytes of the pieces, each as std reads it.
-fn read_hash_pieces(alloc: Global, text: &str) -> Result<Items<u8>, FingerprintError>
-    ensures { IsBytesReading text.now result }
+/// What the byte is worth as a digit: 0 to 15 in hexadecimal, of either case.
+#[inline(always)]
+fn value_of_digit(byte: u8) -> u8
+    ensures { result ≡ digit_value byte }
 {
-    let mut bytes = Items::empty(alloc);
-    for piece in text.split(':') {
-        let Some(byte) = hex_u8(piece) else {
-            return Err(FingerprintError::BadByte);
-        };
-        bytes.push(byte)?;
-    }
-    Ok(bytes)
+    digit_values()[byte as usize]
 }
 
 impl fmt::Display for Fingerprint {

@@ -1,0 +1,11 @@
+use Rattle.str0m_values.proofs.Common.{length}
+use Rattle.str0m_values.proofs.FingerprintPieces.{AreHashBytesBefore}
+use Rattle.str0m_values.proofs.fingerprint.read_bytes.Given as goal
+use denote.Shadow.{shadow}
+use denote.Text.{Utf8}
+
+abbrev pub invariant-loop-byte : goal.invariant-loop-byte
+invariant-loop-byte l = shadow (Utf8 l.left) × AreHashBytesBefore l.text l.left l.bytes.items
+
+abbrev pub decreases-loop-byte : goal.decreases-loop-byte
+decreases-loop-byte l = length l.left
