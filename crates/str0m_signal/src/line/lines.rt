@@ -57,6 +57,7 @@ fn behind_end(text: &str) -> Option<&str>
 
 /// The first line, without its end, and what follows it. A line that holds a carriage return fits no form, so nobody
 /// needs to know where it ends.
+#[inline(always)]
 pub(crate) fn clean_line(text: &str) -> Option<(&str, &str)>
     ensures { option_map both_lines_left result ≡ clean_line (lines_of text.now) }
 {
