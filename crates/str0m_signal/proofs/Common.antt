@@ -3,18 +3,20 @@ pub use Rattle.std.proofs.Common.{[], All, ap, arith, Bool, cond, drop, eqb, Err
 pub use Rattle.std.proofs.Common.{length, length-append, List, lit<, lit≤, ltb, map, None, not, Ok, Option, option_map, option_to_list}
 pub use Rattle.std.proofs.Common.{refl, Result, rules, Some, subst, suc, sym, take, true, true≢false, zero, zero-add, ℕ, ◌%◌, ◌&&◌, ◌++◌}
 pub use Rattle.std.proofs.Common.{◌+◌, ◌-◌, ◌/◌, ◌<◌, ◌==◌, ◌^◌, ◌||◌, ◌∙◌, ◌∷◌, ◌≡◌, ◌≢◌, ◌≤◌, ◌⊎◌, ◌*◌, replicate, Vec, Global, OnErr}
-pub use Rattle.std.proofs.Common.{if◌then◌else◌, drop-cons}
+pub use Rattle.std.proofs.Common.{if◌then◌else◌, drop-cons, add-one}
+pub use Rattle.std.proofs.Math.Seq.{take-append_seam}
 pub use Rattle.std.proofs.lemmas.Bool.{and_from, and_left, and_parts, and_right, both_ways, cases_Bool, cases_eq, cases_lt, eq-eqb}
 pub use Rattle.std.proofs.lemmas.Bool.{eqb-true, false≢true, lt-ltb, ltb-true, ne_eqb, false_from_ne_true, not-true}
 pub use Rattle.std.proofs.lemmas.Fmt.{decimal_is_IsNumeral, decimal_nonempty, digits_is_IsNumeral, hex_one_digit}
-pub use Rattle.std.proofs.lemmas.List.{append-nil, append_assoc, map-append, take-append-drop, append_cancel_right}
+pub use Rattle.std.proofs.lemmas.List.{append-nil, append_assoc, map-append, take-append-drop, append_cancel_right, length-take}
 pub use Rattle.std.proofs.lemmas.List.Elements.{All-cons, All-head, All-nil, All-tail, All-weaker, recursion_from_All, All-filter}
 pub use Rattle.std.proofs.lemmas.List.Elements.{filter_passes, All-from_recursion}
 pub use Rattle.std.proofs.lemmas.List.Sums.{sum_by-append, sum_by-cons}
 pub use Rattle.std.proofs.lemmas.Option.{none-some, same_Some, slice_get_read, some_pair_parts, slice_get_within, IfSome_then}
 pub use Rattle.std.proofs.lemmas.Result.{IfOk-weaker}
 pub use Rattle.std.proofs.lemmas.Slice.Eq.{bytes_eq-Decides}
-pub use Rattle.std.proofs.lemmas.Str.{IsCharBoundary-end, IsCharBoundary-after_ascii}
+pub use Rattle.std.proofs.lemmas.Str.{IsCharBoundary-end, IsCharBoundary-after_ascii, IsCharBoundary-from_take, digit_value_digit}
+pub use Rattle.std.proofs.lemmas.Str.Parse.{digit_from_value}
 pub use Rattle.std.specs.Bool.{MatchBool}
 pub use Rattle.std.specs.Borrow.{Bor}
 pub use Rattle.std.specs.Char.{digit_value}
@@ -99,6 +101,7 @@ pub use Rattle.str0m_values.specs.Candidate.{candidate_text, IsCandidateSocket, 
 pub use Rattle.str0m_values.specs.Candidate.{IsPrintableCandidate}
 pub use Rattle.str0m_values.specs.Candidate.{socket_text}
 pub use Rattle.str0m_values.specs.Candidate.{related_text, extras_text}
+pub use Rattle.str0m_values.specs.Cuts.{IsFirstCutAt, IsWrittenAs, LacksCutAt}
 pub use Rattle.str0m_values.specs.Cuts.{front}
 pub use Rattle.str0m_values.specs.Fingerprint.{hex_pair, pairs_text, fingerprint_text}
 pub use denote.Shadow.{shadow}

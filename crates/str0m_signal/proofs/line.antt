@@ -1,4 +1,5 @@
 pub mod BareValuesLaws
+pub mod FrontLaws
 pub mod LinesAgain
 pub mod LinesChainLaws
 pub mod LinesEndLaws

@@ -1,3 +1,4 @@
+pub mod FrontReading
 pub mod Heads
 pub mod Lines
 pub mod LinesReading

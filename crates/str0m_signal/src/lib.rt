@@ -20,6 +20,7 @@
 //! - `line`: Lines, and the pieces of which they are read.
 //!   - `bare_values`: The values of fmtp lines that have no keys.
 //!   - `fields`: What fields of several lines share.
+//!   - `front`: What stands at the front of lines: labels, and numbers before a space.
 //!   - `heads`: The m-lines of sections.
 //!   - `lines`: The lines of a text.
 //!   - `pairs`: Pairs of a key and a value, parted by `;`.

@@ -2,6 +2,7 @@
 
 pub(crate) mod bare_values;
 pub(crate) mod fields;
+pub(crate) mod front;
 pub(crate) mod heads;
 pub(crate) mod lines;
 pub(crate) mod pairs;

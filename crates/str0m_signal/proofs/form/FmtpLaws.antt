@@ -8,7 +8,7 @@ use Rattle.str0m_signal.proofs.Common.{strip_at, cuts_when_some, lacks_cut_true,
 use Rattle.str0m_signal.proofs.Common.{cuts_some_is, cuts_if_some, cuts_reads_first}
 use Rattle.str0m_signal.proofs.Common.{num_rest_true, number_lacks, num_found, num_reads, cut_before_front, Reads, ArePairsRead}
 use Rattle.str0m_signal.proofs.Common.{pairs_read_only}
-use Rattle.str0m_signal.proofs.Common.{front}
+use Rattle.str0m_signal.proofs.Common.{front, Fmtp, MediaAttribute}
 use Rattle.str0m_signal.proofs.Common.{cut_before_lacks}
 use Rattle.str0m_signal.proofs.line.BareValuesLaws.{bare_both}
 use Rattle.str0m_signal.proofs.line.PairLaws.{pair_value_given, EndsValue, pair_blanks_skipped}
@@ -19,6 +19,8 @@ use Rattle.str0m_signal.specs.form.Fmtp.{IsPairsForm}
 use Rattle.str0m_signal.specs.form.Fmtp.{IsListForm, IsRangeForm, IsAnyFmtp, IsFmtp}
 use Rattle.str0m_signal.specs.form.FmtpReading.{fmtp_value_read, skip_pair_blanks, fmtp_next_read, fmtp_key_read, pair_read, pairs_read}
 use Rattle.str0m_signal.specs.form.FmtpReading.{pairs_form_read, fmtp_values_read, fmtp_fields_read}
+use Rattle.str0m_signal.specs.form.MediaAttribute.{fmtp}
+use Rattle.str0m_signal.specs.line.FrontReading.{number_in_front_read}
 
 -- ---- the parts of a pair
 
@@ -260,6 +262,40 @@ pairs_form_of more text pairs values at read are = grind (arith, pairs_read_only
 
 fmtp_values_both : Reads (FirstFit IsPairsForm (FirstFit IsListForm (FirstFit IsRangeForm IsAnyFmtp))) fmtp_values_read
 fmtp_values_both = cuts_reads_first fmtp_pairs_both bare_both
+
+-- what the parts of a line are joined to
+abbrev fmtp_line_made : ℕ × List FormatParam → Option MediaAttribute
+fmtp_line_made p = Some (Fmtp p.0 p.1)
+
+abbrev fmtp_parts : ℕ → List FormatParam → Option (ℕ × List FormatParam)
+fmtp_parts pt values = Some (pt, values)
+
+abbrev fmtp_front : ℕ → List ℕ → Option (ℕ × List ℕ)
+fmtp_front pt more = Some (pt, more)
+
+fmtp_made : (pt : ℕ) (o : Option (List FormatParam))
+    → ((o >>= λ values. fmtp_parts pt values) >>= fmtp_line_made) ≡ (o >>= λ values. fmtp_line_made (pt, values))
+fmtp_made pt None = refl
+fmtp_made pt (Some values) = refl
+
+fmtp_bound : (o : Option ℕ) (rest : Option (List ℕ))
+    → ((o >>= λ pt. rest >>= λ more. fmtp_values_read more >>= λ values. fmtp_parts pt values) >>= fmtp_line_made)
+    ≡ ((o >>= λ pt. rest >>= λ more. fmtp_front pt more) >>= λ found. fmtp_values_read found.1
+    >>= λ values. fmtp_line_made (found.0, values))
+fmtp_bound None rest = refl
+fmtp_bound (Some pt) None = refl
+fmtp_bound (Some pt) (Some more) = fmtp_made pt (fmtp_values_read more)
+
+-- a line by the number in its front
+pub fmtp_by_number : (text : List ℕ) → fmtp.read text ≡ (strip label.FMTP.now text >>= λ body. number_in_front_read 127 body
+    >>= λ found. fmtp_values_read found.1 >>= λ values. Some (Fmtp found.0 values))
+fmtp_by_number text = go (strip label.FMTP.now text)
+  where
+    go : (o : Option (List ℕ)) → ((o >>= λ body. num 127 (before 32 body) >>= λ pt. strip (before 32 body) body
+        >>= λ more. fmtp_values_read more >>= λ values. fmtp_parts pt values) >>= fmtp_line_made)
+        ≡ (o >>= λ body. number_in_front_read 127 body >>= λ found. fmtp_values_read found.1 >>= λ values. fmtp_line_made (found.0, values))
+    go None = refl
+    go (Some body) = fmtp_bound (num 127 (before 32 body)) (strip (before 32 body) body)
 
 fmtp_behind_cut : (c : ℕ) (text more : List ℕ) → strip (before c text) text ≡ Some more
     → (more ≡ []) ⊎ ((rest : List ℕ) × (more ≡ c ∷ rest))

@@ -5,12 +5,13 @@ ghost use Rattle.str0m_signal.specs.form.FmtpReading.{pairs_form_read, fmtp_valu
 ghost use Rattle.str0m_signal.specs.form.MediaAttribute.{fmtp};
 
 use crate::line::bare_values::bare;
+use crate::line::front::{behind_label, number_in_front};
 use crate::line::pairs::{pairs, skip_pair_blanks};
 use std::alloc::{AllocError, Global};
 use str0m_formats::FormatParam;
 use str0m_sdp::{MediaAttribute, label};
-use str0m_values::cuts::{before, num_u8, strip};
-use str0m_values::{Items, Pt, Separator};
+use str0m_values::cuts::strip;
+use str0m_values::{Items, Pt};
 
 /// The values of pairs after a space.
 fn pairs_form(alloc: Global, more: &str) -> Result<Option<Items<FormatParam>>, AllocError>
@@ -42,17 +43,14 @@ fn fmtp_values(alloc: Global, more: &str) -> Result<Items<FormatParam>, AllocErr
 
 /// The fmtp line of the text after `a=`.
 #[inline(always)]
+#[tactic(auto, using(crate::proofs::form::FmtpLaws::fmtp_by_number))]
 pub(crate) fn fmtp(alloc: Global, text: &str) -> Result<Option<MediaAttribute>, AllocError>
     ensures { IfOk result (λ found. found ≡ fmtp.read text.now) }
 {
-    let Some(body) = strip(text, label::FMTP) else {
+    let Some(body) = behind_label(text, label::FMTP) else {
         return Ok(None);
     };
-    let number = before(body, Separator::Space);
-    let Some(pt) = num_u8(number, 127) else {
-        return Ok(None);
-    };
-    let Some(more) = strip(body, number) else {
+    let Some((pt, more)) = number_in_front(body, 127) else {
         return Ok(None);
     };
     let values = fmtp_values(alloc, more)?;

@@ -9,6 +9,7 @@ ghost use Rattle.str0m_signal.specs.form.RidReading.{rid_lists_of, next_read, re
 ghost use Rattle.str0m_signal.specs.form.RidStreamName.{is_stream_name};
 
 use crate::form::simulcast::is_stream_name;
+use crate::line::front::behind_label;
 use crate::line::pairs::{key, skip_pair_blanks, value};
 use crate::line::parts::parts;
 use crate::line::words::Number;
@@ -211,7 +212,7 @@ fn direction(text: &str) -> Option<(&'static str, &str)>
 fn rid_fields(text: &str) -> Option<(&str, &'static str, &str)>
     ensures { option_map (λ x. (x.0.now, (x.1.now, x.2.now))) result ≡ behind label.RID.now (two_read 32 (λ name. when (is_stream_name name) name) direction_read) text.now }
 {
-    let body = strip(text, label::RID)?;
+    let body = behind_label(text, label::RID)?;
     let (name, directed) = cut(body, Separator::Space)?;
     if !is_stream_name(name) {
         return None;
