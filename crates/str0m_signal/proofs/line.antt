@@ -6,6 +6,7 @@ pub mod LinesEndLaws
 pub mod LinesLaws
 pub mod LinesPrinted
 pub mod LinesWhole
+pub mod PairKeyLaws
 pub mod PairLaws
 pub mod PairsOneByOne
 pub mod PartLaws

@@ -1,10 +1,11 @@
 -- Reading of an fmtp line as functions.
-use Rattle.std.specs.Prelude.{◌≡◌, ◌<◌, ◌≤◌, ◌||◌, ℕ, zero, suc, Bool, true, false, get_or, List, [], ◌∷◌, Option, Some, None, codes, length, if◌then◌else◌, ◌==◌}
+use Rattle.std.specs.Prelude.{◌≡◌, ◌≢◌, ◌<◌, ◌≤◌, ◌||◌, ℕ, zero, suc, Bool, true, false, get_or, List, [], ◌∷◌, Option, Some, None, codes, length, if◌then◌else◌, ◌==◌}
 use Rattle.str0m_formats.specs.declared.format.format_param.FormatParam.TheVariants.{BareRange, BarePtList, Unknown}
 use Rattle.str0m_formats.specs.format.PairsReading.{params_read}
 use Rattle.str0m_sdp.specs.declared.label.TheConstants as label
 use Rattle.str0m_signal.specs.Prelude.{FormatParam, before, cut, is_rest, lacks, num, strip, when, ◌<|>◌, ◌>>=◌}
 use Rattle.str0m_signal.specs.form.FormReading.{behind, digits_read, two_read, parted_read}
+use Rattle.str0m_values.specs.Cuts.{before_cut}
 
 -- the value of an fmtp pair, which ends at `;`, space or tab, and what follows it
 abbrev pub fmtp_value_read : List ℕ → Option (List ℕ × List ℕ)
@@ -42,6 +43,19 @@ fmtp_next_read text = if is_rest text then (strip (codes ";") text >>= λ t. Som
 
 abbrev pub fmtp_key_read : List ℕ → Option (List ℕ)
 fmtp_key_read text = if lacks 32 text then (if lacks 9 text then when (is_rest text) text else None) else None
+
+-- the parts before and after the first `=`, where no blank stands before it
+abbrev pub key_cut : List ℕ → Option (List ℕ × List ℕ)
+key_cut [] = None
+key_cut (x ∷ xs) = if x == 61 then Some ([], xs) else if is_pair_blank x then None else before_cut x (key_cut xs)
+
+-- neither `=` nor a blank is among the first n characters
+abbrev pub NoneEndsKey : List ℕ → ℕ → Type 0
+NoneEndsKey text n = (k : ℕ) → k < n → (get_or text k 0 ≢ 61) × (is_pair_blank (get_or text k 0) ≡ false)
+
+-- a key, and what follows the `=` behind it
+abbrev pub key_and_rest_read : List ℕ → Option (List ℕ × List ℕ)
+key_and_rest_read text = cut 61 text >>= λ fields. fmtp_key_read fields.0 >>= λ key. Some (key, fields.1)
 
 abbrev pub pair_read : List ℕ → Option ((List ℕ × List ℕ) × Option (List ℕ))
 pair_read text = do

@@ -1,13 +1,12 @@
 //! Pairs of a key and a value, parted by `;`.
 
 ghost use Rattle.std.specs.List.{list_any};
-ghost use Rattle.std.specs.Prelude.{◌≡◌, IfOk, option_map};
+ghost use Rattle.std.specs.Prelude.{◌≡◌, ◌<◌, ◌+◌, IfOk, IfSome, drop, get_or, length, option_map, take};
 ghost use Rattle.str0m_signal.specs.Prelude.{pair_texts, parts};
-ghost use Rattle.str0m_signal.specs.form.FmtpReading.{IsValueEnd, ends_value, is_pair_blank, fmtp_value_read, skip_pair_blanks, fmtp_next_read, fmtp_key_read, pair_read, pairs_read};
+ghost use Rattle.str0m_signal.specs.form.FmtpReading.{IsValueEnd, ends_value, is_pair_blank, fmtp_value_read, skip_pair_blanks, fmtp_next_read, fmtp_key_read, key_and_rest_read, key_cut, pair_read, pairs_read};
 
 use std::alloc::{AllocError, Global};
-use str0m_values::Separator;
-use str0m_values::cuts::{cut, strip};
+use str0m_values::cuts::strip;
 
 fn ends_value(byte: u8) -> bool
     ensures { result ≡ ends_value byte }
@@ -94,11 +93,43 @@ fn fmtp_next(text: &str) -> Option<Option<&str>>
     }
 }
 
+/// Where a key ends, which is at the first `=`: no blank stands before it.
+fn key_end(bytes: &[u8]) -> Option<usize>
+    ensures cut { option_map (λ at. (take at bytes.now, drop (at + 1) bytes.now)) result ≡ key_cut bytes.now }
+    ensures equals { IfSome result (λ at. (at < length bytes.now) × (get_or bytes.now at 0 ≡ 61)) }
+{
+    for i in 0..bytes.len() {
+        let byte = bytes[i];
+        if byte == b'=' {
+            return Some(i);
+        }
+        if is_pair_blank(byte) {
+            return None;
+        }
+    }
+    None
+}
+
+/// A key of one or more characters other than blanks, and what follows the `=` behind it.
+#[inline(always)]
+fn key_and_rest(text: &str) -> Option<(&str, &str)>
+    ensures { parts result ≡ key_and_rest_read text.now }
+{
+    match key_end(text.as_bytes()) {
+        Some(at) => if at == 0 {
+            None
+        } else {
+            Some((&text[..at], &text[at + 1..]))
+        },
+        None => None,
+    }
+}
+
+#[tactic(auto, using(crate::proofs::line::PairKeyLaws::pair_by_key))]
 fn pair(text: &str) -> Option<(&str, &str, Option<&str>)>
     ensures { option_map (λ x. ((x.0.now, x.1.now), option_map (λ y. y.now) x.2)) result ≡ pair_read text.now }
 {
-    let (front, behind) = cut(text, Separator::Equals)?;
-    let key = key(front)?;
+    let (key, behind) = key_and_rest(text)?;
     let (value, behind) = value(behind)?;
     let more = fmtp_next(skip_pair_blanks(behind))?;
     Some((key, value, more))
