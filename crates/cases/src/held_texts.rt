@@ -1,10 +1,11 @@
 //! Attributes that hold a given text in one field, also a text that no line is read as.
 
 use format_cases::Answer;
+use std::alloc::{AllocError, Global};
 use str0m_signal::{
-    Candidate, CandidateKind, Extension, Fingerprint, IpAddr, Items, MediaAttribute, Mid, Msid,
-    Protocol, Pt, RestrictionId, SessionAttribute, Simulcast, SimulcastGroups, SimulcastLayer,
-    SocketAddr, Ssrc, Text, Word,
+    Boxed, Candidate, CandidateKind, Extension, Fingerprint, IpAddr, Items, MediaAttribute, Mid,
+    Msid, Protocol, Pt, RestrictionId, SessionAttribute, Simulcast, SimulcastGroups,
+    SimulcastLayer, SocketAddr, Ssrc, Text, Word,
 };
 
 /// An attribute of a session with the text in this field; where there is no such field, one that is kept unread.
@@ -59,8 +60,8 @@ pub(crate) fn in_section(answer: &mut Answer, field: &str, text: &str) -> MediaA
         "mid" => MediaAttribute::Mid(Mid::from(text)),
         "extension" => held_extension(answer, text),
         "fingerprint" => MediaAttribute::Fingerprint(held_fingerprint(answer, text)),
-        "candidate" => MediaAttribute::Candidate(held_candidate(answer, text, None)),
-        "candidate-ufrag" => MediaAttribute::Candidate(held_candidate(answer, "1", Some(text))),
+        "candidate" => held_in_candidate(answer, text, None),
+        "candidate-ufrag" => held_in_candidate(answer, "1", Some(text)),
         _ => held_in_stream(answer, field, text),
     }
 }
@@ -148,12 +149,36 @@ fn held_rid(
     direction: &'static str,
     restriction: Items<(Text, Text)>,
 ) -> MediaAttribute {
-    MediaAttribute::Rid {
-        id: RestrictionId::new_active(text_of(answer, name)),
-        direction: Word(direction),
-        pt: Items::empty(answer.alloc()),
+    let id = RestrictionId::new_active(text_of(answer, name));
+    let made = made_rid(answer.alloc(), id, Word(direction), restriction);
+    answer.kept(made, MediaAttribute::SendRecv)
+}
+
+fn made_rid(
+    alloc: Global,
+    id: RestrictionId,
+    direction: Word,
+    restriction: Items<(Text, Text)>,
+) -> Result<MediaAttribute, AllocError> {
+    let id = Boxed::new(alloc, id)?;
+    let restriction = Boxed::new(alloc, restriction)?;
+    Ok(MediaAttribute::Rid {
+        id,
+        direction,
+        pt: Items::empty(alloc),
         restriction,
-    }
+    })
+}
+
+fn held_in_candidate(answer: &mut Answer, foundation: &str, ufrag: Option<&str>) -> MediaAttribute {
+    let candidate = held_candidate(answer, foundation, ufrag);
+    let made = made_candidate(answer.alloc(), candidate);
+    answer.kept(made, MediaAttribute::SendRecv)
+}
+
+fn made_candidate(alloc: Global, candidate: Candidate) -> Result<MediaAttribute, AllocError> {
+    let candidate = Boxed::new(alloc, candidate)?;
+    Ok(MediaAttribute::Candidate(candidate))
 }
 
 /// A layer that is sent or received under this name; else one that is sent under another, of which the text is noted.

@@ -295,12 +295,7 @@ impl MediaAttribute {
                 direction,
                 pt,
                 restriction,
-            } => Line::Structured(StructuredLine::Rid(
-                id.get(),
-                direction,
-                pt,
-                restriction.get(),
-            )),
+            } => Line::Structured(StructuredLine::Rid(id.get(), direction, pt, restriction.get())),
             MediaAttribute::Simulcast(simulcast) => Line::Structured(StructuredLine::Simulcast(
                 simulcast,
             )),

@@ -60,8 +60,8 @@ pub use str0m_sdp::{
     section_of,
 };
 pub use str0m_values::{
-    Candidate, CandidateKind, Direction, Extension, Fingerprint, FingerprintError, FingerprintFmt,
-    Frequency, H264Level, H264Profile, H264ProfileLevel, H265Level, H265Profile,
+    Boxed, Candidate, CandidateKind, Direction, Extension, Fingerprint, FingerprintError,
+    FingerprintFmt, Frequency, H264Level, H264Profile, H264ProfileLevel, H265Level, H265Profile,
     H265ProfileTierLevel, H265Tier, H266Level, H266Profile, H266ProfileTierLevel, H266Tier,
     IceCreds, IpAddr, Items, Leveled, MediaKind, Mid, NoProfileLevel, Numbered, ProfileTierLevel,
     Protocol, Pt, Rid, SessionId, SocketAddr, Ssrc, TcpType, Text, lower_level,

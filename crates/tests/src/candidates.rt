@@ -4,7 +4,7 @@ use exchange::trickled_candidate;
 use std::alloc::{AllocError, Global};
 use std::test::Fail;
 use str0m_values::candidate_text::candidate;
-use str0m_values::{Candidate, CandidateKind, IpAddr, Protocol, SocketAddr, TcpType, Text};
+use str0m_values::{Boxed, Candidate, CandidateKind, IpAddr, Protocol, SocketAddr, TcpType, Text};
 
 /// The text of a relayed candidate over TCP with every optional part.
 const RELAYED_CANDIDATE: &str =
@@ -46,6 +46,11 @@ fn is_candidate_copied(candidate: &Candidate) -> Result<bool, AllocError> {
     Ok(copy == *candidate)
 }
 
+fn is_boxed_candidate_copied(boxed: &Boxed<Candidate>) -> Result<bool, AllocError> {
+    let copy = boxed.clone()?;
+    Ok(copy == *boxed)
+}
+
 fn is_candidate_printed(alloc: Global, candidate: &Candidate) -> Result<bool, AllocError> {
     let line = candidate.to_sdp_string(alloc)?;
     Ok(line.as_str() == RELAYED_CANDIDATE)
@@ -58,6 +63,8 @@ fn a_candidate_of_its_parts_is_the_one_that_is_read(rt: HostRuntime) -> Result<(
     assert!(rt; is_candidate_read(rt.alloc(), &made)?);
     assert!(rt; is_candidate_copied(&made)?);
     assert!(rt; is_candidate_printed(rt.alloc(), &made)?);
+    let boxed = Boxed::new(rt.alloc(), made)?;
+    assert!(rt; is_boxed_candidate_copied(&boxed)?);
     Ok(())
 }
 

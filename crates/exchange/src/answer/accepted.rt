@@ -8,8 +8,8 @@ use crate::section::repeated_lines::{is_repeated, push_repeated};
 use crate::state::own_side::{DataChannels, OwnSide};
 use std::alloc::{AllocError, Global};
 use str0m_signal::{
-    AsMediaAttrs, Direction, Items, MediaAttribute, MediaLine, Mid, Msid, PayloadParams, Pt, Sdp,
-    Setup, Text,
+    AsMediaAttrs, Boxed, Direction, Items, MediaAttribute, MediaLine, Mid, Msid, PayloadParams, Pt,
+    Sdp, Setup, Text,
 };
 
 /// The header extension that tells of each packet which layer it is of (RFC 8852, section 3.3).
@@ -56,8 +56,10 @@ pub(crate) fn push_candidates(
 ) -> Result<(), AllocError>
     ensures { OnOk result (lines.new.items ≡ lines.old.items ++ map candidate_line own.now.candidates) }
 {
+    let alloc = *lines.allocator();
     for candidate in own.candidates.as_slice() {
-        lines.push(MediaAttribute::Candidate(candidate.clone()?))?;
+        let candidate = Boxed::new(alloc, candidate.clone()?)?;
+        lines.push(MediaAttribute::Candidate(candidate))?;
     }
     Ok(())
 }

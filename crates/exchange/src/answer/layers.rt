@@ -6,7 +6,7 @@ ghost use Rattle.std.specs.Prelude.{◌≡◌, ◌++◌, ◌==◌, ℕ, IfOk, Li
 
 use std::alloc::{AllocError, Global};
 use str0m_signal::{
-    Items, MediaAttribute, MediaLine, PayloadParams, Pt, Simulcast, SimulcastGroups,
+    Boxed, Items, MediaAttribute, MediaLine, PayloadParams, Pt, Simulcast, SimulcastGroups,
     SimulcastLayer, Text, Word,
 };
 
@@ -91,10 +91,10 @@ fn answered_rid(
                 && is_rid_left(rows, listed)
             {
                 Ok(Some(MediaAttribute::Rid {
-                    id: id.clone()?,
+                    id: Boxed::new(alloc, id.get().clone()?)?,
                     direction: Word("recv"),
                     pt: Items(rid_types_left(alloc, rows, listed)?),
-                    restriction: restriction.clone()?,
+                    restriction: Boxed::new(alloc, restriction.get().clone()?)?,
                 }))
             } else {
                 Ok(None)

@@ -98,9 +98,7 @@ fn media_candidate(alloc: Global, text: &str) -> Result<Option<MediaAttribute>, 
     ensures { IfOk result (λ found. found ≡ (form_made_as candidate Candidate).read text.now) }
 {
     match candidate(alloc, text)? {
-        Some(candidate) => Ok(Some(MediaAttribute::Candidate(Boxed::new(
-            alloc, candidate,
-        )?))),
+        Some(candidate) => Ok(Some(MediaAttribute::Candidate(Boxed::new(alloc, candidate)?))),
         None => Ok(None),
     }
 }
