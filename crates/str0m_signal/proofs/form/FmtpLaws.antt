@@ -18,7 +18,7 @@ use Rattle.str0m_signal.specs.form.Fmtp.{AreFmtpPairs}
 use Rattle.str0m_signal.specs.form.Fmtp.{IsPairsForm}
 use Rattle.str0m_signal.specs.form.Fmtp.{IsListForm, IsRangeForm, IsAnyFmtp, IsFmtp}
 use Rattle.str0m_signal.specs.form.FmtpReading.{fmtp_value_read, skip_pair_blanks, fmtp_next_read, fmtp_key_read, pair_read, pairs_read}
-use Rattle.str0m_signal.specs.form.FmtpReading.{pairs_form_read, fmtp_values_read, fmtp_fields_read}
+use Rattle.str0m_signal.specs.form.FmtpReading.{pair_values_read, pairs_form_read, fmtp_values_read, fmtp_fields_read}
 use Rattle.str0m_signal.specs.form.MediaAttribute.{fmtp}
 use Rattle.str0m_signal.specs.line.FrontReading.{number_in_front_read}
 
@@ -256,9 +256,9 @@ fmtp_pairs_both = record {
       ∙ ap (λ (t : List FormatParam). Some t) (sym (pairs_read_only h.2 values h.6));
 }
 
-pub pairs_form_of : (more text : List ℕ) (pairs : List (List ℕ × List ℕ)) (values : List FormatParam) → Some text ≡ strip (codes " ") more
-    → Some pairs ≡ pairs_read (skip_pair_blanks text) → ArePairsRead pairs values → Some values ≡ pairs_form_read more
-pairs_form_of more text pairs values at read are = grind (arith, pairs_read_only)
+pub pair_values_of : (text : List ℕ) (pairs : List (List ℕ × List ℕ)) (values : List FormatParam) → Some pairs ≡ pairs_read text
+    → ArePairsRead pairs values → Some values ≡ pair_values_read text
+pair_values_of text pairs values read are = grind (arith, pairs_read_only)
 
 fmtp_values_both : Reads (FirstFit IsPairsForm (FirstFit IsListForm (FirstFit IsRangeForm IsAnyFmtp))) fmtp_values_read
 fmtp_values_both = cuts_reads_first fmtp_pairs_both bare_both

@@ -81,6 +81,10 @@ fmtp_one_by_one f text = fmtp_pairs_at f (suc (length text)) text
 abbrev pub pairs_read : List ℕ → Option (List (List ℕ × List ℕ))
 pairs_read = fmtp_one_by_one pair_read
 
+-- what the pairs of a text stand for
+abbrev pub pair_values_read : List ℕ → Option (List FormatParam)
+pair_values_read text = pairs_read text >>= λ pairs. Some (params_read pairs)
+
 abbrev pub pairs_form_read : List ℕ → Option (List FormatParam)
 pairs_form_read more = do
   text ← strip (codes " ") more

@@ -126,7 +126,7 @@ fn key_and_rest(text: &str) -> Option<(&str, &str)>
 }
 
 #[tactic(auto, using(crate::proofs::line::PairKeyLaws::pair_by_key))]
-fn pair(text: &str) -> Option<(&str, &str, Option<&str>)>
+pub(crate) fn pair(text: &str) -> Option<(&str, &str, Option<&str>)>
     ensures { option_map (λ x. ((x.0.now, x.1.now), option_map (λ y. y.now) x.2)) result ≡ pair_read text.now }
 {
     let (key, behind) = key_and_rest(text)?;
