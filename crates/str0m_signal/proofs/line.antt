@@ -1,3 +1,4 @@
+pub mod AttributesPrinted
 pub mod BareValuesLaws
 pub mod FrontLaws
 pub mod LinesAgain

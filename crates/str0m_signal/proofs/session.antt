@@ -1,4 +1,3 @@
-pub mod AttributesPrinted
 pub mod HeaderLaws
 pub mod LockedPicked
 pub mod NegotiationLaws

@@ -18,6 +18,7 @@
 //!   - `simulcast`: Lines of streams in several layers.
 //!   - `sources`: Lines of sources and of feedback.
 //! - `line`: Lines, and the pieces of which they are read.
+//!   - `attributes`: Attribute lines, and runs of them.
 //!   - `bare_values`: The values of fmtp lines that have no keys.
 //!   - `fields`: What fields of several lines share.
 //!   - `front`: What stands at the front of lines: labels, and numbers before a space.
@@ -27,7 +28,6 @@
 //!   - `parts`: Lists whose items have a character between them.
 //!   - `words`: The items of lists.
 //! - `session`: Descriptions whole: their parts, their readers, and rounds over their texts.
-//!   - `attributes`: Attribute lines, and runs of them.
 //!   - `bandwidth`: Lines with a bandwidth.
 //!   - `header`: The header of a description.
 //!   - `locked`: The rows that rounds have locked.

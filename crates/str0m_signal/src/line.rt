@@ -1,5 +1,6 @@
 //! Lines, and the pieces of which they are read.
 
+pub(crate) mod attributes;
 pub(crate) mod bare_values;
 pub(crate) mod fields;
 pub(crate) mod front;

@@ -1,6 +1,5 @@
 //! Descriptions whole: their parts, their readers, and rounds over their texts.
 
-pub(crate) mod attributes;
 pub(crate) mod bandwidth;
 pub(crate) mod header;
 pub(crate) mod locked;

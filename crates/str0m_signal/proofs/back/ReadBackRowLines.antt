@@ -15,7 +15,7 @@ use Rattle.str0m_signal.proofs.Common.{NACK}
 use Rattle.str0m_signal.proofs.Common.{PLI}
 use Rattle.str0m_signal.proofs.form.FmtpPrinted.{AreFmtpPairsShown, apt_printed, list_printed, range_printed, pairs_printed}
 use Rattle.str0m_signal.proofs.form.RtpMapPrinted.{KeepsToMapping, mapping_printed, feedback_printed}
-use Rattle.str0m_signal.proofs.session.AttributesPrinted.{LinesReadAs, one_read, both_read, HoldsNoEnd, no_end}
+use Rattle.str0m_signal.proofs.line.AttributesPrinted.{LinesReadAs, one_read, both_read, HoldsNoEnd, no_end}
 use Rattle.str0m_signal.specs.back.Writable.{IsReadBackLine}
 use Rattle.str0m_signal.specs.form.MediaAttribute.{IsMediaLine}
 

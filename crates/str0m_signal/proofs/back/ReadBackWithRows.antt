@@ -5,7 +5,7 @@ use Rattle.str0m_signal.proofs.Common.{AllByRecursion, flat_map, slice_get, type
 use Rattle.str0m_signal.proofs.Common.{Consistent, is_media, row_attrs, is_of_type, sdp_text, MediaLine, Sdp, reads, slice_set, not, filter}
 use Rattle.str0m_signal.proofs.Common.{codes, made}
 use Rattle.str0m_signal.proofs.back.ReadBackRowLines.{ReadAs, read_as_joined, rows_read}
-use Rattle.str0m_signal.proofs.session.AttributesPrinted.{LinesReadAs, no_end}
+use Rattle.str0m_signal.proofs.line.AttributesPrinted.{LinesReadAs, no_end}
 use Rattle.str0m_signal.proofs.session.ReaderPrinted.{read_of, reading_printed}
 use Rattle.str0m_signal.proofs.session.SectionLines.{AreTypes, head_printed}
 use Rattle.str0m_signal.proofs.session.Sections.{SectionReadAs, AreSectionsRead}

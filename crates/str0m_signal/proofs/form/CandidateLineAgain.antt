@@ -14,7 +14,7 @@ use Rattle.str0m_signal.proofs.Common.{related_text}
 use Rattle.str0m_signal.proofs.Common.{extras_text}
 use Rattle.str0m_signal.proofs.Common.{octet_pairs, ip_text}
 use Rattle.str0m_signal.proofs.form.FmtpPrinted.{fmtp_behind_lacks}
-use Rattle.str0m_signal.proofs.session.AttributesPrinted.{HoldsNoEnd, no_end, no_ends, attribute_decimal_lacks, decimal_no_end}
+use Rattle.str0m_signal.proofs.line.AttributesPrinted.{HoldsNoEnd, no_end, no_ends, attribute_decimal_lacks, decimal_no_end}
 use Rattle.str0m_values.proofs.AddressText.{ip_printed}
 use Rattle.str0m_values.proofs.CandidateText.{printed_candidate}
 use Rattle.str0m_values.specs.Address.{IsAddressInRange}

@@ -11,9 +11,9 @@ use Rattle.str0m_signal.proofs.Common.{Lacks, IsRest, IsNum, param_text, FormatP
 use Rattle.str0m_signal.proofs.Common.{IsSolidPair, joined_pair, media_attribute_text, is_fmtp_shown, shown_fmtp_line, attribute_line, Fmtp}
 use Rattle.str0m_signal.proofs.Common.{address_lacks_both, param_decimal_solid, parsed_param_printed}
 use Rattle.str0m_signal.proofs.form.FmtpLaws.{fmtp_key_starts}
-use Rattle.str0m_signal.proofs.session.AttributesPrinted.{HoldsNoEnd, no_ends, no_end, attribute_num_is, attribute_decimal_lacks}
-use Rattle.str0m_signal.proofs.session.AttributesPrinted.{decimal_no_end}
-use Rattle.str0m_signal.proofs.session.AttributesPrinted.{attribute_printed}
+use Rattle.str0m_signal.proofs.line.AttributesPrinted.{HoldsNoEnd, no_ends, no_end, attribute_num_is, attribute_decimal_lacks}
+use Rattle.str0m_signal.proofs.line.AttributesPrinted.{decimal_no_end}
+use Rattle.str0m_signal.proofs.line.AttributesPrinted.{attribute_printed}
 use Rattle.str0m_signal.specs.back.Writable.{IsReadBackLine}
 use Rattle.str0m_signal.specs.form.Fmtp.{IsFmtpKey, IsFmtpValue, StartsWithoutFmtpBlank, AreFmtpPairs, IsPairsForm, IsListForm, IsRangeForm}
 use Rattle.str0m_signal.specs.form.Fmtp.{IsAnyFmtp, IsFmtp}

@@ -2,7 +2,7 @@
 use Rattle.str0m_signal.proofs.Common.{◌≤◌, ◌<◌, ◌^◌, ℕ, List, [], ◌∷◌, ◌++◌, refl, sym, subst, arith, inl, digit_value, decimal, join_by}
 use Rattle.str0m_signal.proofs.Common.{append-nil, PartedAddress, Lacks, IsNum, LacksCut-append, address_lacks_both}
 use Rattle.str0m_signal.proofs.form.FmtpPrinted.{fmtp_behind_lacks}
-use Rattle.str0m_signal.proofs.session.AttributesPrinted.{attribute_num_is, attribute_decimal_lacks}
+use Rattle.str0m_signal.proofs.line.AttributesPrinted.{attribute_num_is, attribute_decimal_lacks}
 use Rattle.str0m_signal.specs.form.Forms.{Behind, IsText, TwoFormParts, IsBeforeDroppedFormTail}
 
 -- what has the form F is printed as a text that has it again, and a character that is no digit stands there only where it stood before

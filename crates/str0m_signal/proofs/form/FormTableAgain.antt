@@ -8,8 +8,8 @@ use Rattle.str0m_signal.proofs.form.FormTableLaws.{ReadableFormPiece, LawfulForm
 use Rattle.str0m_signal.proofs.form.FormTableLaws.{all_labelled_forms_lawful}
 use Rattle.str0m_signal.proofs.form.FormTableLaws.{forms_apart}
 use Rattle.str0m_signal.proofs.form.FormTableLaws.{heads_same, form_tail_is}
+use Rattle.str0m_signal.proofs.line.AttributesPrinted.{HoldsNoEnd}
 use Rattle.str0m_signal.proofs.line.WordsCharacterStarts.{StartsWithin}
-use Rattle.str0m_signal.proofs.session.AttributesPrinted.{HoldsNoEnd}
 use Rattle.str0m_signal.specs.form.FormTable.{FormPiece, Form, word_form, word_forms_of, any_word_form, form_made_as, labelled_form}
 use Rattle.str0m_signal.specs.form.FormTable.{forms_labelled_by}
 use Rattle.str0m_signal.specs.form.FormTable.{any_form}

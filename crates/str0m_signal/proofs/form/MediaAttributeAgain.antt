@@ -33,10 +33,10 @@ use Rattle.str0m_signal.proofs.form.RidAgain.{IsUntypedRid, rid_again, simulcast
 use Rattle.str0m_signal.proofs.form.RidLaws.{rid_fields_both}
 use Rattle.str0m_signal.proofs.form.RtpMapPrinted.{mapping_printed}
 use Rattle.str0m_signal.proofs.form.SimulcastLaws.{simulcast_fields_both}
+use Rattle.str0m_signal.proofs.line.AttributesPrinted.{HoldsNoEnd, no_end, no_ends, line_printed, attribute_printed}
 use Rattle.str0m_signal.proofs.line.WordsAgain.{kept_again, word_kept_lacks, hash_again, fingerprint_pair, word_pairs_are_joined}
 use Rattle.str0m_signal.proofs.line.WordsCharacterStarts.{StartsWithin, behind_starts, kept_word_filled}
 use Rattle.str0m_signal.proofs.line.WordsLaws.{hex_pairs_both, source_words_both}
-use Rattle.str0m_signal.proofs.session.AttributesPrinted.{HoldsNoEnd, no_end, no_ends, line_printed, attribute_printed}
 use Rattle.str0m_signal.specs.back.Writable.{IsReadBackLine}
 use Rattle.str0m_signal.specs.back.WritableAgain.{FitsAgain, NamesNoTypes}
 use Rattle.str0m_signal.specs.form.FormTable.{Form, any_form, form_led_by, two_form_pieces, parted_form_piece, a_text, number}

@@ -7,9 +7,9 @@ use Rattle.str0m_signal.proofs.Common.{codes, decimal, append-nil, false≢true,
 use Rattle.str0m_signal.proofs.Common.{AllByRecursion, IsCharBoundary-end, IsLongestShortText, MediaAttribute, PartedAddress, ◌/◌, ◌%◌, ◌<◌}
 use Rattle.str0m_signal.proofs.Common.{◌∷◌, attribute_line}
 use Rattle.str0m_signal.proofs.Common.{digit_glyph, fingerprint_text, flat_map, hash_glyph_value, hex_pair, length, pairs_text, setup_text}
+use Rattle.str0m_signal.proofs.line.AttributesPrinted.{HoldsNoEnd, no_ends, no_end, attribute_num_is, attribute_decimal_lacks}
+use Rattle.str0m_signal.proofs.line.AttributesPrinted.{attribute_printed, decimal_no_end}
 use Rattle.str0m_signal.proofs.line.WordsAgain.{word_glyph_lacks}
-use Rattle.str0m_signal.proofs.session.AttributesPrinted.{HoldsNoEnd, no_ends, no_end, attribute_num_is, attribute_decimal_lacks}
-use Rattle.str0m_signal.proofs.session.AttributesPrinted.{attribute_printed, decimal_no_end}
 use Rattle.str0m_signal.specs.back.Writable.{IsReadBackLine}
 use Rattle.str0m_signal.specs.form.FormTable.{any_form, any_word_form, texts}
 use Rattle.str0m_signal.specs.form.Forms.{Behind, TwoFormParts, IsBeforeDroppedFormTail, IsText}

@@ -5,9 +5,9 @@ use Rattle.str0m_sdp.specs.declared.label.TheConstants as label
 use Rattle.str0m_signal.proofs.Common.{◌≡◌, ◌<◌, ◌≤◌, ℕ, List, ◌++◌, Option, Some, None, IfSome, refl, subst, arith, lit<, lit≤, inl, inr}
 use Rattle.str0m_signal.proofs.Common.{codes, decimal, decimal_nonempty, Lacks, IsRest, IsPt, codec_printed_and_read, Codec, codec_read_as}
 use Rattle.str0m_signal.proofs.Common.{media_attribute_text, RtcpFb, rtp_map_channels_text, rtp_map_text, RtpMap, codec_text, IsReadAsCodec}
-use Rattle.str0m_signal.proofs.session.AttributesPrinted.{HoldsNoEnd, no_ends, no_end, attribute_num_is, attribute_decimal_lacks}
-use Rattle.str0m_signal.proofs.session.AttributesPrinted.{decimal_no_end}
-use Rattle.str0m_signal.proofs.session.AttributesPrinted.{attribute_printed}
+use Rattle.str0m_signal.proofs.line.AttributesPrinted.{HoldsNoEnd, no_ends, no_end, attribute_num_is, attribute_decimal_lacks}
+use Rattle.str0m_signal.proofs.line.AttributesPrinted.{decimal_no_end}
+use Rattle.str0m_signal.proofs.line.AttributesPrinted.{attribute_printed}
 use Rattle.str0m_signal.specs.back.Writable.{IsReadBackLine}
 use Rattle.str0m_signal.specs.form.Forms.{Behind, IsText, TwoFormParts}
 use Rattle.str0m_signal.specs.form.MediaAttribute.{IsMediaLine}

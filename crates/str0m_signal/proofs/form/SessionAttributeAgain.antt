@@ -12,11 +12,11 @@ use Rattle.str0m_signal.proofs.form.FormTableLaws.{LawfulForm, AllOfForms, ◌al
 use Rattle.str0m_signal.proofs.form.FormTableLaws.{unused_reads}
 use Rattle.str0m_signal.proofs.form.MediaAttributeAgain.{setup_role_kept, candidate_lawful, fingerprint_lawful, candidate_back}
 use Rattle.str0m_signal.proofs.form.MediaAttributeAgain.{printed_fingerprint}
+use Rattle.str0m_signal.proofs.line.AttributesPrinted.{HoldsNoEnd, line_printed}
 use Rattle.str0m_signal.proofs.line.LinesLaws.{attribute_both}
 use Rattle.str0m_signal.proofs.line.WordsAgain.{IsFilledGroup, group_again, group_filled, meaning_again, meaning_text, names_text}
 use Rattle.str0m_signal.proofs.line.WordsCharacterStarts.{StartsWithin, behind_starts}
 use Rattle.str0m_signal.proofs.line.WordsLaws.{group_both, msid_semantic_both}
-use Rattle.str0m_signal.proofs.session.AttributesPrinted.{HoldsNoEnd, line_printed}
 use Rattle.str0m_signal.specs.back.Writable.{IsReadBackLine}
 use Rattle.str0m_signal.specs.form.FormTable.{Form, form_led_by}
 use Rattle.str0m_signal.specs.form.FormTransport.{candidate, fingerprint}

@@ -8,8 +8,8 @@ use Rattle.str0m_signal.proofs.Common.{Proto}
 use Rattle.str0m_signal.proofs.Common.{Sctp, ap, cuts_none_reads, is_media, m_line, sym, true}
 use Rattle.str0m_signal.proofs.form.FmtpPrinted.{fmtp_behind_lacks}
 use Rattle.str0m_signal.proofs.form.FormPiecesAgain.{num_again, parted_again}
+use Rattle.str0m_signal.proofs.line.AttributesPrinted.{HoldsNoEnd, no_end}
 use Rattle.str0m_signal.proofs.line.WordsCharacterStarts.{StartsWithin, front_starts, behind_starts}
-use Rattle.str0m_signal.proofs.session.AttributesPrinted.{HoldsNoEnd, no_end}
 use Rattle.str0m_signal.proofs.session.SectionLaws.{numbers_both}
 use Rattle.str0m_signal.proofs.session.SectionLines.{AreTypes, head_line_read, head_printed}
 use Rattle.str0m_signal.specs.back.Writable.{IsReadBackLine, HasTypes}

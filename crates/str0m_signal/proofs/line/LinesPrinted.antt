@@ -1,7 +1,7 @@
 -- Printed texts are their lines, these are read one after another, and a run stops where another letter begins.
 use Rattle.str0m_signal.proofs.Common.{arith, ◌≡◌, ◌≢◌, inl, inr, get_or, ℕ, List, [], ◌∷◌, ◌++◌, refl, sym, ap, ◌∙◌, subst, codes}
 use Rattle.str0m_signal.proofs.Common.{flat_map, append_assoc, Lacks, printed_line_end}
-use Rattle.str0m_signal.proofs.session.AttributesPrinted.{LinesReadAs}
+use Rattle.str0m_signal.proofs.line.AttributesPrinted.{LinesReadAs}
 use Rattle.str0m_signal.specs.line.Lines.{Line, lines_joined, AreLines, Lines, OneLine, IsAttributeLine, Chain, StopsLines}
 use Rattle.str0m_signal.specs.session.Section.{IsSessionField, IsBandwidth}
 

@@ -2,9 +2,9 @@
 use Rattle.str0m_signal.proofs.Common.{◌≡◌, ◌≢◌, ◌<◌, ◌^◌, ℕ, List, [], ◌++◌, IfSome, refl, sym, ap, ◌∙◌, arith, flat_map, append-nil}
 use Rattle.str0m_signal.proofs.Common.{session_attribute_text, bandwidth_text, media_line_text, decimal, SessionAttribute, MediaLine, Sdp}
 use Rattle.str0m_signal.proofs.Common.{session_lines, versioned_origin, versioned_text}
+use Rattle.str0m_signal.proofs.line.AttributesPrinted.{LinesReadAs, HoldsNoEnd, decimal_no_end}
 use Rattle.str0m_signal.proofs.line.LinesPrinted.{lines_joined-append, printed-append, lines_printed, LinesApart}
 use Rattle.str0m_signal.proofs.line.LinesPrinted.{printed_lines_apart-append}
-use Rattle.str0m_signal.proofs.session.AttributesPrinted.{LinesReadAs, HoldsNoEnd, decimal_no_end}
 use Rattle.str0m_signal.proofs.session.Sections.{AreSectionsRead, SaidSections, said_sections, sections_are}
 use Rattle.str0m_signal.proofs.session.SessionLines.{SaidSession, said_session}
 use Rattle.str0m_signal.specs.back.Writable.{IsReadBackLine}

@@ -6,7 +6,7 @@ use Rattle.str0m_signal.proofs.Common.{IsWord}
 use Rattle.str0m_signal.proofs.Common.{IsNum, printed_line_end, m_line_pts_text, formats_text, m_line, media_type_text, is_media, MediaLine}
 use Rattle.str0m_signal.proofs.Common.{MediaType}
 use Rattle.str0m_signal.proofs.Common.{Proto, port_text}
-use Rattle.str0m_signal.proofs.session.AttributesPrinted.{HoldsNoEnd, no_ends, no_end, attribute_num_is, decimal_no_end}
+use Rattle.str0m_signal.proofs.line.AttributesPrinted.{HoldsNoEnd, no_ends, no_end, attribute_num_is, decimal_no_end}
 use Rattle.str0m_signal.specs.back.Writable.{IsReadBackLine}
 use Rattle.str0m_signal.specs.session.Section.{IsMediaKindText, IsProto, IsHead, NoTypes}
 

@@ -2,10 +2,10 @@
 use Rattle.str0m_signal.proofs.Common.{◌≡◌, ◌≢◌, ℕ, List, [], ◌∷◌, ◌++◌, Option, Some, None, IfSome, refl, sym, ap, ◌∙◌, subst, arith, lit<}
 use Rattle.str0m_signal.proofs.Common.{codes, flat_map, append_assoc, lacks_cut_from, media_attribute_text, bandwidth_text, Consistent}
 use Rattle.str0m_signal.proofs.Common.{printed_line_end, m_line, media_line_text, Bandwidth, MediaLine, bandwidth_line}
+use Rattle.str0m_signal.proofs.line.AttributesPrinted.{LinesReadAs}
 use Rattle.str0m_signal.proofs.line.LinesPrinted.{printed_line, ArePrinted, lines_joined-append, printed-append, LinesApart}
 use Rattle.str0m_signal.proofs.line.LinesPrinted.{printed_lines_apart-append, apart}
 use Rattle.str0m_signal.proofs.line.LinesPrinted.{no_bandwidth, no_attribute, SaidLines, lines_said}
-use Rattle.str0m_signal.proofs.session.AttributesPrinted.{LinesReadAs}
 use Rattle.str0m_signal.specs.back.Writable.{IsReadBackLine}
 use Rattle.str0m_signal.specs.form.MediaAttribute.{MediaForm, IsMediaLine}
 use Rattle.str0m_signal.specs.line.Lines.{Chain, StopsLines, TakenLine, Line, lines_joined, OneLine}

@@ -4,10 +4,10 @@ use Rattle.str0m_signal.proofs.Common.{◌≡◌, ◌≢◌, ◌<◌, ◌^◌, �
 use Rattle.str0m_signal.proofs.Common.{codes, flat_map, decimal, decimal_is_IsNumeral, append_assoc, Lacks, lacks_cut_from}
 use Rattle.str0m_signal.proofs.Common.{session_attribute_text, bandwidth_text, printed_line_end, Bandwidth, SessionAttribute, IsRest}
 use Rattle.str0m_signal.proofs.Common.{session_lines, versioned_origin}
+use Rattle.str0m_signal.proofs.line.AttributesPrinted.{LinesReadAs, HoldsNoEnd, no_ends, no_end, decimal_no_end}
 use Rattle.str0m_signal.proofs.line.LinesPrinted.{printed_line, ArePrinted, lines_joined-append, printed-append, LinesApart}
 use Rattle.str0m_signal.proofs.line.LinesPrinted.{printed_lines_apart-append, apart}
 use Rattle.str0m_signal.proofs.line.LinesPrinted.{no_field_line, no_attribute, SaidLines, lines_said}
-use Rattle.str0m_signal.proofs.session.AttributesPrinted.{LinesReadAs, HoldsNoEnd, no_ends, no_end, decimal_no_end}
 use Rattle.str0m_signal.proofs.session.Sections.{SaidBandwidth, said_bandwidth}
 use Rattle.str0m_signal.specs.back.Writable.{IsReadBackLine}
 use Rattle.str0m_signal.specs.form.SessionAttribute.{SessionForm, IsSessionLine}

@@ -4,7 +4,7 @@ ghost use Rattle.std.specs.Prelude.{◌≡◌, ◌∷◌, ◌++◌, ◌↔◌, �
 ghost use Rattle.str0m_signal.specs.Prelude.{IsTheOnly, Lacks, lacks, printed_line_end};
 ghost use Rattle.str0m_signal.specs.back.Writable.{AreReadAs, IsReadBackLine, IsReadBy, PutsBack};
 
-use crate::session::attributes::{Attribute, line, taken_attribute_result};
+use crate::line::attributes::{Attribute, line, taken_attribute_result};
 use std::alloc::{AllocError, Global};
 use std::fmt;
 use str0m_values::cuts::has;

@@ -2,7 +2,7 @@
 
 ghost use Rattle.str0m_signal.specs.Prelude.{candidate_read};
 
-use crate::session::attributes::{Attribute, taken};
+use crate::line::attributes::{Attribute, taken};
 use std::alloc::{AllocError, Global};
 use str0m_values::Candidate;
 use str0m_values::candidate_text::candidate;

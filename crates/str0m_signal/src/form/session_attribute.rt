@@ -10,8 +10,8 @@ ghost use Rattle.str0m_signal.specs.line.LinesReading.{lines_of};
 
 use crate::form::fingerprint::fingerprint;
 use crate::form::groups::{group, msid_semantic};
+use crate::line::attributes::{Attribute, attribute_run, taken};
 use crate::line::fields::{kept_field, role_field};
-use crate::session::attributes::{Attribute, attribute_run, taken};
 use std::alloc::{AllocError, Global};
 use str0m_sdp::{SessionAttribute, label};
 use str0m_values::candidate_text::candidate;

@@ -3,7 +3,7 @@ ghost use Rattle.std.specs.Prelude.{◌≡◌, ℕ, List, Option, IfOk, is_some}
 ghost use Rattle.str0m_signal.specs.Prelude.{code};
 ghost use Rattle.str0m_signal.specs.form.FormReading.{parted_read};
 
-use crate::session::attributes::taken_attribute_result;
+use crate::line::attributes::taken_attribute_result;
 use std::alloc::{AllocError, Global};
 use str0m_values::cuts::cut;
 use str0m_values::{Items, Separator};

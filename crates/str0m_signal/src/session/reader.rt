@@ -11,7 +11,7 @@ ghost use Rattle.str0m_signal.specs.session.Reader.{IsFromLine, Sections, IsSess
 ghost use Rattle.str0m_signal.specs.session.ReaderAnswers.{Answers, AtMostOneAnswer, GivesRead, IsReaderRefusal, unread};
 
 use crate::form::session_attribute::session_attributes;
-use crate::session::attributes::{Attribute, next_line};
+use crate::line::attributes::{Attribute, next_line};
 use crate::session::header::{SessionHead, next_header};
 use crate::session::section::section;
 use std::alloc::Global;

@@ -1,6 +1,6 @@
 use Rattle.str0m_signal.proofs.Common.{rules}
 use Rattle.str0m_signal.proofs.line.LinesChainLaws.{chain_more, read_fewer}
-use Rattle.str0m_signal.proofs.session.attributes.attribute_run.Goals as goal
+use Rattle.str0m_signal.proofs.line.attributes.attribute_run.Goals as goal
 use Rattle.str0m_signal.specs.line.LinesReading.{lines_of, read_attribute, ReadsTo}
 
 pub loop-attributes-preserved : goal.loop-attributes-preserved

@@ -1,5 +1,5 @@
 use Rattle.str0m_signal.proofs.Common.{length, Utf8, shadow}
-use Rattle.str0m_signal.proofs.session.attributes.attribute_run.Given as goal
+use Rattle.str0m_signal.proofs.line.attributes.attribute_run.Given as goal
 use Rattle.str0m_signal.specs.line.Lines.{Chain}
 use Rattle.str0m_signal.specs.line.LinesReading.{lines_of, read_attribute, ReadsTo}
 
