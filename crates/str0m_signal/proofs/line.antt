@@ -1,6 +1,7 @@
 pub mod AttributesPrinted
 pub mod BareValuesLaws
 pub mod FrontLaws
+pub mod HeadsLaws
 pub mod LinesAgain
 pub mod LinesChainLaws
 pub mod LinesEndLaws

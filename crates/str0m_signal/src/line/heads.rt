@@ -1,15 +1,17 @@
 //! The m-lines of sections.
 
-ghost use Rattle.std.specs.Prelude.{◌≡◌, IfOk, codes, is_some, option_map, bytes_eq};
+ghost use Rattle.std.specs.Prelude.{◌≡◌, IfOk, IfSome, Some, codes, is_some, option_map, bytes_eq};
 ghost use Rattle.str0m_signal.specs.line.Heads.{head_kind_is, media_head};
-ghost use Rattle.str0m_signal.specs.session.SectionReading.{unknown_read, media_kind_read, proto_read, types_read, head_read};
+ghost use Rattle.str0m_signal.specs.session.SectionReading.{unknown_read, media_kind_read, numbers_read, proto_read, types_read, head_read};
 
+use crate::line::front::number_and_rest;
 use crate::line::parts::parts;
 use crate::line::words::Number;
+use arrayvec::ArrayVec;
 use std::alloc::{AllocError, Global};
 use str0m_sdp::label::{APPLICATION, AUDIO, OLD_SCTP, SCTP, SRTP, VIDEO};
 use str0m_sdp::{MediaType, Proto};
-use str0m_values::cuts::{cut, strip};
+use str0m_values::cuts::{cut, num_u8, strip};
 use str0m_values::{Items, Pt, Separator, Text};
 
 /// What an m-line says.
@@ -84,10 +86,49 @@ fn is_head_disabled(port: &str) -> bool
     port == "0"
 }
 
+/// How many types are read in place, so that their list asks for memory once: most m-lines have no more.
+const FEW_TYPES: usize = 64;
+
+/// The types of these numbers.
+fn types_numbered(alloc: Global, numbers: &[u8]) -> Result<Items<Pt>, AllocError>
+    ensures { IfOk result (λ types. types ≡ numbers.now) }
+{
+    let mut types = Vec::with_capacity(alloc, numbers.len())?;
+    for number in numbers {
+        types.push(Pt::new_with_value(*number))?;
+    }
+    Ok(Items::from(types))
+}
+
+/// The types of an m-line, where they are few numbers.
+fn few_types(alloc: Global, text: &str) -> Result<Option<Items<Pt>>, AllocError>
+    ensures { IfOk result (λ found. IfSome found (λ types. Some types ≡ numbers_read text.now)) }
+{
+    let mut few: ArrayVec<u8, FEW_TYPES> = ArrayVec::new();
+    let mut rest = text;
+    while let Some((number, more)) = number_and_rest(rest, 255) {
+        if few.is_full() {
+            return Ok(None);
+        }
+        few.push(number);
+        rest = more;
+    }
+    match num_u8(rest, 255) {
+        Some(last) if !few.is_full() => {
+            few.push(last);
+            Ok(Some(types_numbered(alloc, few.as_slice())?))
+        }
+        _ => Ok(None),
+    }
+}
+
 /// The types of an m-line. Memory is asked for only where they are numbers.
 fn types(alloc: Global, text: &str) -> Result<Option<Items<Pt>>, AllocError>
     ensures { IfOk result (λ found. found ≡ types_read text.now) }
 {
+    if let Some(types) = few_types(alloc, text)? {
+        return Ok(Some(types));
+    }
     if let Some(numbers) = parts::<Number<255>>(alloc, text, Separator::Space)? {
         return Ok(Some(numbers));
     }
