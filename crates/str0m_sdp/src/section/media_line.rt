@@ -8,7 +8,7 @@ use crate::attribute::MediaAttribute;
 use crate::attribute::bandwidth::{Bandwidth, BandwidthLine};
 use crate::attribute::media_type::MediaType;
 use crate::attribute::proto::Proto;
-use crate::form::printed::{Printed, PrintedEach, printed_spaced};
+use crate::form::printed::{Printed, PrintedEach, spaced};
 use std::alloc::{AllocError, Global};
 use std::fmt;
 use str0m_values::{Items, Pt};
@@ -91,10 +91,13 @@ impl<'a> fmt::Display for Types<'a> {
     ghost output = { λ types. Some (m_line_pts_text types.0.now) };
 
     fn fmt<W: fmt::Write>(&self, f: &mut fmt::Formatter<W>) -> fmt::Result {
-        if self.0.is_empty() {
+        let Some((last, before)) = self.0.split_last() else {
             return f.write_str("0");
+        };
+        for pt in before {
+            f.write_str(spaced(pt.value()))?;
         }
-        printed_spaced(self.0).fmt(f)
+        last.fmt(f)
     }
 }
 
