@@ -199,7 +199,11 @@ impl Codec {
         ensures { IfSome result (λ codec. (name.now ≡ codec_text codec) × (codec_printed_and_read codec ≡ codec)) }
     {
         let codec = Codec::as_long(name.len(), *name.as_bytes().last()?);
-        if name == codec.word() { Some(codec) } else { None }
+        if name == codec.word() {
+            Some(codec)
+        } else {
+            None
+        }
     }
 }
 
