@@ -128,6 +128,7 @@ fn key_and_rest(text: &str) -> Option<(&str, &str)>
     }
 }
 
+#[inline(always)]
 #[tactic(auto, using(crate::proofs::line::PairKeyLaws::pair_by_key))]
 pub(crate) fn pair(text: &str) -> Option<(&str, &str, Option<&str>)>
     ensures { option_map (λ x. ((x.0.now, x.1.now), option_map (λ y. y.now) x.2)) result ≡ pair_read text.now }
