@@ -190,7 +190,8 @@ impl<'a, A: Printed, B: Printed> Printed for PrintedPair<'a, A, B> {
     ghost prints = { λ _. refl };
 }
 
-/// Writes the end of a line. A call of its own, so that the two bytes are written in place and not copied by a call of `memcpy`.
+/// Writes the end of a line. It and the next two aren't inlined: behind many `?` the compiler takes a write for a rare one, and makes
+/// it a call that copies byte by byte what here is written in place.
 #[inline(never)]
 pub(crate) fn write_end<W: fmt::Write>(f: &mut fmt::Formatter<W>) -> fmt::Result
     ensures { WritesOnOk W.write_str_gives f.old result printed_line_end f.new }
