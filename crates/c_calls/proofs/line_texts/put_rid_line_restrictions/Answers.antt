@@ -11,5 +11,5 @@ returns c =
     let is = c.in-Ok.ensures.ok ∙ ap media_attribute_text c.in-Rid.is in
     let parts = rid_rest_of label.RID.now c.in-Rid.id.0 c.in-Rid.direction rest c.in-Ok.text.bytes.items is in
     let text : c.line_text_behind_front.result.now ≡ drop 1 rest =
-    c.line_text_behind_front.ensures ∙ rw c.len.ensures (rw c.as_str.ensures (rw c.as_bytes.ensures.value parts.1)) in
+    c.line_text_behind_front.ensures ∙ rw (c.len.ensures, c.deref.ensures) (rw c.as_str.ensures (rw c.as_bytes.ensures.value parts.1)) in
     rw c.in-Rid.is (inl (rw (sym text) c.put_said.ensures))
