@@ -2,3 +2,4 @@ pub mod AttributeCopies
 pub mod AttributeEqual
 pub mod FeedbackLaws
 pub mod RandomMsidLaws
+pub mod RtpMapRates

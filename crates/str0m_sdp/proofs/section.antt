@@ -9,6 +9,7 @@ pub mod MadeSectionValues
 pub mod MappingLaws
 pub mod MappingsBack
 pub mod MappingsFilterMap
+pub mod MediaLineTypes
 pub mod RowAttributesAnswers
 pub mod RowAttributesQuestions
 pub mod RowAttributesReads

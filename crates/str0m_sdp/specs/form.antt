@@ -1,2 +1,1 @@
-pub mod AttributeLine
 pub mod Printed

@@ -1,16 +1,19 @@
 //! The attributes of sessions and of sections.
 ghost use Rattle.std.specs.Prelude.{◌≡◌, IfOk, Some, refl};
 ghost use Rattle.str0m_sdp.specs.attribute.Attribute.{session_attribute_text, media_attribute_text, direction_attribute, session_words, media_words, attribute_word_read};
-ghost use Rattle.str0m_sdp.specs.form.AttributeLine.{form_line_text};
 
+use crate::attribute::ext_map::write_ext_map;
+use crate::attribute::feedback::write_feedback;
+use crate::attribute::fmtp::write_fmtp;
+use crate::attribute::group::{GroupLine, MsidSemanticLine};
 use crate::attribute::msid::Msid;
-use crate::attribute::rtp_map::RtpMap;
+use crate::attribute::rid::RidLine;
+use crate::attribute::rtp_map::{RtpMap, write_rtp_map};
 use crate::attribute::setup::Setup;
-use crate::attribute::simulcast::{RestrictionId, Simulcast};
-use crate::form::attribute_line::Line;
-use crate::form::numbered_line::NumberedLine;
-use crate::form::printed::Printed;
-use crate::form::structured_line::StructuredLine;
+use crate::attribute::simulcast::{RestrictionId, Simulcast, SimulcastLine};
+use crate::attribute::source::write_source;
+use crate::attribute::ssrc_group::SsrcGroupLine;
+use crate::form::printed::{Printed, write_alone, write_labelled};
 use crate::form::word::Word;
 use crate::label;
 use std::alloc::AllocError;
@@ -33,6 +36,7 @@ pub(crate) mod rid;
 pub(crate) mod rtp_map;
 pub(crate) mod setup;
 pub(crate) mod simulcast;
+pub(crate) mod source;
 pub(crate) mod ssrc_group;
 
 /// An attribute line of a session (RFC 8866, section 5.13).
@@ -199,31 +203,6 @@ impl SessionAttribute {
     {
         <SessionAttribute as Clone>::clone(self)
     }
-
-    #[inline(always)]
-    fn line(&self) -> Line<'_>
-        ensures { form_line_text result ≡ session_attribute_text self.now }
-    {
-        match self {
-            SessionAttribute::Group { typ, mids } => Line::Structured(StructuredLine::Group(
-                typ, mids,
-            )),
-            SessionAttribute::MsidSemantic {
-                semantic,
-                stream_ids,
-            } => Line::Structured(StructuredLine::MsidSemantic(semantic, stream_ids)),
-            SessionAttribute::AllowMixedExts => Line::Word(label::EXTMAP_ALLOW_MIXED),
-            SessionAttribute::IceLite => Line::Word(label::ICE_LITE),
-            SessionAttribute::IceUfrag(text) => Line::Text(label::ICE_UFRAG, text),
-            SessionAttribute::IcePwd(text) => Line::Text(label::ICE_PWD, text),
-            SessionAttribute::IceOptions(text) => Line::Text(label::ICE_OPTIONS, text),
-            SessionAttribute::Fingerprint(hash) => Line::Fingerprint(hash),
-            SessionAttribute::Setup(setup) => Line::Setup(*setup),
-            SessionAttribute::Candidate(candidate) => Line::Candidate(candidate),
-            SessionAttribute::EndOfCandidates => Line::Word(label::END_OF_CANDIDATES),
-            SessionAttribute::Unused(text) => Line::Word(text.as_str()),
-        }
-    }
 }
 
 impl MediaAttribute {
@@ -250,64 +229,6 @@ impl MediaAttribute {
     {
         <MediaAttribute as Clone>::clone(self)
     }
-
-    #[inline(always)]
-    fn line(&self) -> Line<'_>
-        ensures { form_line_text result ≡ media_attribute_text self.now }
-    {
-        match self {
-            MediaAttribute::Rtcp(text) => Line::Text(label::RTCP, text),
-            MediaAttribute::IceUfrag(text) => Line::Text(label::ICE_UFRAG, text),
-            MediaAttribute::IcePwd(text) => Line::Text(label::ICE_PWD, text),
-            MediaAttribute::IceOptions(text) => Line::Text(label::ICE_OPTIONS, text),
-            MediaAttribute::Fingerprint(hash) => Line::Fingerprint(hash),
-            MediaAttribute::Setup(setup) => Line::Setup(*setup),
-            MediaAttribute::Mid(mid) => Line::Mid(mid),
-            MediaAttribute::SctpPort(port) => Line::Number(label::SCTP_PORT, u64::from(*port)),
-            MediaAttribute::MaxMessageSize(size) => Line::Number(label::MAX_MESSAGE_SIZE, *size),
-            MediaAttribute::SctpInit(text) => Line::Text(label::SCTP_INIT, text),
-            MediaAttribute::ExtMap { id, ext } => Line::Structured(StructuredLine::ExtMap(
-                *id, ext,
-            )),
-            MediaAttribute::RecvOnly => Line::Word(label::RECV_ONLY),
-            MediaAttribute::SendRecv => Line::Word(label::SEND_RECV),
-            MediaAttribute::SendOnly => Line::Word(label::SEND_ONLY),
-            MediaAttribute::Inactive => Line::Word(label::INACTIVE),
-            MediaAttribute::Msid(msid) => {
-                Line::Texts(label::MSID, &msid.stream_id, &msid.track_id)
-            }
-            MediaAttribute::RtcpMux => Line::Word(label::RTCP_MUX),
-            MediaAttribute::RtcpMuxOnly => Line::Word(label::RTCP_MUX_ONLY),
-            MediaAttribute::RtcpRsize => Line::Word(label::RTCP_RSIZE),
-            MediaAttribute::Candidate(candidate) => Line::Candidate(candidate.get()),
-            MediaAttribute::EndOfCandidates => Line::Word(label::END_OF_CANDIDATES),
-            MediaAttribute::RtpMap { pt, value } => Line::Numbered(NumberedLine::RtpMap(
-                *pt, value,
-            )),
-            MediaAttribute::RtcpFb { pt, value } => Line::Numbered(NumberedLine::RtcpFb(
-                *pt, value,
-            )),
-            MediaAttribute::Fmtp { pt, values } => Line::Structured(StructuredLine::Fmtp(
-                *pt, values,
-            )),
-            MediaAttribute::Rid {
-                id,
-                direction,
-                pt,
-                restriction,
-            } => Line::Structured(StructuredLine::Rid(id.get(), direction, pt, restriction.get())),
-            MediaAttribute::Simulcast(simulcast) => Line::Structured(StructuredLine::Simulcast(
-                simulcast,
-            )),
-            MediaAttribute::SsrcGroup { semantics, ssrcs } => Line::Structured(
-                StructuredLine::SsrcGroup(semantics, ssrcs),
-            ),
-            MediaAttribute::Ssrc { ssrc, attr, value } => Line::Numbered(NumberedLine::Ssrc(
-                *ssrc, attr, value,
-            )),
-            MediaAttribute::Unused(text) => Line::Word(text.as_str()),
-        }
-    }
 }
 
 /// The attribute that says the direction of a section.
@@ -329,7 +250,23 @@ impl fmt::Display for SessionAttribute {
     ghost output = { λ attribute. Some (session_attribute_text attribute) };
 
     fn fmt<W: fmt::Write>(&self, f: &mut fmt::Formatter<W>) -> fmt::Result {
-        self.line().fmt(f)
+        match self {
+            SessionAttribute::Group { typ, mids } => GroupLine { typ, mids }.fmt(f),
+            SessionAttribute::MsidSemantic {
+                semantic,
+                stream_ids: ids,
+            } => MsidSemanticLine { semantic, ids }.fmt(f),
+            SessionAttribute::AllowMixedExts => write_alone(f, label::EXTMAP_ALLOW_MIXED),
+            SessionAttribute::IceLite => write_alone(f, label::ICE_LITE),
+            SessionAttribute::IceUfrag(text) => write_labelled(f, label::ICE_UFRAG, text),
+            SessionAttribute::IcePwd(text) => write_labelled(f, label::ICE_PWD, text),
+            SessionAttribute::IceOptions(text) => write_labelled(f, label::ICE_OPTIONS, text),
+            SessionAttribute::Fingerprint(hash) => write_labelled(f, label::FINGERPRINT, hash),
+            SessionAttribute::Setup(setup) => write_labelled(f, label::SETUP, setup),
+            SessionAttribute::Candidate(candidate) => write!(f, "a={candidate}\r\n"),
+            SessionAttribute::EndOfCandidates => write_alone(f, label::END_OF_CANDIDATES),
+            SessionAttribute::Unused(text) => write_alone(f, text.as_str()),
+        }
     }
 }
 
@@ -345,7 +282,58 @@ impl fmt::Display for MediaAttribute {
     ghost output = { λ attribute. Some (media_attribute_text attribute) };
 
     fn fmt<W: fmt::Write>(&self, f: &mut fmt::Formatter<W>) -> fmt::Result {
-        self.line().fmt(f)
+        match self {
+            MediaAttribute::Rtcp(text) => write_labelled(f, label::RTCP, text),
+            MediaAttribute::IceUfrag(text) => write_labelled(f, label::ICE_UFRAG, text),
+            MediaAttribute::IcePwd(text) => write_labelled(f, label::ICE_PWD, text),
+            MediaAttribute::IceOptions(text) => write_labelled(f, label::ICE_OPTIONS, text),
+            MediaAttribute::Fingerprint(hash) => write_labelled(f, label::FINGERPRINT, hash),
+            MediaAttribute::Setup(setup) => write_labelled(f, label::SETUP, setup),
+            MediaAttribute::Mid(mid) => write_labelled(f, label::MID, mid),
+            MediaAttribute::SctpPort(port) => write_labelled(f, label::SCTP_PORT, port),
+            MediaAttribute::MaxMessageSize(size) => write_labelled(
+                f,
+                label::MAX_MESSAGE_SIZE,
+                size,
+            ),
+            MediaAttribute::SctpInit(text) => write_labelled(f, label::SCTP_INIT, text),
+            MediaAttribute::ExtMap { id, ext } => write_ext_map(f, *id, ext),
+            MediaAttribute::RecvOnly => write_alone(f, label::RECV_ONLY),
+            MediaAttribute::SendRecv => write_alone(f, label::SEND_RECV),
+            MediaAttribute::SendOnly => write_alone(f, label::SEND_ONLY),
+            MediaAttribute::Inactive => write_alone(f, label::INACTIVE),
+            MediaAttribute::Msid(msid) => write_labelled(f, label::MSID, msid),
+            MediaAttribute::RtcpMux => write_alone(f, label::RTCP_MUX),
+            MediaAttribute::RtcpMuxOnly => write_alone(f, label::RTCP_MUX_ONLY),
+            MediaAttribute::RtcpRsize => write_alone(f, label::RTCP_RSIZE),
+            MediaAttribute::Candidate(candidate) => {
+                let candidate = candidate.get();
+                write!(f, "a={candidate}\r\n")
+            }
+            MediaAttribute::EndOfCandidates => write_alone(f, label::END_OF_CANDIDATES),
+            MediaAttribute::RtpMap { pt, value } => write_rtp_map(f, *pt, *value),
+            MediaAttribute::RtcpFb { pt, value } => write_feedback(f, *pt, value),
+            MediaAttribute::Fmtp { pt, values } => write_fmtp(f, *pt, values.as_slice()),
+            MediaAttribute::Rid {
+                id,
+                direction,
+                pt: pts,
+                restriction,
+            } => RidLine {
+                id: id.get(),
+                direction,
+                pts,
+                restrictions: restriction.get(),
+            }
+            .fmt(f),
+            MediaAttribute::Simulcast(simulcast) => SimulcastLine(simulcast).fmt(f),
+            MediaAttribute::SsrcGroup { semantics, ssrcs } => {
+                let ssrcs = ssrcs.as_slice();
+                SsrcGroupLine { semantics, ssrcs }.fmt(f)
+            }
+            MediaAttribute::Ssrc { ssrc, attr, value } => write_source(f, *ssrc, attr, value),
+            MediaAttribute::Unused(text) => write_alone(f, text.as_str()),
+        }
     }
 }
 

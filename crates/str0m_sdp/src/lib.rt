@@ -15,12 +15,10 @@
 //!   - `rtp_map`: What a payload type stands for.
 //!   - `setup`: Who begins the DTLS handshake.
 //!   - `simulcast`: Streams that are sent and received in several layers.
+//!   - `source`: The lines of sources.
 //!   - `ssrc_group`: The lines of groups of sources.
 //! - `form`: The forms in which lines print.
-//!   - `attribute_line`: The lines of attributes, by the kinds of what they are made of.
-//!   - `numbered_line`: Lines that say something of a number: a payload type or a source.
 //!   - `printed`: Lists, pairs and lines of values as text.
-//!   - `structured_line`: Lines of several parts, each with a form of its own.
 //!   - `word`: Words of the program's own.
 //! - `label`: The labels of attributes, as they stand after `a=`.
 //! - `section`: Sections: what they say, when they are consistent, and their rows.

@@ -1,10 +1,29 @@
 //! The feedback that a section speaks of, by payload type.
-ghost use Rattle.std.specs.Prelude.{◌≡◌, ◌<◌, get_or, set};
+ghost use Rattle.std.specs.Fmt.{WritesOnOk};
+ghost use Rattle.std.specs.Prelude.{◌≡◌, ◌<◌, ◌++◌, codes, decimal, get_or, set};
+ghost use Rattle.str0m_sdp.specs.declared.label.TheConstants as label;
+ghost use Rattle.str0m_sdp.specs.form.Printed.{labelled_line};
 
+use crate::form::printed::{write_end, write_numbered};
+use crate::label;
 use crate::label::{FIR, NACK, PLI, REMB, TRANSPORT_CC};
 use crate::section::type_tables::{TYPES, place};
+use std::fmt;
 use str0m_formats::PayloadParams;
-use str0m_values::Pt;
+use str0m_values::{Pt, Text};
+
+/// Writes the `a=rtcp-fb` line of a payload type, with its end (RFC 4585, section 4.2).
+pub(crate) fn write_feedback<W: fmt::Write>(
+    f: &mut fmt::Formatter<W>,
+    pt: Pt,
+    value: &Text,
+) -> fmt::Result
+    ensures { WritesOnOk W.write_str_gives f.old result (labelled_line label.RTCP_FB.now (decimal pt ++ (codes " " ++ value.now))) f.new }
+{
+    write_numbered(f, label::RTCP_FB, pt.value())?;
+    f.write_str(value.as_str())?;
+    write_end(f)
+}
 
 /// The feedback that goes with a payload type.
 #[derive(Clone, Copy)]

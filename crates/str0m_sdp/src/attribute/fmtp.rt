@@ -1,22 +1,15 @@
 //! The lines of format parameters.
+ghost use Rattle.std.specs.Fmt.{WritesOnOk};
 ghost use Rattle.std.specs.List.{join_by};
-ghost use Rattle.std.specs.Prelude.{◌≡◌, ◌∷◌, ◌++◌, [], Some, MatchOption, codes, filter, refl, flat_map};
+ghost use Rattle.std.specs.Prelude.{◌≡◌, ◌∷◌, ◌++◌, [], Some, MatchOption, codes, filter, flat_map};
 ghost use Rattle.str0m_sdp.specs.Prelude.{param_text};
 ghost use Rattle.str0m_sdp.specs.attribute.Fmtp.{is_fmtp_shown, fmtp_text};
 
-use crate::form::printed::{Printed, PrintedLabelled, PrintedPair};
+use crate::form::printed::{write_end, write_numbered};
 use crate::label;
-use std::fmt;
+use std::fmt::{self, Display};
 use str0m_formats::FormatParam;
 use str0m_values::Pt;
-
-/// The `a=fmtp` line of a payload type, with its end (RFC 8866, section 6.15): the values whose text
-/// isn't empty, parted by `;`. Without such a value there is no line.
-#[derive(Drop)]
-pub(crate) struct FmtpLine<'a> {
-    pub(crate) pt: Pt,
-    pub(crate) values: &'a [FormatParam],
-}
 
 pub(crate) fn is_fmtp_shown(value: FormatParam) -> bool
     ensures { result ≡ is_fmtp_shown value }
@@ -40,18 +33,21 @@ pub(crate) fn first_fmtp_shown(values: &[FormatParam]) -> Option<(FormatParam, &
     None
 }
 
-impl<'a> fmt::Display for FmtpLine<'a> {
-    ghost output = { λ line. Some (fmtp_text line.pt line.values.now) };
-
-    fn fmt<W: fmt::Write>(&self, f: &mut fmt::Formatter<W>) -> fmt::Result {
-        let Some((first, more)) = first_fmtp_shown(self.values) else {
-            return Ok(());
-        };
-        let shown = FmtpShown { first, more };
-        let pt = self.pt.value();
-        let value = PrintedPair(&pt, &shown);
-        PrintedLabelled(label::FMTP, &value).fmt(f)
-    }
+/// Writes the `a=fmtp` line of a payload type, with its end (RFC 8866, section 6.15): the values whose text isn't empty, parted by
+/// `;`. Without such a value there is no line.
+pub(crate) fn write_fmtp<W: fmt::Write>(
+    f: &mut fmt::Formatter<W>,
+    pt: Pt,
+    values: &[FormatParam],
+) -> fmt::Result
+    ensures { WritesOnOk W.write_str_gives f.old result (fmtp_text pt values.now) f.new }
+{
+    let Some((first, more)) = first_fmtp_shown(values) else {
+        return Ok(());
+    };
+    write_numbered(f, label::FMTP, pt.value())?;
+    FmtpShown { first, more }.fmt(f)?;
+    write_end(f)
 }
 
 /// A value, and each shown one of those after it, parted by `;`.
@@ -68,12 +64,6 @@ impl<'a> fmt::Display for FmtpShown<'a> {
         self.first.fmt(f)?;
         MoreFmtpShown(self.more).fmt(f)
     }
-}
-
-impl<'a> Printed for FmtpShown<'a> {
-    ghost text = { λ shown. join_by param_text (codes ";") (shown.first ∷ filter is_fmtp_shown shown.more.now) };
-
-    ghost prints = { λ _. refl };
 }
 
 /// The values that are shown, each after `;`.

@@ -2,7 +2,7 @@
 ghost use Rattle.std.specs.Prelude.{Some};
 ghost use Rattle.str0m_sdp.specs.attribute.Group.{group_text, msid_semantic_text};
 
-use crate::form::printed::{PrintedLed, PrintedPaired, printed_spaced};
+use crate::form::printed::{PrintedLed, printed_spaced, write_paired};
 use crate::label;
 use std::fmt;
 use str0m_values::{Items, Mid, Text};
@@ -39,6 +39,6 @@ impl<'a> fmt::Display for MsidSemanticLine<'a> {
 
     fn fmt<W: fmt::Write>(&self, f: &mut fmt::Formatter<W>) -> fmt::Result {
         let ids = printed_spaced(self.ids.as_slice());
-        PrintedPaired("msid-semantic: ", self.semantic, &ids).fmt(f)
+        write_paired(f, "msid-semantic: ", self.semantic, &ids)
     }
 }

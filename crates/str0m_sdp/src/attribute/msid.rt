@@ -1,8 +1,9 @@
 //! The streams that a section's media belongs to.
-ghost use Rattle.std.specs.Prelude.{◌≡◌, ◌↔◌, IfOk, IsTrue, Some, codes};
+ghost use Rattle.std.specs.Prelude.{◌≡◌, ◌↔◌, IfOk, IsTrue, Some, codes, refl};
 ghost use Rattle.std.specs.Str.{trim};
 ghost use Rattle.str0m_sdp.specs.attribute.Msid.{msid_text};
 
+use crate::form::printed::Printed;
 use std::alloc::AllocError;
 use std::fmt;
 use str0m_values::Text;
@@ -38,6 +39,12 @@ impl fmt::Display for Msid {
         f.write_str(" ")?;
         track_id.fmt(f)
     }
+}
+
+impl Printed for Msid {
+    ghost text = { msid_text };
+
+    ghost prints = { λ _. refl };
 }
 
 /// Whether an id says that there is no stream: without white space at its ends it is `-`

@@ -1,11 +1,15 @@
 //! What a payload type stands for.
-ghost use Rattle.std.specs.Prelude.{◌≡◌, Some, refl};
+ghost use Rattle.std.specs.Fmt.{WritesOnOk};
+ghost use Rattle.std.specs.Prelude.{◌≡◌, ◌++◌, Some, codes, decimal};
 ghost use Rattle.str0m_sdp.specs.attribute.RtpMap.{rtp_map_text, rtp_map_channels_text, sampling_rate, rtp_map_channels_of, spec_of_map, map_of_spec};
+ghost use Rattle.str0m_sdp.specs.declared.label.TheConstants as label;
+ghost use Rattle.str0m_sdp.specs.form.Printed.{labelled_line};
 
-use crate::form::printed::Printed;
-use std::fmt;
+use crate::form::printed::{write_end, write_numbered};
+use crate::label;
+use std::fmt::{self, Display};
 use str0m_formats::{Codec, CodecSpec, FormatParams};
-use str0m_values::{Frequency, Worded};
+use str0m_values::{Frequency, Pt, Worded};
 
 /// The codec of a payload type, its clock rate and its channels (RFC 8866, section 6.6).
 #[derive(Clone, Copy, Debug, PartialEq, Eq)]
@@ -23,18 +27,44 @@ impl fmt::Display for RtpMap {
     ghost output = { λ map. Some (rtp_map_text map) };
 
     fn fmt<W: fmt::Write>(&self, f: &mut fmt::Formatter<W>) -> fmt::Result {
-        let hertz = self.clock_rate.get();
         f.write_str(self.codec.word())?;
-        f.write_str("/")?;
-        fmt::Display::fmt(&hertz, f)?;
+        RtpMapRate(self.clock_rate).fmt(f)?;
         RtpMapChannels(self.channels).fmt(f)
     }
 }
 
-impl Printed for RtpMap {
-    ghost text = { rtp_map_text };
+/// Writes the `a=rtpmap` line of a payload type, with its end.
+pub(crate) fn write_rtp_map<W: fmt::Write>(
+    f: &mut fmt::Formatter<W>,
+    pt: Pt,
+    map: RtpMap,
+) -> fmt::Result
+    ensures { WritesOnOk W.write_str_gives f.old result (labelled_line label.RTPMAP.now (decimal pt ++ (codes " " ++ rtp_map_text map))) f.new }
+{
+    write_numbered(f, label::RTPMAP, pt.value())?;
+    map.fmt(f)?;
+    write_end(f)
+}
 
-    ghost prints = { λ _. refl };
+/// The clock rate of a mapping, after `/`. The rates that nearly all mappings have are written whole.
+#[derive(Drop)]
+struct RtpMapRate(Frequency);
+
+impl fmt::Display for RtpMapRate {
+    ghost output = { λ rate. Some (codes "/" ++ decimal rate.0) };
+
+    #[tactic(auto, using(crate::proofs::attribute::RtpMapRates::rate_90000, crate::proofs::attribute::RtpMapRates::rate_48000, crate::proofs::attribute::RtpMapRates::rate_8000))]
+    fn fmt<W: fmt::Write>(&self, f: &mut fmt::Formatter<W>) -> fmt::Result {
+        match self.0.get() {
+            90_000 => f.write_str("/90000"),
+            48_000 => f.write_str("/48000"),
+            8_000 => f.write_str("/8000"),
+            hertz => {
+                f.write_str("/")?;
+                fmt::Display::fmt(&hertz, f)
+            }
+        }
+    }
 }
 
 /// How many channels a mapping counts, after `/`; nothing where it counts none.

@@ -2,7 +2,7 @@
 ghost use Rattle.std.specs.Prelude.{◌≡◌, IfOk, Some, [], true, refl, string_bytes};
 ghost use Rattle.str0m_sdp.specs.attribute.Simulcast.{simulcast_id_text, inverted_simulcast, layer_text, layers_text, simulcast_sides_text, simulcast_text};
 
-use crate::form::printed::{Printed, PrintedJoined, PrintedLabelled};
+use crate::form::printed::{Printed, PrintedJoined, write_labelled};
 use std::alloc::{AllocError, Global};
 use std::fmt;
 use std::ops::Deref;
@@ -209,8 +209,8 @@ impl<'a> fmt::Display for SimulcastSides<'a> {
         let (send, recv) = (self.send, self.recv);
         match (send.is_empty(), recv.is_empty()) {
             (true, true) => Ok(()),
-            (true, false) => PrintedLabelled("simulcast:recv ", recv).fmt(f),
-            (false, true) => PrintedLabelled("simulcast:send ", send).fmt(f),
+            (true, false) => write_labelled(f, "simulcast:recv ", recv),
+            (false, true) => write_labelled(f, "simulcast:send ", send),
             (false, false) => write!(f, "a=simulcast:send {send} recv {recv}\r\n"),
         }
     }

@@ -2,7 +2,7 @@
 ghost use Rattle.std.specs.Prelude.{Some};
 ghost use Rattle.str0m_sdp.specs.attribute.SsrcGroup.{ssrc_group_text};
 
-use crate::form::printed::{PrintedPaired, printed_spaced};
+use crate::form::printed::{printed_spaced, write_paired};
 use crate::label;
 use std::fmt;
 use str0m_values::{Ssrc, Text};
@@ -22,6 +22,6 @@ impl<'a> fmt::Display for SsrcGroupLine<'a> {
             return Ok(());
         }
         let sources = printed_spaced(self.ssrcs);
-        PrintedPaired(label::SSRC_GROUP, self.semantics, &sources).fmt(f)
+        write_paired(f, label::SSRC_GROUP, self.semantics, &sources)
     }
 }

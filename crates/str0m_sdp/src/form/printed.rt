@@ -1,8 +1,9 @@
 //! Lists, pairs and lines of values as text.
+ghost use Rattle.std.specs.Fmt.{WritesOnOk};
 ghost use Rattle.std.specs.List.{join_by};
-ghost use Rattle.std.specs.Prelude.{◌≡◌, ◌++◌, List, ℕ, Some, codes, refl, decimal, flat_map};
+ghost use Rattle.std.specs.Prelude.{◌≡◌, ◌++◌, IsTrue, List, ℕ, Some, codes, refl, decimal, flat_map, length};
 ghost use Rattle.str0m_sdp.specs.Prelude.{fingerprint_text};
-ghost use Rattle.str0m_sdp.specs.form.Printed.{attribute_line, labelled_line};
+ghost use Rattle.str0m_sdp.specs.form.Printed.{are_spaced_from, attribute_line, labelled_line, printed_line_end};
 
 use std::fmt;
 use str0m_values::{Fingerprint, Mid, Pt, Ssrc, Text};
@@ -26,7 +27,7 @@ impl Printed for Ssrc {
     ghost prints = { λ _. refl };
 }
 
-impl Printed for u8 {
+impl Printed for u16 {
     ghost text = { decimal };
 
     ghost prints = { λ _. refl };
@@ -54,6 +55,47 @@ impl Printed for Fingerprint {
     ghost text = { fingerprint_text };
 
     ghost prints = { λ _. refl };
+}
+
+/// The numbers of one byte, each with a space behind it: payload types and ids of extensions, as they stand in most lines.
+const SPACED: [&str; 256] = [
+    "0 ", "1 ", "2 ", "3 ", "4 ", "5 ", "6 ", "7 ", "8 ", "9 ", "10 ", "11 ", "12 ", "13 ", "14 ",
+    "15 ", "16 ", "17 ", "18 ", "19 ", "20 ", "21 ", "22 ", "23 ", "24 ", "25 ", "26 ", "27 ",
+    "28 ", "29 ", "30 ", "31 ", "32 ", "33 ", "34 ", "35 ", "36 ", "37 ", "38 ", "39 ", "40 ",
+    "41 ", "42 ", "43 ", "44 ", "45 ", "46 ", "47 ", "48 ", "49 ", "50 ", "51 ", "52 ", "53 ",
+    "54 ", "55 ", "56 ", "57 ", "58 ", "59 ", "60 ", "61 ", "62 ", "63 ", "64 ", "65 ", "66 ",
+    "67 ", "68 ", "69 ", "70 ", "71 ", "72 ", "73 ", "74 ", "75 ", "76 ", "77 ", "78 ", "79 ",
+    "80 ", "81 ", "82 ", "83 ", "84 ", "85 ", "86 ", "87 ", "88 ", "89 ", "90 ", "91 ", "92 ",
+    "93 ", "94 ", "95 ", "96 ", "97 ", "98 ", "99 ", "100 ", "101 ", "102 ", "103 ", "104 ",
+    "105 ", "106 ", "107 ", "108 ", "109 ", "110 ", "111 ", "112 ", "113 ", "114 ", "115 ", "116 ",
+    "117 ", "118 ", "119 ", "120 ", "121 ", "122 ", "123 ", "124 ", "125 ", "126 ", "127 ", "128 ",
+    "129 ", "130 ", "131 ", "132 ", "133 ", "134 ", "135 ", "136 ", "137 ", "138 ", "139 ", "140 ",
+    "141 ", "142 ", "143 ", "144 ", "145 ", "146 ", "147 ", "148 ", "149 ", "150 ", "151 ", "152 ",
+    "153 ", "154 ", "155 ", "156 ", "157 ", "158 ", "159 ", "160 ", "161 ", "162 ", "163 ", "164 ",
+    "165 ", "166 ", "167 ", "168 ", "169 ", "170 ", "171 ", "172 ", "173 ", "174 ", "175 ", "176 ",
+    "177 ", "178 ", "179 ", "180 ", "181 ", "182 ", "183 ", "184 ", "185 ", "186 ", "187 ", "188 ",
+    "189 ", "190 ", "191 ", "192 ", "193 ", "194 ", "195 ", "196 ", "197 ", "198 ", "199 ", "200 ",
+    "201 ", "202 ", "203 ", "204 ", "205 ", "206 ", "207 ", "208 ", "209 ", "210 ", "211 ", "212 ",
+    "213 ", "214 ", "215 ", "216 ", "217 ", "218 ", "219 ", "220 ", "221 ", "222 ", "223 ", "224 ",
+    "225 ", "226 ", "227 ", "228 ", "229 ", "230 ", "231 ", "232 ", "233 ", "234 ", "235 ", "236 ",
+    "237 ", "238 ", "239 ", "240 ", "241 ", "242 ", "243 ", "244 ", "245 ", "246 ", "247 ", "248 ",
+    "249 ", "250 ", "251 ", "252 ", "253 ", "254 ", "255 ",
+];
+
+/// The row of a number in such a table.
+fn spaced_row(rows: &[&'static str], number: u8) -> &'static str
+    requires whole { length rows.now ≡ 256 }
+    requires spaced { IsTrue (are_spaced_from (λ row. row.now) 0 rows.now) }
+    ensures { result.now ≡ decimal number ++ codes " " }
+{
+    rows[usize::from(number)]
+}
+
+/// A number with a space behind it.
+pub(crate) fn spaced(number: u8) -> &'static str
+    ensures { result.now ≡ decimal number ++ codes " " }
+{
+    spaced_row(&SPACED, number)
 }
 
 /// Items one right after the other.
@@ -148,44 +190,62 @@ impl<'a, A: Printed, B: Printed> Printed for PrintedPair<'a, A, B> {
     ghost prints = { λ _. refl };
 }
 
-/// The `a=` line of a text alone, with its end.
-#[derive(Drop)]
-pub(crate) struct PrintedAlone<'a>(pub(crate) &'a str);
-
-impl<'a> fmt::Display for PrintedAlone<'a> {
-    ghost output = { λ line. Some (attribute_line line.0.now) };
-
-    fn fmt<W: fmt::Write>(&self, f: &mut fmt::Formatter<W>) -> fmt::Result {
-        f.write_str("a=")?;
-        f.write_str(self.0)?;
-        f.write_str("\r\n")
-    }
+/// Writes the end of a line. It and the next two aren't inlined: behind many `?` the compiler takes a write for a rare one, and makes
+/// it a call that copies byte by byte what here is written in place.
+#[inline(never)]
+pub(crate) fn write_end<W: fmt::Write>(f: &mut fmt::Formatter<W>) -> fmt::Result
+    ensures { WritesOnOk W.write_str_gives f.old result printed_line_end f.new }
+{
+    f.write_str("\r\n")
 }
 
-/// The `a=` line of a label and a value right after it, with its end.
-#[derive(Drop)]
-pub(crate) struct PrintedLabelled<'a, T>(pub(crate) &'a str, pub(crate) &'a T);
-
-impl<'a, T: Printed> fmt::Display for PrintedLabelled<'a, T> {
-    ghost output = { λ line. Some (labelled_line line.0.now (T.text line.1.now)) };
-
-    fn fmt<W: fmt::Write>(&self, f: &mut fmt::Formatter<W>) -> fmt::Result {
-        f.write_str("a=")?;
-        f.write_str(self.0)?;
-        self.1.fmt(f)?;
-        f.write_str("\r\n")
-    }
+/// Writes the `a=` line of a text alone, with its end.
+#[inline(never)]
+pub(crate) fn write_alone<W: fmt::Write>(f: &mut fmt::Formatter<W>, text: &str) -> fmt::Result
+    ensures { WritesOnOk W.write_str_gives f.old result (attribute_line text.now) f.new }
+{
+    f.write_str("a=")?;
+    f.write_str(text)?;
+    write_end(f)
 }
 
-/// The `a=` line of a label, a value right after it and another after a space, with its end.
-#[derive(Drop)]
-pub(crate) struct PrintedPaired<'a, A, B>(pub(crate) &'a str, pub(crate) &'a A, pub(crate) &'a B);
+/// Writes the `a=` line of a label and a value right after it, with its end.
+#[inline(never)]
+pub(crate) fn write_labelled<W: fmt::Write, T: Printed>(
+    f: &mut fmt::Formatter<W>,
+    label: &str,
+    value: &T,
+) -> fmt::Result
+    ensures { WritesOnOk W.write_str_gives f.old result (labelled_line label.now (T.text value.now)) f.new }
+{
+    f.write_str("a=")?;
+    f.write_str(label)?;
+    value.fmt(f)?;
+    write_end(f)
+}
 
-impl<'a, A: Printed, B: Printed> fmt::Display for PrintedPaired<'a, A, B> {
-    ghost output = { λ line. Some (labelled_line line.0.now (A.text line.1.now ++ (codes " " ++ B.text line.2.now))) };
+/// Writes the `a=` line of a label, a value right after it and another after a space, with its end.
+pub(crate) fn write_paired<W: fmt::Write, A: Printed, B: Printed>(
+    f: &mut fmt::Formatter<W>,
+    label: &str,
+    first: &A,
+    second: &B,
+) -> fmt::Result
+    ensures { WritesOnOk W.write_str_gives f.old result (labelled_line label.now (A.text first.now ++ (codes " " ++ B.text second.now))) f.new }
+{
+    write_labelled(f, label, &PrintedPair(first, second))
+}
 
-    fn fmt<W: fmt::Write>(&self, f: &mut fmt::Formatter<W>) -> fmt::Result {
-        let pair = PrintedPair(self.1, self.2);
-        PrintedLabelled(self.0, &pair).fmt(f)
-    }
+/// Writes how the `a=` line of a label and a number right after it begins: up to the space behind the number.
+#[inline(always)]
+pub(crate) fn write_numbered<W: fmt::Write>(
+    f: &mut fmt::Formatter<W>,
+    label: &str,
+    number: u8,
+) -> fmt::Result
+    ensures { WritesOnOk W.write_str_gives f.old result (codes "a=" ++ (label.now ++ (decimal number ++ codes " "))) f.new }
+{
+    f.write_str("a=")?;
+    f.write_str(label)?;
+    f.write_str(spaced(number))
 }

@@ -1,6 +1,7 @@
 //! Which sections are consistent.
-ghost use Rattle.std.specs.Prelude.{◌≡◌, ◌<◌, ◌↔◌, IsSome, Some, count_by, filter_map};
+ghost use Rattle.std.specs.Prelude.{◌≡◌, ◌<◌, ◌↔◌, IsSome, List, Some, count_by, filter_map};
 ghost use Rattle.str0m_sdp.specs.Common.{first};
+ghost use Rattle.str0m_sdp.specs.declared.attribute.MediaAttribute.{MediaAttribute as SectionAttribute};
 ghost use Rattle.str0m_sdp.specs.section.Consistency.{is_mid, mid_of, is_setup, is_direction};
 ghost use Rattle.str0m_sdp.specs.session.Fault.{err_if_fault, only_mid, setup_fault, proto_fault, mapping_fault, map_fault, value_fault, values_fault, apt_fault, first_fault};
 
@@ -13,22 +14,37 @@ use crate::session::fault::{Clash, Fault};
 use str0m_formats::FormatParam;
 use str0m_values::{Mid, Pt};
 
-fn count_mids(attrs: &[MediaAttribute]) -> usize
-    ensures { result ≡ count_by is_mid attrs.now }
-{
-    attrs.iter().filter(|a| a.is_mid()).count()
+/// How many mids, setups and directions a section has.
+#[derive(Clone, Copy, Debug)]
+struct SectionCounts {
+    mids: usize,
+    setups: usize,
+    directions: usize,
 }
 
-fn count_setups(attrs: &[MediaAttribute]) -> usize
-    ensures { result ≡ count_by is_setup attrs.now }
+/// Counts them in one pass: nearly all attributes are none of the three.
+fn counted(attrs: &[MediaAttribute]) -> SectionCounts
+    ensures mids { result.mids ≡ count_by is_mid attrs.now }
+    ensures setups { result.setups ≡ count_by is_setup attrs.now }
+    ensures directions { result.directions ≡ count_by is_direction attrs.now }
 {
-    attrs.iter().filter(|a| a.is_setup()).count()
-}
-
-fn count_directions(attrs: &[MediaAttribute]) -> usize
-    ensures { result ≡ count_by is_direction attrs.now }
-{
-    attrs.iter().filter(|a| a.is_direction()).count()
+    let (mut mids, mut setups, mut directions) = (0, 0, 0);
+    for attr in attrs {
+        match attr {
+            MediaAttribute::Mid(_) => mids += 1,
+            MediaAttribute::Setup(_) => setups += 1,
+            MediaAttribute::RecvOnly
+            | MediaAttribute::SendRecv
+            | MediaAttribute::SendOnly
+            | MediaAttribute::Inactive => directions += 1,
+            _ => {}
+        }
+    }
+    SectionCounts {
+        mids,
+        setups,
+        directions,
+    }
 }
 
 /// The first mid, where there is one.
@@ -39,35 +55,37 @@ pub(crate) fn first_mid(attrs: &[MediaAttribute]) -> Option<Mid>
     attrs.iter().find_map(|attr| attr.as_mid())
 }
 
-/// The mid where there is exactly one.
-fn only_mid(attrs: &[MediaAttribute]) -> Result<Mid, Fault>
-    ensures { result ≡ only_mid attrs.now }
+/// The mid where there is exactly one, among so many.
+fn only_mid(attrs: &[MediaAttribute], mids: usize) -> Result<Mid, Fault>
+    ensures { mids ≡ count_by is_mid attrs.now → result ≡ only_mid attrs.now }
 {
     let Some(mid) = first_mid(attrs) else {
         return Err(Fault::MissingMid);
     };
-    if count_mids(attrs) > 1 {
+    if mids > 1 {
         return Err(Fault::SecondMid);
     }
     Ok(mid)
 }
 
-fn check_setups(attrs: &[MediaAttribute], mid: Mid) -> Result<(), Fault>
-    ensures { result ≡ err_if_fault (setup_fault attrs.now mid) }
+/// Of a section with so many setups.
+fn check_setups(setups: usize, mid: Mid) -> Result<(), Fault>
+    ensures { (attrs : List SectionAttribute) → setups ≡ count_by is_setup attrs → result ≡ err_if_fault (setup_fault attrs mid) }
 {
-    if count_setups(attrs) > 1 {
+    if setups > 1 {
         return Err(Fault::SecondSetup(mid));
     }
     Ok(())
 }
 
-fn check_proto(m: &MediaLine, mid: Mid) -> Result<(), Fault>
-    ensures { result ≡ err_if_fault (proto_fault m.now mid m.now.proto) }
+/// Of a section with so many directions.
+fn check_proto(m: &MediaLine, directions: usize, mid: Mid) -> Result<(), Fault>
+    ensures { directions ≡ count_by is_direction m.now.attrs → result ≡ err_if_fault (proto_fault m.now mid m.now.proto) }
 {
     match m.proto {
         Proto::Sctp => Ok(()),
         Proto::Srtp => {
-            if count_directions(m.attrs.as_slice()) != 1 {
+            if directions != 1 {
                 return Err(Fault::Directions(mid));
             }
             if m.disabled || !m.pts.as_slice().is_empty() {
@@ -171,9 +189,10 @@ pub(crate) fn check_section(m: &MediaLine) -> Result<(), Fault>
     ensures { result ≡ err_if_fault (first_fault m.now) }
 {
     let attrs = m.attrs.as_slice();
-    let mid = only_mid(attrs)?;
-    check_setups(attrs, mid)?;
-    check_proto(m, mid)?;
+    let counted = counted(attrs);
+    let mid = only_mid(attrs, counted.mids)?;
+    check_setups(counted.setups, mid)?;
+    check_proto(m, counted.directions, mid)?;
     check_maps(attrs, m.pts.as_slice(), mid)?;
     check_section_apts(attrs, mid)
 }

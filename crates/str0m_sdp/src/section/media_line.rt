@@ -1,5 +1,7 @@
 //! The sections of a session description.
-ghost use Rattle.std.specs.Prelude.{◌≡◌, [], IfOk, None, Some, false, refl, string_bytes};
+ghost use Rattle.std.specs.Prelude.{◌≡◌, ◌++◌, [], IfOk, None, Some, codes, false, refl, string_bytes};
+ghost use Rattle.str0m_sdp.specs.attribute.MediaType.{media_type_text};
+ghost use Rattle.str0m_sdp.specs.attribute.Proto.{proto_text};
 ghost use Rattle.str0m_sdp.specs.declared.attribute.media_type.MediaType.TheVariants.{Audio};
 ghost use Rattle.str0m_sdp.specs.declared.attribute.proto.Proto.TheVariants.{Srtp};
 ghost use Rattle.str0m_sdp.specs.section.MediaLine.{formats_text, m_line, media_line_text, port_text, m_line_pts_text};
@@ -8,7 +10,7 @@ use crate::attribute::MediaAttribute;
 use crate::attribute::bandwidth::{Bandwidth, BandwidthLine};
 use crate::attribute::media_type::MediaType;
 use crate::attribute::proto::Proto;
-use crate::form::printed::{Printed, PrintedEach, printed_spaced};
+use crate::form::printed::{Printed, PrintedEach, spaced, write_end};
 use std::alloc::{AllocError, Global};
 use std::fmt;
 use str0m_values::{Items, Pt};
@@ -91,18 +93,63 @@ impl<'a> fmt::Display for Types<'a> {
     ghost output = { λ types. Some (m_line_pts_text types.0.now) };
 
     fn fmt<W: fmt::Write>(&self, f: &mut fmt::Formatter<W>) -> fmt::Result {
-        if self.0.is_empty() {
+        let Some((last, before)) = self.0.split_last() else {
             return f.write_str("0");
+        };
+        for pt in before {
+            f.write_str(spaced(pt.value()))?;
         }
-        printed_spaced(self.0).fmt(f)
+        last.fmt(f)
     }
 }
 
-/// The port of a section: `0` where it is disabled, else the discard port, since ICE finds the port.
-fn port(disabled: bool) -> &'static str
-    ensures { result.now ≡ port_text disabled }
-{
-    if disabled { "0" } else { "9" }
+/// The port of a section between two spaces: `0` where it is disabled, else the discard port, since ICE finds the port.
+#[derive(Drop)]
+struct Port {
+    disabled: bool,
+}
+
+impl fmt::Display for Port {
+    ghost output = { λ port. Some (codes " " ++ (port_text port.disabled ++ codes " ")) };
+
+    fn fmt<W: fmt::Write>(&self, f: &mut fmt::Formatter<W>) -> fmt::Result {
+        if self.disabled {
+            f.write_str(" 0 ")
+        } else {
+            f.write_str(" 9 ")
+        }
+    }
+}
+
+/// How an m-line begins: up to its port.
+#[derive(Drop)]
+struct HeadMedia<'a>(&'a MediaLine);
+
+impl<'a> fmt::Display for HeadMedia<'a> {
+    ghost output = { λ head. Some (codes "m=" ++ (media_type_text head.0.now.typ ++ (codes " " ++ (port_text head.0.now.disabled ++ codes " ")))) };
+
+    fn fmt<W: fmt::Write>(&self, f: &mut fmt::Formatter<W>) -> fmt::Result {
+        let disabled = self.0.disabled;
+        f.write_str("m=")?;
+        self.0.typ.fmt(f)?;
+        Port { disabled }.fmt(f)
+    }
+}
+
+/// How an m-line goes on: what carries the section, and its formats.
+#[derive(Drop)]
+struct HeadFormats<'a>(&'a MediaLine);
+
+impl<'a> fmt::Display for HeadFormats<'a> {
+    ghost output = { λ head. Some (proto_text head.0.now.proto ++ (codes " " ++ formats_text head.0.now.typ head.0.now.pts)) };
+
+    fn fmt<W: fmt::Write>(&self, f: &mut fmt::Formatter<W>) -> fmt::Result {
+        let typ = &self.0.typ;
+        let pts = self.0.pts.as_slice();
+        self.0.proto.fmt(f)?;
+        f.write_str(" ")?;
+        Formats { typ, pts }.fmt(f)
+    }
 }
 
 /// The m-line of a section, with its end.
@@ -112,13 +159,11 @@ struct HeadLine<'a>(&'a MediaLine);
 impl<'a> fmt::Display for HeadLine<'a> {
     ghost output = { λ head. Some (m_line head.0.now) };
 
+    // Part by part, since `write!` asks the options of the formatter anew for each.
     fn fmt<W: fmt::Write>(&self, f: &mut fmt::Formatter<W>) -> fmt::Result {
-        let section = self.0;
-        let (typ, proto) = (&section.typ, section.proto);
-        let port = port(section.disabled);
-        let pts = section.pts.as_slice();
-        let formats = Formats { typ, pts };
-        write!(f, "m={typ} {port} {proto} {formats}\r\n")
+        HeadMedia(self.0).fmt(f)?;
+        HeadFormats(self.0).fmt(f)?;
+        write_end(f)
     }
 }
 
@@ -127,10 +172,10 @@ impl fmt::Display for MediaLine {
     ghost output = { λ line. Some (media_line_text line) };
 
     fn fmt<W: fmt::Write>(&self, f: &mut fmt::Formatter<W>) -> fmt::Result {
-        let head = HeadLine(self);
-        let bw = BandwidthLine(&self.bw);
-        let attrs = PrintedEach(self.attrs.as_slice());
-        write!(f, "{head}c=IN IP4 0.0.0.0\r\n{bw}{attrs}")
+        HeadLine(self).fmt(f)?;
+        f.write_str("c=IN IP4 0.0.0.0\r\n")?;
+        BandwidthLine(&self.bw).fmt(f)?;
+        PrintedEach(self.attrs.as_slice()).fmt(f)
     }
 }
 

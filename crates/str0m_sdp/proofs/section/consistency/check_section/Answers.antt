@@ -9,9 +9,10 @@ returns c =
     let m = c.args.m.now in
     let mid = c.in_ok-mid.mid in
     let attrs = c.as_slice-attrs.ensures in
-    let only = rw attrs at c.in_ok-mid.ensures in
-    let setup = rw attrs at c.in_ok-check_setups.ensures in
-    let proto = c.in_ok-check_proto.ensures in
+    let counts = c.counted-counted.ensures in
+    let only = rw attrs at (c.in_ok-mid.ensures counts.mids) in
+    let setup = c.in_ok-check_setups.ensures m.attrs (rw attrs at counts.setups) in
+    let proto = c.in_ok-check_proto.ensures (rw attrs at counts.directions) in
     let maps = rw (attrs, c.as_slice.ensures) at c.in_ok-check_maps.ensures in
     let apts = rw attrs at c.check_section_apts.ensures in
     apts ∙ ap err_if_fault (sym (
