@@ -1,10 +1,10 @@
 //! Codecs.
-ghost use Rattle.std.specs.Prelude.{◌≡◌, ◌↔◌, IsTrue, Some};
+ghost use Rattle.std.specs.Prelude.{◌≡◌, ◌↔◌, IfSome, IsTrue, Some};
 ghost use Rattle.str0m_formats.specs.codec.Codec.{codec_text, codec_content, static_entry, audio, video, events, media_kind, codec_of, IsReadAsCodec, codec_printed_and_read};
 ghost use Rattle.str0m_formats.specs.codec.CodecSpec.{is_spec_at, static_codec};
 
 use std::fmt;
-use str0m_values::{Frequency, MediaKind, Pt, Worded, case_alike, case_of};
+use str0m_values::{Frequency, MediaKind, Pt, Worded, case_alike};
 
 pub(crate) mod codec_spec;
 
@@ -170,6 +170,43 @@ impl Worded for Codec {
     }
 }
 
+impl Codec {
+    /// Of the codecs whose names have so many bytes, the one whose name ends in this byte: no two are alike in both.
+    fn as_long(len: usize, last: u8) -> Codec
+        ensures { codec_printed_and_read result ≡ result }
+    {
+        match (len, last) {
+            (2, _) => Codec::CN,
+            (3, b'8') => Codec::Vp8,
+            (3, b'9') => Codec::Vp9,
+            (3, b'1') => Codec::Av1,
+            (3, b'd') => Codec::Red,
+            (4, b'4') => Codec::H264,
+            (4, b'5') => Codec::H265,
+            (4, b'6') => Codec::H266,
+            (4, b's') => Codec::Opus,
+            (4, b'U') => Codec::PCMU,
+            (4, b'A') => Codec::PCMA,
+            (4, _) => Codec::G722,
+            (6, _) => Codec::AmrWb,
+            (15, _) => Codec::Tele,
+            _ => Codec::Rtx,
+        }
+    }
+
+    /// The codec of this very name.
+    fn written(name: &str) -> Option<Codec>
+        ensures { IfSome result (λ codec. (name.now ≡ codec_text codec) × (codec_printed_and_read codec ≡ codec)) }
+    {
+        let codec = Codec::as_long(name.len(), *name.as_bytes().last()?);
+        if name == codec.word() {
+            Some(codec)
+        } else {
+            None
+        }
+    }
+}
+
 #[tactic(auto, unfolding(crate::specs::codec::Codec::codec_of, str0m_values::specs::Words::case_alike))]
 fn codec_alike(name: &str) -> Codec
     ensures { result ≡ codec_of name.now }
@@ -177,11 +214,11 @@ fn codec_alike(name: &str) -> Codec
     case_alike(&NAMED, name).unwrap_or(Codec::Unknown)
 }
 
-/// The codec of a name. Nearly all names stand in their own case, and texts are compared faster with it than without.
+/// The codec of a name. Nearly all names stand in their own case, and then one comparison is enough.
 fn named(name: &str) -> Codec
     ensures { result ≡ codec_of name.now }
 {
-    match case_of(&NAMED, name) {
+    match Codec::written(name) {
         Some(codec) => codec,
         None => codec_alike(name),
     }

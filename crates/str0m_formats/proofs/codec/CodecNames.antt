@@ -1,12 +1,11 @@
 -- The codec of a name is the one that its text reads as.
-use Rattle.str0m_formats.proofs.Common.{rules, arith, ◌≡◌, ◌≢◌, ℕ, Bool, true, false, ◌⊎◌, List, map, Some, ap, ◌∙◌, unwrap_or}
-use Rattle.str0m_formats.proofs.Common.{to_ascii_lowercase, bytes_eq, str_eq_ignore_ascii_case, bytes_eq-Decides}
+use Rattle.str0m_formats.proofs.Common.{rules, arith, ◌≡◌, ◌≢◌, ℕ, true, ◌⊎◌, List, map, ap, ◌∙◌, unwrap_or}
+use Rattle.str0m_formats.proofs.Common.{to_ascii_lowercase, str_eq_ignore_ascii_case, bytes_eq-Decides}
 use Rattle.str0m_formats.proofs.codec.CodecLookup.{codec_find_passes, codec_if_some_map, codec_case_at}
 use Rattle.str0m_formats.specs.codec.Codec.{codec_text, codec_of, codec_printed_and_read, IsSameCodecText, IsReadAsCodec}
 use Rattle.str0m_formats.specs.declared.codec.Codec.{Codec}
 use Rattle.str0m_formats.specs.declared.codec.Codec.TheVariants.{Null, Unknown}
 use Rattle.str0m_formats.specs.declared.codec.TheConstants.{NAMED}
-use Rattle.str0m_values.specs.Words.{case_of}
 
 -- the test of two texts says whether they are the same
 pub same_codec_text : (s t : List ℕ) → str_eq_ignore_ascii_case s t ≡ true → IsSameCodecText s t
@@ -26,27 +25,9 @@ codec_at-text c = grind arith
 codec_not_null : (c : Codec) → c ≢ Null → codec_printed_and_read c ≡ c
 codec_not_null c other = grind arith
 
-abbrev is_codec_named : Codec → Bool
-is_codec_named Null = false
-is_codec_named _ = true
-
 pub codec_read_as : (text : List ℕ) → IsReadAsCodec text (codec_of text)
 unfolding codec_of
 codec_read_as text = search (rules, codec_at-text, codec_not_null, codec_if_some_map, codec_find_passes, same_codec_text)
-
--- whether this is the codec's very text
-abbrev codec_has_text : List ℕ → Codec → Bool
-codec_has_text text codec = bytes_eq text (codec_text codec)
-
--- the codec of this very text is the codec of the text
-pub written_codec_is : (text : List ℕ) (codec : Codec) → case_of codec_text NAMED text ≡ Some codec → codec ≡ codec_of text
-unfolding case_of
-written_codec_is text codec e = grind (
-  arith,
-  codec_find_passes is_codec_named (codec_has_text text) NAMED,
-  codec_read_as text,
-  bytes_eq-Decides text,
-)
 
 -- and a text reads as one codec
 pub codec_read_only : (text : List ℕ) (codec : Codec) → IsReadAsCodec text codec → codec ≡ codec_of text

@@ -1,6 +1,6 @@
-use Rattle.str0m_formats.proofs.Common.{sym}
-use Rattle.str0m_formats.proofs.codec.CodecNames.{written_codec_is}
+use Rattle.str0m_formats.proofs.Common.{refl, sym, ◌∙◌}
+use Rattle.str0m_formats.proofs.codec.CodecNames.{codec_read_printed}
 use Rattle.str0m_formats.proofs.codec.named.Goals as goal
 
 pub returns-in-Some : goal.returns-in-Some
-returns-in-Some c = written_codec_is c.args.name.now c.in-Some.codec (sym c.in-Some.ensures)
+returns-in-Some c = sym (codec_read_printed c.args.name.now _ refl c.in-Some.codec c.in-Some.ensures.0 ∙ c.in-Some.ensures.1)
