@@ -1,6 +1,7 @@
 pub mod CandidateLineAgain
 pub mod CandidateLineLaws
 pub mod ExtMapSearchLaws
+pub mod FingerprintLaws
 pub mod FmtpAgain
 pub mod FmtpLaws
 pub mod FmtpPrinted

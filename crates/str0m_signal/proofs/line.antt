@@ -1,3 +1,4 @@
+pub mod AttributesLaws
 pub mod AttributesPrinted
 pub mod BareValuesLaws
 pub mod FrontLaws

@@ -1,5 +1,6 @@
 pub mod CandidateLine
 pub mod Fmtp
+pub mod Fingerprint
 pub mod FmtpReading
 pub mod FormReading
 pub mod FormTable

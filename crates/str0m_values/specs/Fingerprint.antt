@@ -77,6 +77,11 @@ IsBytesReading text (Err NoSpace) = ⊥
 IsBytesReading text (Err BadByte) = HasBadHashPiece text
 IsBytesReading text (Err Memory) = ⊤
 
+-- the same where bytes stand before
+abbrev pub IsBytesReadingAfter : List ℕ → List ℕ → Result (List ℕ) FingerprintError → Type 0
+IsBytesReadingAfter before text (Ok bytes) = (more : List ℕ) × (bytes ≡ before ++ more) × AllZip IsHexByte (hash_pieces text) more
+IsBytesReadingAfter before text (Err e) = IsBytesReading text (Err e)
+
 -- what a text is read as, or why it isn't; memory is asked for only after a space
 abbrev pub IsFingerprintReading : List ℕ → Result Fingerprint FingerprintError → Type 0
 IsFingerprintReading text (Ok f) = IsFingerprint text f

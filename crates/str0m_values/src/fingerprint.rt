@@ -1,10 +1,9 @@
 //! Fingerprints of certificates.
 ghost use Rattle.std.specs.Char.{digit_value};
 ghost use Rattle.std.specs.Fmt.{digit_glyph};
-ghost use Rattle.std.specs.Prelude.{◌≡◌, ◌<◌, ◌∷◌, ◌↔◌, IfOk, IfSome, IsErr, IsErrOf, IsTrue, Some, length, true, flat_map};
-ghost use Rattle.str0m_values.specs.Cuts.{IsTheOnly};
+ghost use Rattle.std.specs.Prelude.{◌≡◌, ◌<◌, ◌+◌, ◌∷◌, ◌↔◌, IfOk, IfSome, IsErr, IsErrOf, IsTrue, None, Some, length, true, flat_map};
 ghost use Rattle.str0m_values.specs.CutsParts.{Lacks, part_text_of};
-ghost use Rattle.str0m_values.specs.Fingerprint.{IsFingerprint, IsHexByte, IsFingerprintWrittenBy, HasBadByte, IsHashFront, IsBytesReading, IsFingerprintReading, GivesFingerprint, CanFingerprintBeReadBack, fingerprint_text, hex_pair, pairs_text, hash_preference_of};
+ghost use Rattle.str0m_values.specs.Fingerprint.{IsFingerprint, IsHexByte, IsFingerprintWrittenBy, HasBadByte, IsHashFront, IsBytesReading, IsBytesReadingAfter, IsFingerprintReading, GivesFingerprint, CanFingerprintBeReadBack, fingerprint_text, hex_pair, pairs_text, hash_preference_of};
 ghost use Rattle.str0m_values.specs.declared.fingerprint.Fingerprint.{Fingerprint};
 ghost use Rattle.str0m_values.specs.declared.fingerprint.FingerprintError.TheVariants.{NoSpace, BadByte, Memory};
 
@@ -114,12 +113,62 @@ fn read_fingerprint(alloc: Global, text: &str) -> Result<Fingerprint, Fingerprin
     Ok(Fingerprint { hash_func, bytes })
 }
 
-/// The bytes of the pieces, in one run over the text. Nearly all are two hex digits for each, and then the room that is asked
-/// for at first is theirs.
+/// The bytes of the pieces, in one run over the text. Nearly all are two hex digits for each, and for these there is room from the
+/// start, so that their loop calls nothing.
 fn read_bytes(alloc: Global, text: &str) -> Result<Items<u8>, FingerprintError>
     ensures { IsBytesReading text.now result }
 {
     let mut bytes = Vec::with_capacity(alloc, text.len() / 3 + 1)?;
+    let mut left = text;
+    while let Some((byte, rest)) = first_hash_pair(left) {
+        bytes.push_reserved(byte);
+        left = rest;
+    }
+    match last_hash_pair(left) {
+        Some(byte) => {
+            bytes.push_reserved(byte);
+            Ok(Items(bytes))
+        }
+        None => read_hash_pieces(bytes, left),
+    }
+}
+
+/// The byte of the first piece and what follows its `:`, where these are two hex digits and a `:`.
+#[inline(always)]
+fn first_hash_pair(text: &str) -> Option<(u8, &str)>
+    ensures front { IfSome result (λ pair. IsHashFront text.now (Some pair.0) (Some pair.1.now)) }
+    ensures three { IfSome result (λ pair. length pair.1.now + 3 ≡ length text.now) }
+{
+    let bytes = text.as_bytes();
+    if bytes.len() > 2 && bytes[2] == b':' {
+        match pair_byte(bytes[0], bytes[1]) {
+            Some(byte) => Some((byte, &text[3..])),
+            None => None,
+        }
+    } else {
+        None
+    }
+}
+
+/// The byte of a text that is two hex digits.
+#[inline(always)]
+fn last_hash_pair(text: &str) -> Option<u8>
+    ensures front { IfSome result (λ byte. IsHashFront text.now (Some byte) None) }
+    ensures two { IfSome result (λ _. length text.now ≡ 2) }
+{
+    let bytes = text.as_bytes();
+    if bytes.len() == 2 {
+        pair_byte(bytes[0], bytes[1])
+    } else {
+        None
+    }
+}
+
+/// The bytes that are there, and then those of the pieces of the text.
+#[inline(never)]
+fn read_hash_pieces(mut bytes: Vec<u8>, text: &str) -> Result<Items<u8>, FingerprintError>
+    ensures { IsBytesReadingAfter bytes.items text.now result }
+{
     let mut left = text;
     loop {
         let (byte, rest) = first_hash_byte(left);
@@ -134,46 +183,15 @@ fn read_bytes(alloc: Global, text: &str) -> Result<Items<u8>, FingerprintError>
     }
 }
 
-/// The byte of the first piece, `None` where it is none, and what follows its `:`. Two hex digits and a `:` are read in place.
-#[inline(always)]
+/// The byte of the first piece, `None` where it is none, and what follows its `:`.
 fn first_hash_byte(text: &str) -> (Option<u8>, Option<&str>)
     ensures front { IsHashFront text.now result.0 (part_text_of result.1) }
     ensures shorter { IfSome result.1 (λ rest. length rest.now < length text.now) }
 {
-    let bytes = text.as_bytes();
-    if bytes.len() > 2 && bytes[2] == b':' {
-        let byte = pair_byte(bytes[0], bytes[1]);
-        if byte.is_some() {
-            return (byte, Some(&text[3..]));
-        }
-    }
-    other_hash_byte(text)
-}
-
-/// The same of any text.
-#[inline(never)]
-fn other_hash_byte(text: &str) -> (Option<u8>, Option<&str>)
-    ensures front { IsHashFront text.now result.0 (part_text_of result.1) }
-    ensures shorter { IfSome result.1 (λ rest. length rest.now < length text.now) }
-{
     match cut(text, Separator::Colon) {
-        Some((piece, rest)) => (hash_byte(piece), Some(rest)),
-        None => (hash_byte(text), None),
+        Some((piece, rest)) => (hex_u8(piece), Some(rest)),
+        None => (hex_u8(text), None),
     }
-}
-
-/// The byte that std reads in a piece in hexadecimal. Two digits, as the last piece mostly is, are read in place.
-fn hash_byte(piece: &str) -> Option<u8>
-    ensures { IsTheOnly (IsHexByte piece.now) result }
-{
-    let bytes = piece.as_bytes();
-    if bytes.len() == 2 {
-        let byte = pair_byte(bytes[0], bytes[1]);
-        if byte.is_some() {
-            return byte;
-        }
-    }
-    hex_u8(piece)
 }
 
 /// The byte that two hex digits write.

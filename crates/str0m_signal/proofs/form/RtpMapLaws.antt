@@ -58,6 +58,12 @@ rtpmap_clock_complete text hertz channels rate w n positive h = grind
 abbrev made_mapping : ℕ → Codec → Mapping → Option (ℕ × Mapping)
 made_mapping pt codec value = Some (pt, record { codec = codec; clock_rate = value.clock_rate; channels = value.channels })
 
+-- a rate that stands alone is no part of another
+pub clock_whole : (text : List ℕ) (hertz : ℕ) → frequency_read text ≡ Some hertz → clock_read text (cut 47 text) ≡ Some (hertz, None)
+clock_whole text hertz e =
+    let number = (clock_frequency_sound text hertz e).0.numeral in
+    rw (cut_none 47 text (number_lacks 47 text (omega arith) (λ e. absurd (omega arith)) number), e) refl
+
 rtpmap_found : (text : List ℕ) (fields : ℕ × Mapping) → rtpmap_fields_read text ≡ Some fields → IsRtpMap text fields.0 fields.1
 rtpmap_found text fields e =
     let a = cuts_bind_some (strip label.RTPMAP.now text) (λ body. cut 32 body >>= λ fields. num 127 fields.0 >>= λ pt. mapping_read fields.1

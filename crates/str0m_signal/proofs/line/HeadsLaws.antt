@@ -11,8 +11,8 @@ record TypeBefore (rest : List ℕ) (n : ℕ) (more : List ℕ) : Type 0 where
   cut_is : cut 32 rest ≡ Some (front, more)
   number : num 255 front ≡ Some n
 
-type_before : (rest : List ℕ) (n : ℕ) (more : List ℕ) → Some (n, more) ≡ number_and_rest_read 255 rest → TypeBefore rest n more
-type_before rest n more e =
+head_type_before : (rest : List ℕ) (n : ℕ) (more : List ℕ) → Some (n, more) ≡ number_and_rest_read 255 rest → TypeBefore rest n more
+head_type_before rest n more e =
     let a = cuts_bind_some (cut 32 rest) (λ p. num 255 p.0 >>= λ m. Some (m, p.1)) (n, more) (sym e) in
     let b = cuts_bind_some (num 255 a.0.0) (λ m. Some (m, a.0.1)) (n, more) a.2 in
     let same = some_pair_parts b.0 n a.0.1 more b.2 in
@@ -24,14 +24,14 @@ type_before rest n more e =
 
 pub type_more_shorter : (rest : List ℕ) (n : ℕ) (more : List ℕ) → Some (n, more) ≡ number_and_rest_read 255 rest
     → length more < length rest
-type_more_shorter rest n more e = let one = type_before rest n more e in part_cut_shorter 32 rest one.front more one.cut_is
+type_more_shorter rest n more e = let one = head_type_before rest n more e in part_cut_shorter 32 rest one.front more one.cut_is
 
 -- one more type
 pub type_more : (text front rest : List ℕ) (n : ℕ) (more : List ℕ) → Some (n, more) ≡ number_and_rest_read 255 rest
     → part_with_front front (parted_read 32 (num 255) rest) ≡ parted_read 32 (num 255) text
     → part_with_front (front ++ n ∷ []) (parted_read 32 (num 255) more) ≡ parted_read 32 (num 255) text
 type_more text front rest n more e so_far =
-    let one = type_before rest n more e in
+    let one = head_type_before rest n more e in
     part_more 32 (num 255) text front rest one.front more n one.cut_is one.number so_far
 
 -- the last

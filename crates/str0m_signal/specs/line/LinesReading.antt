@@ -56,11 +56,6 @@ abbrev pub TakesLast : {A : Type 0} → Option A → List A → List A → Bool 
 TakesLast {A} found old new true = (value : A) × (found ≡ Some value) × (new ≡ old ++ value ∷ [])
 TakesLast found old new false = (found ≡ None) × (new ≡ old)
 
--- what f reads of the first line stands after the others, and this text is left; or f reads nothing, and nothing is added
-abbrev pub TakesLine : {A : Type 0} → (List ℕ → Option A) → List Line → List A → List A → Option (Bor (List ℕ)) → Type 0
-TakesLine f lines old new None = (None ≡ line_read f lines) × (new ≡ old)
-TakesLine {A} f lines old new (Some rest) = (value : A) × ReadsTo f lines value (lines_of rest.now) × (new ≡ old ++ value ∷ [])
-
 -- a value and what is left of the text, as lines
 abbrev pub lines_left : {A : Type 0} → A × Bor (List ℕ) → A × List Line
 lines_left x = (x.0, lines_of x.1.now)

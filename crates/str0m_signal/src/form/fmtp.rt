@@ -11,7 +11,6 @@ use arrayvec::ArrayVec;
 use std::alloc::{AllocError, Global};
 use str0m_formats::FormatParam;
 use str0m_sdp::{MediaAttribute, label};
-use str0m_values::cuts::strip;
 use str0m_values::{Items, Pt};
 
 /// How many pairs are read in place, so that their list asks for no memory: most lines have no more.
@@ -58,7 +57,7 @@ fn many_values(alloc: Global, text: &str) -> Result<Option<Items<FormatParam>>, 
 fn pairs_form(alloc: Global, more: &str) -> Result<Option<Items<FormatParam>>, AllocError>
     ensures { IfOk result (λ found. found ≡ pairs_form_read more.now) }
 {
-    let Some(text) = strip(more, " ") else {
+    let Some(text) = behind_label(more, " ") else {
         return Ok(None);
     };
     let text = skip_pair_blanks(text);

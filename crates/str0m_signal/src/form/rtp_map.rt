@@ -24,9 +24,14 @@ fn mapping_frequency(text: &str) -> Option<Frequency>
     Frequency::new(num_u32(text)?)
 }
 
+#[tactic(auto, using(crate::proofs::form::RtpMapLaws::clock_whole))]
 fn mapping_clock(text: &str) -> Option<(Frequency, Option<u8>)>
     ensures { result ≡ clock_read text.now (cut 47 text.now) }
 {
+    // Most rates stand alone, and a number holds no slash.
+    if let Some(rate) = mapping_frequency(text) {
+        return Some((rate, None));
+    }
     match cut(text, Separator::Slash) {
         None => Some((mapping_frequency(text)?, None)),
         Some((hertz, channels)) => Some((mapping_frequency(hertz)?, Some(num_u8(channels, 255)?))),

@@ -2,12 +2,12 @@
 
 ghost use Rattle.std.specs.Prelude.{◌≡◌, ℕ, List, Ok, Option, IfOk, option_map};
 ghost use Rattle.str0m_signal.specs.line.Lines.{Run};
-ghost use Rattle.str0m_signal.specs.line.LinesReading.{lines_of, line_read, read_attribute, lines_left, ReadsTo, TakesLast, TakesLine};
+ghost use Rattle.str0m_signal.specs.line.LinesReading.{lines_of, line_read, read_attribute, lines_left, ReadsTo, TakesLast};
 
+use crate::line::front::behind_label;
 use crate::line::lines::{BYTES_OF_A_LINE, clean_line};
 use std::alloc::{AllocError, Global};
 use str0m_values::Items;
-use str0m_values::cuts::strip;
 
 /// What a line of `a=` and a text may say: the attributes of sessions are one such table of forms,
 /// those of sections another.
@@ -56,7 +56,7 @@ fn take_attribute_content<A: Attribute>(
 ) -> Result<bool, AllocError>
     ensures { IfOk result (TakesLast (read_attribute A.reading line.now) place.old.items place.new.items) }
 {
-    match strip(line, "a=") {
+    match behind_label(line, "a=") {
         Some(text) => A::take(alloc, text, place),
         None => Ok(false),
     }
@@ -87,24 +87,6 @@ pub(crate) fn next_line<A: Attribute>(
     }
 }
 
-/// Puts the attribute of the first line after the others, and answers what follows that line.
-fn take_line<'a, A: Attribute>(
-    alloc: Global,
-    text: &'a str,
-    attributes: &mut Vec<A>,
-) -> Result<Option<&'a str>, AllocError>
-    ensures { IfOk result (λ rest. TakesLine (read_attribute A.reading) (lines_of text.now) attributes.old.items attributes.new.items rest) }
-{
-    let Some((content, rest)) = clean_line(text) else {
-        return Ok(None);
-    };
-    if take_attribute_content(alloc, content, attributes)? {
-        Ok(Some(rest))
-    } else {
-        Ok(None)
-    }
-}
-
 /// How many lines a list of attributes has room for at first, where the text may have so many: no answer depends on it.
 const FIRST_LINES: usize = 32;
 
@@ -131,7 +113,10 @@ pub(crate) fn attribute_run<A: Attribute>(
     let likely = text.len() / BYTES_OF_A_LINE;
     let mut attributes = Vec::with_capacity(alloc, likely.min(FIRST_LINES))?;
     let mut rest = text;
-    while let Some(after) = take_line(alloc, rest, &mut attributes)? {
+    while let Some((content, after)) = clean_line(rest) {
+        if !take_attribute_content(alloc, content, &mut attributes)? {
+            break;
+        }
         rest = after;
     }
     Ok((attributes_without_spare_room(attributes), rest))

@@ -5,8 +5,8 @@ ghost use Rattle.std.specs.Prelude.{◌≡◌, ◌<◌, ◌+◌, IfOk, IfSome, d
 ghost use Rattle.str0m_signal.specs.Prelude.{pair_texts, parts};
 ghost use Rattle.str0m_signal.specs.form.FmtpReading.{IsValueEnd, ends_value, is_pair_blank, fmtp_value_read, skip_pair_blanks, fmtp_next_read, fmtp_key_read, key_and_rest_read, key_cut, pair_read, pairs_read};
 
+use crate::line::front::behind_label;
 use std::alloc::{AllocError, Global};
-use str0m_values::cuts::strip;
 
 fn ends_value(byte: u8) -> bool
     ensures { result ≡ ends_value byte }
@@ -44,9 +44,9 @@ pub(crate) fn skip_pair_blanks(text: &str) -> &str
 {
     let mut rest = text;
     loop {
-        if let Some(more) = strip(rest, " ") {
+        if let Some(more) = behind_label(rest, " ") {
             rest = more;
-        } else if let Some(more) = strip(rest, "\t") {
+        } else if let Some(more) = behind_label(rest, "\t") {
             rest = more;
         } else {
             return rest;
@@ -85,7 +85,7 @@ fn fmtp_next(text: &str) -> Option<Option<&str>>
     if text.is_empty() {
         return Some(None);
     }
-    let more = skip_pair_blanks(strip(text, ";")?);
+    let more = skip_pair_blanks(behind_label(text, ";")?);
     if more.is_empty() {
         Some(None)
     } else {
@@ -100,11 +100,14 @@ fn key_end(bytes: &[u8]) -> Option<usize>
 {
     for i in 0..bytes.len() {
         let byte = bytes[i];
-        if byte == b'=' {
-            return Some(i);
-        }
-        if is_pair_blank(byte) {
-            return None;
+        // Letters, of which most keys are made, stand behind both.
+        if byte <= b'=' {
+            if byte == b'=' {
+                return Some(i);
+            }
+            if is_pair_blank(byte) {
+                return None;
+            }
         }
     }
     None
@@ -125,6 +128,7 @@ fn key_and_rest(text: &str) -> Option<(&str, &str)>
     }
 }
 
+#[inline(always)]
 #[tactic(auto, using(crate::proofs::line::PairKeyLaws::pair_by_key))]
 pub(crate) fn pair(text: &str) -> Option<(&str, &str, Option<&str>)>
     ensures { option_map (λ x. ((x.0.now, x.1.now), option_map (λ y. y.now) x.2)) result ≡ pair_read text.now }

@@ -97,7 +97,8 @@ fn digit(byte: u8) -> Option<u32>
     char::from(byte).to_digit(16)
 }
 
-fn hex_pair(text: &str) -> Option<u8>
+/// The byte of a text that is two hexadecimal digits.
+pub(crate) fn hex_pair(text: &str) -> Option<u8>
     ensures { result ≡ hex_pair_read text.now }
 {
     let [high, low] = text.as_bytes() else {

@@ -1,17 +1,19 @@
-use Rattle.std.proofs.lemmas.Str.{IsCharBoundary-after_ascii}
-use Rattle.str0m_values.proofs.Common.{lit<}
-use Rattle.str0m_values.proofs.FingerprintPieces.{hash_pair_front}
+use Rattle.str0m_values.proofs.Common.{sym, arith, length-append}
+use Rattle.str0m_values.proofs.CutLaws.{cut_found}
+use Rattle.str0m_values.proofs.FingerprintPieces.{hash_front_cut, hash_front_whole}
 use Rattle.str0m_values.proofs.fingerprint.first_hash_byte.Goals as goal
 
-pub range_from-requires : goal.range_from-requires
-range_from-requires c =
-    let long = rw c.as_bytes-bytes.ensures.value at c.if-bytes-gt2.true in
-    let is = rw c.as_bytes-bytes.ensures.value at c.if-bytes-eq58.true in
-    λ _. IsCharBoundary-after_ascii c.args.text.now 2 c.utf8.text long (rw is (lit< tt))
+pub returns-in-Some-clause-front : goal.returns-in-Some-clause-front
+returns-in-Some-clause-front c = (
+  c.in-Some.piece.now,
+  hash_front_cut c.args.text.now c.in-Some.piece.now c.in-Some.rest.now (sym c.in-Some.ensures),
+  c.hex_u8.ensures,
+)
 
-pub returns-then-is_some-clause-front : goal.returns-then-is_some-clause-front
-returns-then-is_some-clause-front c =
-    rw c.range_from.ensures.value
-    (hash_pair_front c.args.text.now c.pair_byte-byte.result (rw c.as_bytes-bytes.ensures.value at c.if-bytes-gt2.true)
-    (rw c.as_bytes-bytes.ensures.value at c.if-bytes-eq58.true) (rw c.as_bytes-bytes.ensures.value at c.pair_byte-byte.ensures)
-    (rw c.is_some.ensures at c.if-is_some.true))
+pub returns-in-Some-clause-shorter : goal.returns-in-Some-clause-shorter
+returns-in-Some-clause-shorter c =
+    let found = cut_found 58 c.args.text.now c.in-Some.piece.now c.in-Some.rest.now (sym c.in-Some.ensures) in
+    rw found.0 (omega (arith, length-append c.in-Some.piece.now))
+
+pub returns-in-None-clause-front : goal.returns-in-None-clause-front
+returns-in-None-clause-front c = (c.args.text.now, hash_front_whole c.args.text.now (sym c.in-None.ensures), c.hex_u8-in-None.ensures)

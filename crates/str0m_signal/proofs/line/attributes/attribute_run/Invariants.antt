@@ -4,9 +4,9 @@ use Rattle.str0m_signal.specs.line.Lines.{Chain}
 use Rattle.str0m_signal.specs.line.LinesReading.{lines_of, read_attribute, ReadsTo}
 
 -- the attributes so far are those of the lines before the rest
-abbrev pub invariant-loop-attributes : goal.invariant-loop-attributes
-invariant-loop-attributes g l =
+abbrev pub invariant-loop-content : goal.invariant-loop-content
+invariant-loop-content g l =
     shadow (Utf8 l.rest) × Chain (ReadsTo (read_attribute g.A.Attribute.reading)) (lines_of l.fn.text) l.attributes.items (lines_of l.rest)
 
-abbrev pub decreases-loop-attributes : goal.decreases-loop-attributes
-decreases-loop-attributes g l = length (lines_of l.rest)
+abbrev pub decreases-loop-content : goal.decreases-loop-content
+decreases-loop-content g l = length (lines_of l.rest)
