@@ -7,7 +7,7 @@ use crate::json_writer::JsonWriter;
 use crate::words::{first_word, words_after_label};
 use std::alloc::{AllocError, Global};
 use str0m_sdp::label;
-use str0m_signal::{MediaAttribute, Simulcast, Ssrc, Text};
+use str0m_signal::{MediaAttribute, Name, Simulcast, Ssrc, Text};
 
 /// The text, where it isn't empty.
 fn some_stream_text(text: &str) -> Option<&str> {
@@ -84,7 +84,7 @@ pub(crate) fn add_source_group(
 pub(crate) fn add_source(
     json: &mut JsonWriter,
     ssrc: Ssrc,
-    attribute: &Text,
+    attribute: &Name,
     value: &Text,
 ) -> Result<(), AllocError>
     requires { InList json.old }

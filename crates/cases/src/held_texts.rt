@@ -4,7 +4,7 @@ use format_cases::Answer;
 use std::alloc::{AllocError, Global};
 use str0m_signal::{
     Boxed, Candidate, CandidateKind, Extension, Fingerprint, IpAddr, Items, MediaAttribute, Mid,
-    Msid, Protocol, Pt, RestrictionId, SessionAttribute, Simulcast, SimulcastGroups,
+    Msid, Name, Protocol, Pt, RestrictionId, SessionAttribute, Simulcast, SimulcastGroups,
     SimulcastLayer, SocketAddr, Ssrc, Text, Word,
 };
 
@@ -90,10 +90,17 @@ fn held_in_stream(answer: &mut Answer, field: &str, text: &str) -> MediaAttribut
 }
 
 fn held_msid(answer: &mut Answer, stream_id: &str, track_id: &str) -> MediaAttribute {
-    MediaAttribute::Msid(Msid {
+    let msid = Msid {
         stream_id: text_of(answer, stream_id),
         track_id: text_of(answer, track_id),
-    })
+    };
+    let made = made_msid(answer.alloc(), msid);
+    answer.kept(made, MediaAttribute::SendRecv)
+}
+
+fn made_msid(alloc: Global, msid: Msid) -> Result<MediaAttribute, AllocError> {
+    let msid = Boxed::new(alloc, msid)?;
+    Ok(MediaAttribute::Msid(msid))
 }
 
 fn held_source_group(answer: &mut Answer, semantics: &str) -> MediaAttribute {
@@ -104,11 +111,18 @@ fn held_source_group(answer: &mut Answer, semantics: &str) -> MediaAttribute {
 }
 
 fn held_source(answer: &mut Answer, attr: &str, value: &str) -> MediaAttribute {
-    MediaAttribute::Ssrc {
+    let made = made_source(answer.alloc(), attr, value);
+    answer.kept(made, MediaAttribute::SendRecv)
+}
+
+fn made_source(alloc: Global, attr: &str, value: &str) -> Result<MediaAttribute, AllocError> {
+    let attr = Name::from_str(alloc, attr)?;
+    let value = Text::from_str(alloc, value)?;
+    Ok(MediaAttribute::Ssrc {
         ssrc: Ssrc::from(1),
-        attr: text_of(answer, attr),
-        value: text_of(answer, value),
-    }
+        attr,
+        value,
+    })
 }
 
 /// A rid whose restriction, if it has one, is named or given by the text; else an attribute of one text.

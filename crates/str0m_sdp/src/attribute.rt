@@ -20,7 +20,7 @@ use std::alloc::AllocError;
 use std::fmt;
 use str0m_formats::FormatParam;
 use str0m_values::{
-    Boxed, Candidate, Direction, Extension, Fingerprint, Items, Mid, Pt, Ssrc, Text,
+    Boxed, Candidate, Direction, Extension, Fingerprint, Items, Mid, Name, Pt, Ssrc, Text,
 };
 
 pub(crate) mod bandwidth;
@@ -118,7 +118,7 @@ pub enum MediaAttribute {
     /// `a=inactive` (RFC 8866, section 6.7.4).
     Inactive,
     /// `a=msid:` (RFC 8830, section 2).
-    Msid(Msid),
+    Msid(Boxed<Msid>),
     /// `a=rtcp-mux` (RFC 5761, section 5.1.1).
     RtcpMux,
     /// `a=rtcp-mux-only` (RFC 8858, section 3).
@@ -176,7 +176,7 @@ pub enum MediaAttribute {
         /// The source that the line speaks of.
         ssrc: Ssrc,
         /// The name of what it says, as `cname`.
-        attr: Text,
+        attr: Name,
         /// The text after the colon that ends the name.
         value: Text,
     },
@@ -302,7 +302,7 @@ impl fmt::Display for MediaAttribute {
             MediaAttribute::SendRecv => write_alone(f, label::SEND_RECV),
             MediaAttribute::SendOnly => write_alone(f, label::SEND_ONLY),
             MediaAttribute::Inactive => write_alone(f, label::INACTIVE),
-            MediaAttribute::Msid(msid) => write_labelled(f, label::MSID, msid),
+            MediaAttribute::Msid(msid) => write_labelled(f, label::MSID, msid.get()),
             MediaAttribute::RtcpMux => write_alone(f, label::RTCP_MUX),
             MediaAttribute::RtcpMuxOnly => write_alone(f, label::RTCP_MUX_ONLY),
             MediaAttribute::RtcpRsize => write_alone(f, label::RTCP_RSIZE),

@@ -63,6 +63,6 @@ pub use str0m_values::{
     Boxed, Candidate, CandidateKind, Direction, Extension, Fingerprint, FingerprintError,
     FingerprintFmt, Frequency, H264Level, H264Profile, H264ProfileLevel, H265Level, H265Profile,
     H265ProfileTierLevel, H265Tier, H266Level, H266Profile, H266ProfileTierLevel, H266Tier,
-    IceCreds, IpAddr, Items, Leveled, MediaKind, Mid, NoProfileLevel, Numbered, ProfileTierLevel,
-    Protocol, Pt, Rid, SessionId, SocketAddr, Ssrc, TcpType, Text, lower_level,
+    IceCreds, IpAddr, Items, Leveled, MediaKind, Mid, Name, NoProfileLevel, Numbered,
+    ProfileTierLevel, Protocol, Pt, Rid, SessionId, SocketAddr, Ssrc, TcpType, Text, lower_level,
 };

@@ -13,7 +13,9 @@ pub mod H264
 pub mod H265
 pub mod H266
 pub mod LabelReading
+pub mod KnownExtension
 pub mod Labels
+pub mod Name
 pub mod ProfileTierLevel
 pub mod Protocol
 pub mod Separator

@@ -1,8 +1,23 @@
 //! Header extensions of RTP.
-ghost use Rattle.std.specs.Prelude.{◌≡◌, IfOk, true};
+ghost use Rattle.std.specs.Prelude.{◌≡◌, IfOk, IsOk, true};
+ghost use Rattle.str0m_values.specs.KnownExtension.{is_known_uri};
 
+use crate::known_extension::KNOWN_EXTENSIONS;
 use crate::text::Text;
+use crate::words::{Worded, case_of};
 use std::alloc::{AllocError, Global};
+
+/// The text of a URI. The only error is that memory was refused.
+#[tactic(auto, using(crate::proofs::WordsOfCases::case_found_passes), unfolding(crate::specs::KnownExtension::is_known_uri, crate::specs::Words::case_of))]
+fn uri_text(alloc: Global, uri: &str) -> Result<Text, AllocError>
+    ensures copy { IfOk result (λ text. text ≡ uri.now) }
+    ensures known { is_known_uri uri.now ≡ true → IsOk result }
+{
+    match case_of(&KNOWN_EXTENSIONS, uri) {
+        Some(known) => Ok(Text::from_static(known.word())),
+        None => Text::from_str(alloc, uri),
+    }
+}
 
 /// A header extension, which its URI names (RFC 8285, section 5).
 #[derive(Clone, Debug, PartialEq, Eq, Drop)]
@@ -15,19 +30,21 @@ pub struct Extension {
 
 impl Extension {
     /// The extension of a URI that stands in a description, so that descriptions list it. The only error is
-    /// that memory was refused.
+    /// that memory was refused, of which the URIs that browsers write need none.
     pub fn from_sdp_uri(alloc: Global, uri: &str) -> Result<Extension, AllocError>
-        ensures { IfOk result (λ e. e ≡ record { uri = uri.now; serialized = true }) }
+        ensures made { IfOk result (λ e. e ≡ record { uri = uri.now; serialized = true }) }
+        ensures known { is_known_uri uri.now ≡ true → IsOk result }
     {
         Extension::new(alloc, uri, true)
     }
 
     /// The extension of a URI, which descriptions list where `serialized` holds. The only error is that memory
-    /// was refused.
+    /// was refused, of which the URIs that browsers write need none.
     pub fn new(alloc: Global, uri: &str, serialized: bool) -> Result<Extension, AllocError>
-        ensures { IfOk result (λ e. e ≡ record { uri = uri.now; serialized = serialized }) }
+        ensures made { IfOk result (λ e. e ≡ record { uri = uri.now; serialized = serialized }) }
+        ensures known { is_known_uri uri.now ≡ true → IsOk result }
     {
-        let uri = Text::from_str(alloc, uri)?;
+        let uri = uri_text(alloc, uri)?;
         Ok(Extension { uri, serialized })
     }
 

@@ -18,8 +18,10 @@
 //! - `ice_creds`: The credentials of an ICE agent.
 //! - `identifier`: The names of media sections, and of the streams in them.
 //! - `items`: A list of values that contracts see as the list of its items.
+//! - `known_extension`: The header extensions that browsers write.
 //! - `labels`: Words after labels.
 //! - `media_kind`: Kinds of media.
+//! - `name`: A name that contracts see as its bytes.
 //! - `payload_type`: Payload types.
 //! - `profile_tier_level`: What H265 and H266 say of a stream: a profile, a tier and a level.
 //! - `protocol`: The transports that carry a candidate.
@@ -49,8 +51,10 @@ mod h266;
 mod ice_creds;
 mod identifier;
 mod items;
+mod known_extension;
 mod labels;
 mod media_kind;
+mod name;
 mod payload_type;
 mod profile_tier_level;
 mod protocol;
@@ -76,6 +80,7 @@ pub use ice_creds::IceCreds;
 pub use identifier::{Mid, Rid};
 pub use items::Items;
 pub use media_kind::MediaKind;
+pub use name::Name;
 pub use payload_type::Pt;
 pub use profile_tier_level::{Leveled, Numbered, ProfileTierLevel};
 pub use protocol::{Protocol, TcpType};

@@ -16,11 +16,12 @@ use std::ops::{AsDeref, DerefStr};
 /// have fewer.
 const TEXT_IN_PLACE: usize = 16;
 
-/// Where the bytes of a text lie: in place, or in memory of their own.
+/// Where the bytes of a text lie: in place, in memory of their own, or in the program.
 #[derive(Drop)]
 enum TextLetters {
     Short(ArrayString<TEXT_IN_PLACE>),
     Long(String),
+    Static(&'static str),
 }
 
 /// A text whose room and allocator no contract sees: two texts are equal where their bytes are. One that is copied from a slice of up
@@ -67,6 +68,14 @@ impl Text {
         Ok(Text { letters })
     }
 
+    /// A text of the program's own, as a constant. It takes no memory, however long it is.
+    pub fn from_static(letters: &'static str) -> Text
+        ensures { result ≡ letters.now }
+    {
+        let letters = TextLetters::Static(letters);
+        Text { letters }
+    }
+
     /// The text as a `str`.
     pub fn as_str(&self) -> &str
         ensures value { result.now ≡ self.now }
@@ -75,6 +84,7 @@ impl Text {
         match &self.letters {
             TextLetters::Short(letters) => letters.as_str(),
             TextLetters::Long(letters) => letters.as_str(),
+            TextLetters::Static(letters) => *letters,
         }
     }
 
@@ -94,6 +104,7 @@ impl Text {
         match letters {
             TextLetters::Short(letters) => String::from_str(alloc, letters.as_str()),
             TextLetters::Long(letters) => Ok(letters),
+            TextLetters::Static(letters) => String::from_str(alloc, letters),
         }
     }
 }
@@ -133,6 +144,7 @@ impl Clone for Text {
         let letters = match &self.letters {
             TextLetters::Short(letters) => TextLetters::Short(*letters),
             TextLetters::Long(letters) => TextLetters::Long(letters.clone()?),
+            TextLetters::Static(letters) => TextLetters::Static(*letters),
         };
         Ok(Text { letters })
     }

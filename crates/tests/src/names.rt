@@ -1,8 +1,8 @@
-//! Texts, names and extensions: how they compare, and what a text shows of itself.
+//! Texts, names and extensions: how they compare, and what texts and names show of themselves.
 
 use std::alloc::{AllocError, Global};
 use std::test::Fail;
-use str0m_values::{Extension, Mid, Rid, Text};
+use str0m_values::{Extension, Mid, Name, Rid, Text};
 
 /// What a text is made of, what that begins with, and how the text shows itself. One of more than sixteen bytes lies elsewhere
 /// than a shorter one.
@@ -32,6 +32,35 @@ fn is_name_text_as_str(
     let text = Text::from_str(alloc, held)?;
     let is_so = text.starts_with(begin) && is_name_text_shown_so(alloc, &text, shown)?;
     Ok(is_so && is_name_text_held(&Some(text), held))
+}
+
+/// Names of what is said of sources, and how such a name shows itself and prints. One of more than eight bytes lies elsewhere than a
+/// shorter one.
+static SOURCE_NAMES: [(&str, &str); 2] = [
+    ("cname", "\"cname\" cname"),
+    ("previous-ssrc", "\"previous-ssrc\" previous-ssrc"),
+];
+
+/// Whether a name equals its copy, and shows itself and prints so.
+fn is_source_name_shown_so(alloc: Global, name: &Name, shown: &str) -> Result<bool, AllocError> {
+    let copy = name.clone()?;
+    let said = format!(in alloc; "{copy:?} {name}")?;
+    Ok(copy == *name && said.as_str() == shown)
+}
+
+/// Whether a name that is made of this str begins with it, shows itself and prints so.
+fn is_source_name_as_str(alloc: Global, held: &str, shown: &str) -> Result<bool, AllocError> {
+    let name = Name::from_str(alloc, held)?;
+    Ok(name.starts_with(held) && is_source_name_shown_so(alloc, &name, shown)?)
+}
+
+/// Whether a text of the program's own equals its copy, and is the str again.
+fn is_static_text_as_str(alloc: Global, held: &'static str) -> Result<bool, AllocError> {
+    let text = Text::from_static(held);
+    let copy = text.clone()?;
+    let is_same = copy == text;
+    let string = copy.into_string(alloc)?;
+    Ok(is_same && string.as_str() == held)
 }
 
 const MID_URI: &str = "urn:ietf:params:rtp-hdrext:sdes:mid";
@@ -67,6 +96,10 @@ fn texts_and_names_compare_by_what_they_keep(rt: HostRuntime) -> Result<(), Fail
             "{held}"
         );
     }
+    for (held, shown) in &SOURCE_NAMES {
+        assert!(rt; is_source_name_as_str(rt.alloc(), held, shown)?, "{held}");
+    }
+    assert!(rt; is_static_text_as_str(rt.alloc(), MID_URI)?);
     assert!(rt; Mid::from("0123456789abcdefg") == Mid::from("0123456789abcdef"));
     assert!(rt; Mid::from("0") != Mid::from("00"));
     assert!(rt; Rid::from("hi") == Rid::from("hi"));

@@ -90,11 +90,13 @@ pub(crate) fn push_msid(
         return Ok(());
     }
     let stream_id = own.stream_id.clone()?;
-    let track_id = track_id(*lines.allocator(), mid)?;
-    lines.push(MediaAttribute::Msid(Msid {
+    let alloc = *lines.allocator();
+    let track_id = track_id(alloc, mid)?;
+    let msid = Msid {
         stream_id,
         track_id,
-    }))?;
+    };
+    lines.push(MediaAttribute::Msid(Boxed::new(alloc, msid)?))?;
     Ok(())
 }
 

@@ -7,13 +7,13 @@ ghost use Rattle.str0m_sdp.specs.form.Printed.{labelled_line};
 use crate::form::printed::{Printed, write_paired};
 use crate::label;
 use std::fmt;
-use str0m_values::{Ssrc, Text};
+use str0m_values::{Name, Ssrc, Text};
 
 /// Writes the `a=ssrc` line of a source, with its end (RFC 5576, section 4.1).
 pub(crate) fn write_source<W: fmt::Write>(
     f: &mut fmt::Formatter<W>,
     ssrc: Ssrc,
-    attr: &Text,
+    attr: &Name,
     value: &Text,
 ) -> fmt::Result
     ensures { WritesOnOk W.write_str_gives f.old result
@@ -25,7 +25,7 @@ pub(crate) fn write_source<W: fmt::Write>(
 /// What is said of a source: a name and a value after a colon.
 #[derive(Drop)]
 struct SourceSaid<'a> {
-    attr: &'a Text,
+    attr: &'a Name,
     value: &'a Text,
 }
 

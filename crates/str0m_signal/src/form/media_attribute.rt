@@ -45,10 +45,13 @@ fn media_pair(alloc: Global, text: &str) -> Result<Option<MediaAttribute>, Alloc
     ensures { IfOk result (λ found. found ≡ (pair_forms media_pairs).read text.now) }
 {
     match both_texts_kept(alloc, text, label::MSID)? {
-        Some((stream_id, track_id)) => Ok(Some(MediaAttribute::Msid(Msid {
-            stream_id,
-            track_id,
-        }))),
+        Some((stream_id, track_id)) => {
+            let msid = Msid {
+                stream_id,
+                track_id,
+            };
+            Ok(Some(MediaAttribute::Msid(Boxed::new(alloc, msid)?)))
+        }
         None => Ok(None),
     }
 }

@@ -8,7 +8,7 @@ use crate::line::parts::parts;
 use std::alloc::{AllocError, Global};
 use str0m_sdp::{MediaAttribute, label};
 use str0m_values::cuts::{cut, num_u32};
-use str0m_values::{Pt, Separator, Ssrc, Text};
+use str0m_values::{Name, Pt, Separator, Ssrc, Text};
 
 /// The rtcp-fb line of the text after `a=`.
 #[inline(always)]
@@ -47,7 +47,7 @@ pub(crate) fn ssrc(alloc: Global, text: &str) -> Result<Option<MediaAttribute>, 
     let Some((attr, value)) = two_texts(more, Separator::Colon) else {
         return Ok(None);
     };
-    let attr = Text::from_str(alloc, attr)?;
+    let attr = Name::from_str(alloc, attr)?;
     let value = Text::from_str(alloc, value)?;
     Ok(Some(MediaAttribute::Ssrc {
         ssrc: Ssrc::from(ssrc),
