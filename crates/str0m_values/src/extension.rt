@@ -2,9 +2,9 @@
 ghost use Rattle.std.specs.Prelude.{◌≡◌, IfOk, IsOk, true};
 ghost use Rattle.str0m_values.specs.KnownExtension.{is_known_uri};
 
-use crate::known_extension::KNOWN_EXTENSIONS;
+use crate::known_extension::known_extension;
 use crate::text::Text;
-use crate::words::{Worded, case_of};
+use crate::words::Worded;
 use std::alloc::{AllocError, Global};
 
 /// The text of a URI. The only error is that memory was refused.
@@ -13,7 +13,7 @@ fn uri_text(alloc: Global, uri: &str) -> Result<Text, AllocError>
     ensures copy { IfOk result (λ text. text ≡ uri.now) }
     ensures known { is_known_uri uri.now ≡ true → IsOk result }
 {
-    match case_of(&KNOWN_EXTENSIONS, uri) {
+    match known_extension(uri) {
         Some(known) => Ok(Text::from_static(known.word())),
         None => Text::from_str(alloc, uri),
     }

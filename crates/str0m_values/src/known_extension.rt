@@ -1,5 +1,8 @@
 //! The header extensions that browsers write.
+ghost use Rattle.std.specs.Prelude.{◌≡◌, bytes_eq};
 ghost use Rattle.str0m_values.specs.KnownExtension.{known_uri};
+ghost use Rattle.str0m_values.specs.Words.{case_of};
+ghost use Rattle.str0m_values.specs.declared.known_extension.TheConstants.{KNOWN_EXTENSIONS};
 
 use crate::words::Worded;
 
@@ -98,4 +101,24 @@ impl Worded for KnownExtension {
             KnownExtension::DependencyDescriptor => DEPENDENCY_DESCRIPTOR,
         }
     }
+}
+
+/// Whether the extension has this URI. Nearly all have a length of their own.
+#[inline(always)]
+fn has_uri(known: KnownExtension, uri: &str) -> bool
+    ensures { result ≡ bytes_eq uri.now (known_uri known) }
+{
+    let known = known.word();
+    known.len() == uri.len() && uri == known
+}
+
+/// The extension of a URI; none where the program has it not.
+#[tactic(auto, unfolding(crate::specs::Words::case_of))]
+pub(crate) fn known_extension(uri: &str) -> Option<KnownExtension>
+    ensures { result ≡ case_of known_uri KNOWN_EXTENSIONS uri.now }
+{
+    KNOWN_EXTENSIONS
+        .iter()
+        .copied()
+        .find(|known| has_uri(*known, uri))
 }
