@@ -1,10 +1,11 @@
 """Reading by the C library from C, Go, Python and Rust beside the direct call, and by pion and aiortc: how the programs that time it
 (scripts/bench/) are built, what they say, and how long each call may take.
 
-They call the library as ./install puts it into a folder. They take turns, and each starts anew for a turn: so what else the machine does, and
-where a process happens to lie in memory, decide little."""
+They call the library as ./install puts it into a folder. They take turns at each text, and each starts anew for a turn: so what else the machine
+does, and where a process happens to lie in memory, decide little. What a call takes of another is the middle of what it takes in each turn."""
 import math
 import shutil
+import statistics
 import subprocess
 import sys
 from dataclasses import dataclass
@@ -172,26 +173,30 @@ PROGRAMS = (
 
 @dataclass
 class Timing:
-    """The programs with their commands, and the least of what they have said so far."""
+    """The programs with their commands, and by file and call what they have said so far, turn by turn."""
 
     programs: list
     env: dict
-    told: dict
+    said: dict
 
     def turns(self, files, count):
-        """Lets each program have so many turns."""
+        """Lets each program have so many turns at each file."""
         for _ in range(count):
-            for program, command in self.programs:
-                for key, time in program.says(command, files, self.env):
-                    self.told[key] = min(time, self.told.get(key, math.inf))
+            for file in files:
+                for program, command in self.programs:
+                    for key, time in program.says(command, [file], self.env):
+                        self.said.setdefault(key, []).append(time)
+
+    def least(self, file, call):
+        return min(self.said[file, call])
 
     def calls(self):
         return [it for program, _ in self.programs for it in program.calls.values()]
 
     def ratio(self, file, limit):
         """What a call takes of what another takes; None where one of both isn't timed, or the other refuses the text."""
-        own, other = (self.told.get((file, it)) for it in (limit.call, limit.other))
-        return None if own is None or other in (None, math.inf) else own / other
+        own, other = (self.said.get((file, it), []) for it in (limit.call, limit.other))
+        return statistics.median(one / of for one, of in zip(own, other)) if own and other and math.inf not in other else None
 
     def beyond(self, files):
         """The files and limits that a call passes."""

@@ -25,6 +25,7 @@ use str0m_values::cuts::num_u16;
 use str0m_values::{Boxed, Items, Text};
 
 /// The attributes that are a label and a text.
+#[inline(never)]
 fn media_text(alloc: Global, text: &str) -> Result<Option<MediaAttribute>, AllocError>
     ensures { IfOk result (λ found. found ≡ (texts media_texts).read text.now) }
 {
@@ -41,6 +42,7 @@ fn media_text(alloc: Global, text: &str) -> Result<Option<MediaAttribute>, Alloc
 }
 
 /// The attributes that are a label and two texts.
+#[inline(never)]
 fn media_pair(alloc: Global, text: &str) -> Result<Option<MediaAttribute>, AllocError>
     ensures { IfOk result (λ found. found ≡ (pair_forms media_pairs).read text.now) }
 {
@@ -56,6 +58,7 @@ fn media_pair(alloc: Global, text: &str) -> Result<Option<MediaAttribute>, Alloc
     }
 }
 
+#[inline(never)]
 fn rtcp(alloc: Global, text: &str) -> Result<Option<MediaAttribute>, AllocError>
     ensures { IfOk result (λ found. found ≡ rtcp.read text.now) }
 {
@@ -65,6 +68,7 @@ fn rtcp(alloc: Global, text: &str) -> Result<Option<MediaAttribute>, AllocError>
     }
 }
 
+#[inline(never)]
 fn sctp_port(text: &str) -> Option<MediaAttribute>
     ensures { result ≡ sctp_port.read text.now }
 {
@@ -72,6 +76,7 @@ fn sctp_port(text: &str) -> Option<MediaAttribute>
     Some(MediaAttribute::SctpPort(num_u16(body)?))
 }
 
+#[inline(never)]
 fn sctp_init(alloc: Global, text: &str) -> Result<Option<MediaAttribute>, AllocError>
     ensures { IfOk result (λ found. found ≡ sctp_init.read text.now) }
 {
@@ -81,6 +86,7 @@ fn sctp_init(alloc: Global, text: &str) -> Result<Option<MediaAttribute>, AllocE
     }
 }
 
+#[inline(never)]
 fn max_message_size(text: &str) -> Option<MediaAttribute>
     ensures { result ≡ max_message_size.read text.now }
 {
@@ -88,6 +94,7 @@ fn max_message_size(text: &str) -> Option<MediaAttribute>
     Some(MediaAttribute::MaxMessageSize(num_u64(body)?))
 }
 
+#[inline(never)]
 fn media_fingerprint(alloc: Global, text: &str) -> Result<Option<MediaAttribute>, AllocError>
     ensures { IfOk result (λ found. found ≡ (form_made_as fingerprint Fingerprint).read text.now) }
 {
@@ -97,6 +104,7 @@ fn media_fingerprint(alloc: Global, text: &str) -> Result<Option<MediaAttribute>
     }
 }
 
+#[inline(never)]
 fn media_candidate(alloc: Global, text: &str) -> Result<Option<MediaAttribute>, AllocError>
     ensures { IfOk result (λ found. found ≡ (form_made_as candidate Candidate).read text.now) }
 {
@@ -106,6 +114,7 @@ fn media_candidate(alloc: Global, text: &str) -> Result<Option<MediaAttribute>, 
     }
 }
 
+#[inline(never)]
 fn media_setup(text: &str) -> Option<MediaAttribute>
     ensures { result ≡ (setup Setup).read text.now }
 {
@@ -113,6 +122,7 @@ fn media_setup(text: &str) -> Option<MediaAttribute>
     Some(MediaAttribute::Setup(role_field(word)?))
 }
 
+#[inline(never)]
 fn mid(text: &str) -> Option<MediaAttribute>
     ensures { result ≡ mid.read text.now }
 {

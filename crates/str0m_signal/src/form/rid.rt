@@ -241,6 +241,7 @@ fn made_rid(
 }
 
 /// The rid line of the text after `a=`.
+#[inline(never)]
 pub(crate) fn rid(alloc: Global, text: &str) -> Result<Option<MediaAttribute>, AllocError>
     ensures { IfOk result (λ found. found ≡ rid.read text.now) }
 {

@@ -185,6 +185,7 @@ fn simulcast(send: Items<SimulcastLayer>, recv: Items<SimulcastLayer>) -> Simulc
 }
 
 /// The simulcast line of the text after `a=`.
+#[inline(never)]
 pub(crate) fn simulcast_line(
     alloc: Global,
     text: &str,

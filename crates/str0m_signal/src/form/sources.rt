@@ -32,6 +32,7 @@ pub(crate) fn rtcp_fb(alloc: Global, text: &str) -> Result<Option<MediaAttribute
 }
 
 /// The ssrc line of the text after `a=`.
+#[inline(never)]
 pub(crate) fn ssrc(alloc: Global, text: &str) -> Result<Option<MediaAttribute>, AllocError>
     ensures { IfOk result (λ found. found ≡ ssrc.read text.now) }
 {
@@ -57,6 +58,7 @@ pub(crate) fn ssrc(alloc: Global, text: &str) -> Result<Option<MediaAttribute>, 
 }
 
 /// The ssrc-group line of the text after `a=`.
+#[inline(never)]
 pub(crate) fn ssrc_group(alloc: Global, text: &str) -> Result<Option<MediaAttribute>, AllocError>
     ensures { IfOk result (λ found. found ≡ ssrc_group.read text.now) }
 {
