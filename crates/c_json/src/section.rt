@@ -111,8 +111,8 @@ impl<'a> SaidBySection<'a> {
 }
 
 /// Whether an attribute has a key that is no list.
-pub(crate) fn section_has_key(attr: &MediaAttribute) -> bool {
-    let mut said = SaidBySection::unsaid();
+pub(crate) fn section_has_key<'a>(attr: &'a MediaAttribute) -> bool {
+    let mut said: SaidBySection<'a> = SaidBySection::unsaid();
     said.note(attr)
 }
 

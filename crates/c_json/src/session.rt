@@ -81,8 +81,8 @@ impl<'a> SaidBySession<'a> {
 }
 
 /// Whether an attribute has a key that is no list.
-pub(crate) fn session_has_key(attr: &SessionAttribute) -> bool {
-    let mut said = SaidBySession::unsaid();
+pub(crate) fn session_has_key<'a>(attr: &'a SessionAttribute) -> bool {
+    let mut said: SaidBySession<'a> = SaidBySession::unsaid();
     said.note(attr)
 }
 
