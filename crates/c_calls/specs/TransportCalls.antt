@@ -25,6 +25,10 @@ IsPreferredText sdp text = (found : Option Fingerprint) × IsPreferred (sdp_fing
 abbrev pub lent_candidates : List (Bor Candidate) → List Candidate
 lent_candidates candidates = map (λ (candidate : Bor Candidate). candidate.now) candidates
 
+-- the text of a candidate that is lent
+abbrev pub lent_candidate_text : Bor Candidate → List ℕ
+lent_candidate_text candidate = candidate_text candidate.now
+
 -- the texts of the candidates, each once
 abbrev pub candidate_texts : Sdp → List (List ℕ)
 candidate_texts sdp = map candidate_text (distinct same_candidate (all_candidates sdp))

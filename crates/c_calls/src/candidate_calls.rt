@@ -1,11 +1,11 @@
 //! Calls of candidates.
 
 ghost use Rattle.c_calls.specs.Common.{OfHandle};
-ghost use Rattle.c_calls.specs.Prelude.{IsRoomFull, all_candidates, candidate_text, distinct, same_candidate};
+ghost use Rattle.c_calls.specs.Prelude.{IsRoomFull, all_candidates, distinct, same_candidate};
 ghost use Rattle.c_calls.specs.Said.{Says};
 ghost use Rattle.c_calls.specs.Told.{done, no_memory};
-ghost use Rattle.c_calls.specs.TransportCalls.{candidate_texts, lent_candidates};
-ghost use Rattle.std.specs.Prelude.{◌≡◌, ◌≢◌, ◌⊎◌, IfOk, length, map, slice_get};
+ghost use Rattle.c_calls.specs.TransportCalls.{candidate_texts, lent_candidate_text, lent_candidates};
+ghost use Rattle.std.specs.Prelude.{◌≡◌, ◌≢◌, ◌⊎◌, IfOk, length, option_map, slice_get};
 
 use crate::said::{DONE, NO_MEMORY, NO_SECTION, put_said_text};
 use c_parts::session_handle::SessionHandle;
@@ -56,26 +56,40 @@ pub extern "C" fn zaxp_session_candidates(
     code
 }
 
+/// The candidate in a place among those of a description, each once.
+fn candidate_at<'a>(
+    alloc: Global,
+    sdp: &'a Sdp,
+    index: usize,
+) -> Result<Option<&'a Candidate>, AllocError>
+    ensures { IfOk result (λ found. option_map lent_candidate_text found ≡ slice_get (candidate_texts sdp.now) index) }
+{
+    let mut found = gathered_candidates(alloc, sdp)?;
+    if index >= found.len() {
+        return Ok(None);
+    }
+    Ok(Some(found.swap_remove(index)))
+}
+
 fn put_candidate_text(
     alloc: Global,
-    candidates: &[&Candidate],
-    index: usize,
+    candidate: Option<&Candidate>,
     room: &mut [u8],
     needed: &mut usize,
 ) -> u32
-    ensures { Says (slice_get (map candidate_text (lent_candidates candidates.now)) index) (room.old, needed.old) (result, room.new, needed.new) }
+    ensures { Says (option_map lent_candidate_text candidate.entry) (room.old, needed.old) (result, room.new, needed.new) }
 {
-    if index >= candidates.len() {
-        return NO_SECTION;
+    match candidate {
+        Some(candidate) => put_said_text(candidate.to_sdp_string(alloc), room, needed),
+        None => NO_SECTION,
     }
-    put_said_text(candidates[index].to_sdp_string(alloc), room, needed)
 }
 
 fn put_candidate(alloc: Global, sdp: &Sdp, index: usize, room: &mut [u8], needed: &mut usize) -> u32
     ensures { Says (slice_get (candidate_texts sdp.now) index) (room.old, needed.old) (result, room.new, needed.new) }
 {
-    match gathered_candidates(alloc, sdp) {
-        Ok(found) => put_candidate_text(alloc, found.as_slice(), index, room, needed),
+    match candidate_at(alloc, sdp, index) {
+        Ok(found) => put_candidate_text(alloc, found, room, needed),
         Err(_) => NO_MEMORY,
     }
 }

@@ -1,27 +1,5 @@
 use Rattle.c_calls.proofs.candidate_calls.put_candidate_text.Goals as goal
-use Rattle.c_calls.specs.TransportCalls.{lent_candidates}
-use Rattle.std.proofs.Common.{◌≡◌, ◌∙◌, ℕ, List, Bor, Option, Some, length, map, option_map, ap, refl}
-use Rattle.std.proofs.lemmas.Option.{slice_get-map, slice_get_read}
-use Rattle.std.specs.List.{slice_get}
 use Rattle.str0m_values.specs.Candidate.{candidate_text}
-use Rattle.str0m_values.specs.declared.candidate.Candidate.{Candidate}
 
--- the text of a candidate that is lent
-abbrev lent_text : Option (Bor Candidate) → Option (List ℕ)
-lent_text found = option_map candidate_text (option_map (λ (candidate : Bor Candidate). candidate.now) found)
-
-candidate_text_at : (candidates : List (Bor Candidate)) (i : ℕ)
-    → slice_get (map candidate_text (lent_candidates candidates)) i ≡ lent_text (slice_get candidates i)
-candidate_text_at candidates i =
-    slice_get-map candidate_text (lent_candidates candidates) i
-    ∙ ap (option_map candidate_text) (slice_get-map (λ (candidate : Bor Candidate). candidate.now) candidates i)
-
-pub returns : goal.returns
-returns c =
-    let all : List (Bor Candidate) = c.args.candidates.now in
-    let one : Bor Candidate = c.index-candidates-index.result in
-    let there : slice_get all c.args.index ≡ Some one =
-    slice_get_read all (length all) c.args.index one refl c.if-index-candidates.false c.index-candidates-index.is in
-    let text : slice_get (map candidate_text (lent_candidates all)) c.args.index ≡ Some (candidate_text one.now) =
-    candidate_text_at all c.args.index ∙ ap lent_text there in
-    rw text (c.put_said_text.ensures (candidate_text one.now) c.to_sdp_string.ensures)
+pub returns-in-Some : goal.returns-in-Some
+returns-in-Some c = rw c.in-Some.is (c.put_said_text.ensures (candidate_text c.in-Some.candidate.now) c.to_sdp_string.ensures)
