@@ -22,10 +22,23 @@ fn hash_pair_before(text: &str) -> Option<(u8, &str)>
     Some((byte, more))
 }
 
+/// Whether a hash is pairs of hex digits: asked before there is room for its bytes, since a line that is no fingerprint takes no
+/// memory for one.
+fn is_in_pairs(text: &str) -> bool {
+    let mut rest = text;
+    while let Some((_, more)) = hash_pair_before(rest) {
+        rest = more;
+    }
+    hex_pair(rest).is_some()
+}
+
 /// The bytes of a hash, read in one run over the text; `None` where it is no hash.
 fn hash_in_one_run(alloc: Global, text: &str) -> Result<Option<Items<u8>>, AllocError>
     ensures { IfOk result (λ found. IfSome found (λ bytes. Some bytes ≡ hash_read text.now)) }
 {
+    if !is_in_pairs(text) {
+        return Ok(None);
+    }
     let mut bytes = Vec::with_capacity(alloc, text.len() / 3 + 1)?;
     let mut rest = text;
     while let Some((byte, more)) = hash_pair_before(rest) {
