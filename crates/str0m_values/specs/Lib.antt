@@ -12,8 +12,8 @@ pub mod Frequency
 pub mod H264
 pub mod H265
 pub mod H266
-pub mod LabelReading
 pub mod KnownExtension
+pub mod LabelReading
 pub mod Labels
 pub mod Name
 pub mod ProfileTierLevel

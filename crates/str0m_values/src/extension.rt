@@ -4,7 +4,6 @@ ghost use Rattle.str0m_values.specs.KnownExtension.{is_known_uri};
 
 use crate::known_extension::known_extension;
 use crate::text::Text;
-use crate::words::Worded;
 use std::alloc::{AllocError, Global};
 
 /// The text of a URI. The only error is that memory was refused.
@@ -14,7 +13,7 @@ fn uri_text(alloc: Global, uri: &str) -> Result<Text, AllocError>
     ensures known { is_known_uri uri.now ≡ true → IsOk result }
 {
     match known_extension(uri) {
-        Some(known) => Ok(Text::from_static(known.word())),
+        Some(known) => Ok(Text::of_known(known)),
         None => Text::from_str(alloc, uri),
     }
 }

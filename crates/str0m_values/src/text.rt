@@ -4,7 +4,10 @@ ghost use Rattle.std.specs.Cmp.Lexicographic.{pointwise};
 ghost use Rattle.std.specs.Cmp.Rules.{comparing, hashing};
 ghost use Rattle.std.specs.Hash as fed;
 ghost use Rattle.std.specs.Prelude.{◌≡◌, ◌==◌, ◌≤◌, List, ℕ, IfOk, IsOk, IsTrue, ◌↔◌, length, Some, [], IsUtf8, string_bytes, string_len};
+ghost use Rattle.str0m_values.specs.KnownExtension.{known_uri};
 
+use crate::known_extension::KnownExtension;
+use crate::words::Worded;
 use arrayvec::ArrayString;
 use std::alloc::{AllocError, Global};
 use std::fmt;
@@ -16,12 +19,12 @@ use std::ops::{AsDeref, DerefStr};
 /// have fewer.
 const TEXT_IN_PLACE: usize = 16;
 
-/// Where the bytes of a text lie: in place, in memory of their own, or in the program.
+/// Where the bytes of a text lie: in place, in memory of their own, or in the program, which has the URIs of extensions.
 #[derive(Drop)]
 enum TextLetters {
     Short(ArrayString<TEXT_IN_PLACE>),
     Long(String),
-    Static(&'static str),
+    Known(KnownExtension),
 }
 
 /// A text whose room and allocator no contract sees: two texts are equal where their bytes are. One that is copied from a slice of up
@@ -68,11 +71,11 @@ impl Text {
         Ok(Text { letters })
     }
 
-    /// A text of the program's own, as a constant. It takes no memory, however long it is.
-    pub fn from_static(letters: &'static str) -> Text
-        ensures { result ≡ letters.now }
+    /// The URI of an extension that the program knows. It takes no memory.
+    pub(crate) fn of_known(extension: KnownExtension) -> Text
+        ensures { result ≡ known_uri extension }
     {
-        let letters = TextLetters::Static(letters);
+        let letters = TextLetters::Known(extension);
         Text { letters }
     }
 
@@ -84,7 +87,7 @@ impl Text {
         match &self.letters {
             TextLetters::Short(letters) => letters.as_str(),
             TextLetters::Long(letters) => letters.as_str(),
-            TextLetters::Static(letters) => *letters,
+            TextLetters::Known(extension) => extension.word(),
         }
     }
 
@@ -104,7 +107,7 @@ impl Text {
         match letters {
             TextLetters::Short(letters) => String::from_str(alloc, letters.as_str()),
             TextLetters::Long(letters) => Ok(letters),
-            TextLetters::Static(letters) => String::from_str(alloc, letters),
+            TextLetters::Known(extension) => String::from_str(alloc, extension.word()),
         }
     }
 }
@@ -144,7 +147,7 @@ impl Clone for Text {
         let letters = match &self.letters {
             TextLetters::Short(letters) => TextLetters::Short(*letters),
             TextLetters::Long(letters) => TextLetters::Long(letters.clone()?),
-            TextLetters::Static(letters) => TextLetters::Static(*letters),
+            TextLetters::Known(extension) => TextLetters::Known(*extension),
         };
         Ok(Text { letters })
     }

@@ -54,9 +54,9 @@ fn is_source_name_as_str(alloc: Global, held: &str, shown: &str) -> Result<bool,
     Ok(name.starts_with(held) && is_source_name_shown_so(alloc, &name, shown)?)
 }
 
-/// Whether a text of the program's own equals its copy, and is the str again.
-fn is_static_text_as_str(alloc: Global, held: &'static str) -> Result<bool, AllocError> {
-    let text = Text::from_static(held);
+/// Whether the URI of an extension equals its copy, and is the str again.
+fn is_uri_as_str(alloc: Global, held: &str) -> Result<bool, AllocError> {
+    let text = Extension::from_sdp_uri(alloc, held)?.uri;
     let copy = text.clone()?;
     let is_same = copy == text;
     let string = copy.into_string(alloc)?;
@@ -99,7 +99,7 @@ fn texts_and_names_compare_by_what_they_keep(rt: HostRuntime) -> Result<(), Fail
     for (held, shown) in &SOURCE_NAMES {
         assert!(rt; is_source_name_as_str(rt.alloc(), held, shown)?, "{held}");
     }
-    assert!(rt; is_static_text_as_str(rt.alloc(), MID_URI)?);
+    assert!(rt; is_uri_as_str(rt.alloc(), MID_URI)?);
     assert!(rt; Mid::from("0123456789abcdefg") == Mid::from("0123456789abcdef"));
     assert!(rt; Mid::from("0") != Mid::from("00"));
     assert!(rt; Rid::from("hi") == Rid::from("hi"));
