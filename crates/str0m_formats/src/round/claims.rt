@@ -29,10 +29,14 @@ pub(crate) struct Claims<C> {
 
 impl<C: Claimed> Claims<C> {
     /// The score of a remote row for a row; none where it doesn't match or is left aside.
-    #[tactic(auto, unfolding(crate::specs::round::Choices::choice_points_for))]
+    #[tactic(auto, using(crate::proofs::format::FormatParamsEqual::other_codec), unfolding(crate::specs::round::Choices::choice_points_for, crate::specs::round::MatchScore::score))]
     fn points(&self, row: &PayloadParams, theirs: &PayloadParams) -> Option<usize>
         ensures { result ≡ choice_points_for (C.holds self.now.claimed) self.now.receives row.now theirs.now }
     {
+        // Most rows are of another codec, which takes less to see than to call for a score.
+        if row.spec.codec != theirs.spec.codec {
+            return None;
+        }
         let points = row.match_score(theirs)?;
         // Asked of a row that matches, which few do.
         let is_left_aside = matches!(row.spec.codec, Codec::AmrWb)
