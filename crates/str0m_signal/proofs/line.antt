@@ -7,6 +7,7 @@ pub mod LinesAgain
 pub mod LinesChainLaws
 pub mod LinesEndLaws
 pub mod LinesLaws
+pub mod LinesNearEnd
 pub mod LinesPrinted
 pub mod LinesWhole
 pub mod PairKeyLaws

@@ -1,29 +1,72 @@
 //! The lines of a text.
 
-ghost use Rattle.memchr.specs.Find.{IsFirstByte, is_byte2};
-ghost use Rattle.std.specs.Prelude.{◌≡◌, ◌++◌, option_map};
+ghost use Rattle.memchr.specs.Find.{IsFirstByte, Nowhere, Passes, is_byte2};
+ghost use Rattle.std.specs.Prelude.{◌≡◌, ◌+◌, ◌++◌, ◌≤◌, IfSome, Some, option_map};
 ghost use Rattle.str0m_signal.specs.Prelude.{Lacks};
 ghost use Rattle.str0m_signal.specs.line.LinesReading.{lines_of, clean_line, behind_end, IsAtEnd, both_lines_left};
 
 use crate::line::front::behind_label;
 use memchr::memchr2;
+use std::simd::prelude::*;
 
 /// How many bytes of text a line takes, as a guess that most lines don't pass.
 pub(crate) const BYTES_OF_A_LINE: usize = 48;
 
-/// How many bytes a line's end is first looked for in. The search takes least time where it is given fewer than 64, and several
-/// times as long where it is given more than 191 and the end isn't among the first 64; most lines are shorter.
-const NEAR_LINE_END: [usize; 2] = [63, 191];
+/// How many bytes a line's end is looked for in at once: most lines are shorter, nearly all less than twice as long.
+const NEAR_BYTES: usize = 64;
+
+/// How many bytes are searched first, where the end isn't near: the search takes several times as long where it is given more and
+/// the end isn't among the first 64.
+const FAR_BYTES: usize = 191;
+
+fn ends_line(byte: u8) -> bool
+    ensures { result ≡ is_byte2 10 13 byte }
+{
+    byte == b'\n' || byte == b'\r'
+}
+
+/// How many bytes from there on stand before the first that ends a line, or is as low, among the next that are looked at together;
+/// `None` where there are fewer.
+#[inline(always)]
+#[tactic(auto, using(crate::proofs::line::LinesNearEnd::near_bound))]
+fn bytes_before_end(bytes: &[u8], from: usize) -> Option<usize>
+    ensures none { IfSome result (λ count. Nowhere (Passes (is_byte2 10 13) bytes.now) from (from + count)) }
+    ensures bound { IfSome result (λ count. count ≤ 64) }
+{
+    if bytes.len().saturating_sub(from) < NEAR_BYTES {
+        return None;
+    }
+    let low = u8x64::from_slice(&bytes[from..]).simd_le(u8x64::splat(b'\r'));
+    Some(low.to_bitmask().trailing_zeros() as usize)
+}
+
+/// Where the first line feed or carriage return stands, where it is near, and no other control character up to these stands before it.
+/// To look at so many bytes together takes a third of what a search takes.
+#[inline(always)]
+#[tactic(auto, using(crate::proofs::line::LinesNearEnd::none_before_end))]
+fn near_line_end(bytes: &[u8]) -> Option<usize>
+    ensures { IfSome result (λ at. IsFirstByte (is_byte2 10 13) bytes.now (Some at)) }
+{
+    let mut at = bytes_before_end(bytes, 0)?;
+    if at == NEAR_BYTES {
+        at += bytes_before_end(bytes, NEAR_BYTES)?;
+    }
+    match bytes.get(at) {
+        Some(byte) if ends_line(*byte) => Some(at),
+        _ => None,
+    }
+}
 
 /// Where the first line feed or carriage return stands.
 fn line_end(bytes: &[u8]) -> Option<usize>
     ensures { IsFirstByte (is_byte2 10 13) bytes.now result }
 {
-    for limit in NEAR_LINE_END {
-        let near = &bytes[..bytes.len().min(limit)];
-        if let Some(at) = memchr2(b'\n', b'\r', near) {
-            return Some(at);
-        }
+    if let Some(at) = near_line_end(bytes) {
+        return Some(at);
+    }
+    let far = &bytes[..bytes.len().min(FAR_BYTES)];
+    if let Some(at) = memchr2(b'\n', b'\r', far) {
+        return Some(at);
     }
     memchr2(b'\n', b'\r', bytes)
 }
