@@ -1,6 +1,6 @@
 pub mod CandidateLine
-pub mod Fmtp
 pub mod Fingerprint
+pub mod Fmtp
 pub mod FmtpReading
 pub mod FormReading
 pub mod FormTable

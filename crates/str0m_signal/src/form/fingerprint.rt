@@ -6,6 +6,7 @@ ghost use Rattle.str0m_signal.specs.form.FormTransport.{fingerprint};
 use crate::line::front::behind_label;
 use crate::line::parts::parts;
 use crate::line::words::hex_pair;
+use arrayvec::ArrayVec;
 use std::alloc::{AllocError, Global};
 use str0m_sdp::label;
 use str0m_values::cuts::{cut, strip};
@@ -22,35 +23,29 @@ fn hash_pair_before(text: &str) -> Option<(u8, &str)>
     Some((byte, more))
 }
 
-/// Whether a hash is pairs of hex digits: asked before there is room for its bytes, since a line that is no fingerprint takes no
-/// memory for one.
-fn is_in_pairs(text: &str) -> bool {
-    let mut rest = text;
-    while let Some((_, more)) = hash_pair_before(rest) {
-        rest = more;
-    }
-    hex_pair(rest).is_some()
-}
+/// How many bytes of a hash are read in place, so that their list asks for memory once: SHA-512 makes as many.
+const FEW_HASH_BYTES: usize = 64;
 
-/// The bytes of a hash, read in one run over the text; `None` where it is no hash.
-fn hash_in_one_run(alloc: Global, text: &str) -> Result<Option<Items<u8>>, AllocError>
+/// The bytes of a hash, where they are few.
+fn few_hash_bytes(alloc: Global, text: &str) -> Result<Option<Items<u8>>, AllocError>
     ensures { IfOk result (λ found. IfSome found (λ bytes. Some bytes ≡ hash_read text.now)) }
 {
-    if !is_in_pairs(text) {
-        return Ok(None);
-    }
-    let mut bytes = Vec::with_capacity(alloc, text.len() / 3 + 1)?;
+    let mut few: ArrayVec<u8, FEW_HASH_BYTES> = ArrayVec::new();
     let mut rest = text;
     while let Some((byte, more)) = hash_pair_before(rest) {
-        bytes.push(byte)?;
+        if few.is_full() {
+            return Ok(None);
+        }
+        few.push(byte);
         rest = more;
     }
     match hex_pair(rest) {
-        Some(last) => {
-            bytes.push(last)?;
+        Some(last) if !few.is_full() => {
+            few.push(last);
+            let bytes = Vec::from_slice(alloc, few.as_slice())?;
             Ok(Some(Items::from(bytes)))
         }
-        None => Ok(None),
+        _ => Ok(None),
     }
 }
 
@@ -58,7 +53,7 @@ fn hash_in_one_run(alloc: Global, text: &str) -> Result<Option<Items<u8>>, Alloc
 fn hash_bytes(alloc: Global, text: &str) -> Result<Option<Items<u8>>, AllocError>
     ensures { IfOk result (λ found. found ≡ hash_read text.now) }
 {
-    match hash_in_one_run(alloc, text)? {
+    match few_hash_bytes(alloc, text)? {
         Some(bytes) => Ok(Some(bytes)),
         None => parts::<u8>(alloc, text, Separator::Colon),
     }
