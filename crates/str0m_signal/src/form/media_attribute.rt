@@ -1,10 +1,11 @@
 //! The attributes of a section.
 
-ghost use Rattle.std.specs.Prelude.{◌≡◌, IfOk};
+ghost use Rattle.std.specs.Prelude.{◌≡◌, ◌∷◌, [], IfOk};
 ghost use Rattle.str0m_sdp.specs.declared.attribute.MediaAttribute.TheVariants.{Fingerprint, Setup, Candidate, Unused};
-ghost use Rattle.str0m_signal.specs.form.FormTable.{form_made_as, pair_forms, texts, unused_read, form_first_byte, letter_read};
+ghost use Rattle.str0m_signal.specs.Prelude.{media_words};
+ghost use Rattle.str0m_signal.specs.form.FormTable.{any_word_form, first_read, form_made_as, pair_forms, texts, unused_read, form_first_byte, letter_read};
 ghost use Rattle.str0m_signal.specs.form.FormTransport.{candidate, fingerprint, setup};
-ghost use Rattle.str0m_signal.specs.form.MediaAttribute.{media_texts, media_pairs, rtcp, mid, sctp_port, sctp_init, max_message_size, media_forms, named_read, media_read, IsMediaLine};
+ghost use Rattle.str0m_signal.specs.form.MediaAttribute.{media_texts, media_pairs, rid, rtcp, mid, sctp_port, sctp_init, max_message_size, media_forms, named_read, media_read, IsMediaLine};
 ghost use Rattle.str0m_signal.specs.line.Lines.{Run, OneLine};
 ghost use Rattle.str0m_signal.specs.line.LinesReading.{lines_of, TakesLast};
 
@@ -192,6 +193,24 @@ fn forms_of_m(
     taken(max_message_size(text), place)
 }
 
+/// The rarer forms whose names begin with `r`: where they stood among the others, each line would clear the places of their results.
+#[inline(never)]
+fn rare_forms_of_r(
+    alloc: Global,
+    text: &str,
+    place: &mut Vec<MediaAttribute>,
+) -> Result<bool, AllocError>
+    ensures { IfOk result (TakesLast (first_read (rid ∷ rtcp ∷ any_word_form media_words ∷ []) text.now) place.old.items place.new.items) }
+{
+    if taken_attribute_result(rid(alloc, text), place)? {
+        return Ok(true);
+    }
+    if taken_attribute_result(rtcp(alloc, text), place)? {
+        return Ok(true);
+    }
+    taken(MediaAttribute::from_word(text), place)
+}
+
 /// The forms whose names begin with `r`.
 fn forms_of_r(
     alloc: Global,
@@ -206,13 +225,7 @@ fn forms_of_r(
     if taken_attribute_result(rtcp_fb(alloc, text), place)? {
         return Ok(true);
     }
-    if taken_attribute_result(rid(alloc, text), place)? {
-        return Ok(true);
-    }
-    if taken_attribute_result(rtcp(alloc, text), place)? {
-        return Ok(true);
-    }
-    taken(MediaAttribute::from_word(text), place)
+    rare_forms_of_r(alloc, text, place)
 }
 
 /// The forms whose names begin with `s`.
