@@ -90,17 +90,17 @@ pub(crate) fn next_line<A: Attribute>(
 /// How many lines a list of attributes has room for at first, where the text may have so many: no answer depends on it.
 const FIRST_LINES: usize = 32;
 
-/// How many further lines a list of attributes may keep room for.
-const SPARE_LINES: usize = 8;
+/// How many further items a list may keep room for.
+const SPARE_ITEMS: usize = 8;
 
-/// The attributes as they are held, which is for longer than they are read: room for many further lines is given back.
-fn attributes_without_spare_room<A: Drop>(mut attributes: Vec<A>) -> Items<A>
-    ensures { result ≡ attributes.items }
+/// The items as they are held, which is for longer than they are read: room for many further ones is given back.
+pub(crate) fn without_spare_room<T: Drop>(mut items: Vec<T>) -> Items<T>
+    ensures { result ≡ items.items }
 {
-    if attributes.capacity().saturating_sub(attributes.len()) > SPARE_LINES {
-        attributes.shrink_to_fit();
+    if items.capacity().saturating_sub(items.len()) > SPARE_ITEMS {
+        items.shrink_to_fit();
     }
-    Items::from(attributes)
+    Items::from(items)
 }
 
 /// The run of attribute lines that stands next.
@@ -119,5 +119,5 @@ pub(crate) fn attribute_run<A: Attribute>(
         }
         rest = after;
     }
-    Ok((attributes_without_spare_room(attributes), rest))
+    Ok((without_spare_room(attributes), rest))
 }

@@ -3,7 +3,7 @@ ghost use Rattle.std.specs.Prelude.{◌≡◌, ℕ, List, Option, IfOk, is_some}
 ghost use Rattle.str0m_signal.specs.Prelude.{code};
 ghost use Rattle.str0m_signal.specs.form.FormReading.{parted_read};
 
-use crate::line::attributes::taken_attribute_result;
+use crate::line::attributes::{taken_attribute_result, without_spare_room};
 use std::alloc::{AllocError, Global};
 use str0m_values::cuts::cut;
 use str0m_values::{Items, Separator};
@@ -56,7 +56,7 @@ fn read_parts<T: Part>(
         rest = more;
     }
     if taken_attribute_result(T::read(alloc, rest), &mut parts)? {
-        Ok(Some(Items::from(parts)))
+        Ok(Some(without_spare_room(parts)))
     } else {
         Ok(None)
     }
