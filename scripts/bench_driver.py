@@ -63,7 +63,7 @@ def build():
     print("the static library is built, and proved first where it has changed", file=sys.stderr)
     kit, calls = static_library.kit(), static_library.built("bench_calls", BUILD)
     found = [(it, flags) for it in OTHERS if (flags := it.flags()) is not None]
-    parts = [compiled("counted", []), compiled("texts", []), compiled("driver", [f"-DHAS_{it.call.upper()}" for it, _ in found])]
+    parts = [compiled("counted", []), compiled("texts", []), compiled("floor", []), compiled("driver", [f"-DHAS_{it.call.upper()}" for it, _ in found])]
     parts += [compiled(it.call, flags) for it, flags in found]
     to, links = BUILD / "driver", [flag for _, flags in found for flag in flags]
     run(["cc", *parts, calls, kit / "c" / "liblibc_c.a", *links, "-o", to])

@@ -19,6 +19,10 @@ uint64_t bench_sources(const uint8_t *text, size_t length, uint32_t more);
 uint64_t bench_candidates(const uint8_t *text, size_t length, uint32_t more);
 uint64_t bench_consistency(const uint8_t *text, size_t length, uint32_t more);
 
+// of floor.c
+uint64_t floor_lines(const uint8_t *text, size_t length, uint32_t more);
+uint64_t floor_items(const uint8_t *text, size_t length, uint32_t more);
+
 // of other libraries, where they are installed
 uint64_t gstreamer_read(const uint8_t *text, size_t length, uint32_t more);
 uint64_t sofia_read(const uint8_t *text, size_t length, uint32_t more);

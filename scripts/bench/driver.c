@@ -47,6 +47,8 @@ static const struct call CALLS[] = {
     {"sources", bench_sources, 1},
     {"candidates", bench_candidates, 1},
     {"consistency", bench_consistency, 1},
+    {"lines", floor_lines, 0},
+    {"items", floor_items, 0},
 #ifdef HAS_GSTREAMER
     {"gstreamer", gstreamer_read, 0},
 #endif
