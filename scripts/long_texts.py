@@ -166,6 +166,15 @@ LISTS = {
     "types of a RED line": of_list(SECTION + "a=rtpmap:63 red/48000/2\r\na=fmtp:63 ", lambda count: "/".join(["111"] * count)),
 }
 
+# The shortest items of lists and the shortest lines, and how many bytes may be held for a byte of them: a layer takes 72 (docs/DECISIONS.md),
+# a line 64.
+SHORTEST = {
+    "types of a rid": (of_list(SECTION + "a=rid:a send pt=", lambda count: ",".join(["1"] * count)), 12),
+    "sources of a group": (of_list(SECTION + "a=ssrc-group:x ", lambda count: " ".join(["1"] * count)), 12),
+    "layers of a simulcast line": (of_list(SECTION + "a=simulcast:send ", lambda count: ";".join(["a"] * count)), 37),
+    "lines": (lambda count: HEADER + SECTION + "a=x\n" * count, 17),
+}
+
 # By the name of what grows, a text by the number of its lines.
 LINES_OF = {
     "lines of every form": every_form,
