@@ -1,4 +1,5 @@
-// What no reading goes below: the lines found, and no more; and each line's name, number and value kept as an item, with no check.
+// What a reading with types and checks hardly goes below: the lines found, and no more; and each line's name, number and value kept as
+// an item, with no check.
 #include "calls.h"
 
 #include <stdlib.h>
