@@ -20,7 +20,7 @@ CLAUSE = re.compile(r"\b(?:ensures|requires)\*? (\w+) \{")
 GIVEN = re.compile(
     r"args|branch|clause|decreases|else|end|i|if|in|in_default|in_err|in_ok|init|invariant|invariant_of|is|item|iterator|loop|match|not|preserved"
     r"|requires|returns|smaller|test|then|via|Continue|None|Some|deref|deref_mut|from_residual|index|index_mut|into_iter|next|overflow_\w+|range\w*"
-    r"|utf8|writes|(?:eq|ne|le|lt|ge|gt|len)?\d*"
+    r"|utf8|writes|(?:start|end)_boundary|(?:eq|ne|le|lt|ge|gt|len)?\d*"
 )
 
 
@@ -43,8 +43,8 @@ def names_of(line):
 
 
 def clauses():
-    """The names of clauses, with that which rattle gives to what a `fmt` writes."""
-    return {"writes"}.union(*[CLAUSE.findall(it.read_text("utf-8")) for it in CRATES.glob("*/src/**/*.rt")])
+    """The names of clauses, with that which rattle gives to what a `fmt` writes, and those of std on where a text may be cut."""
+    return {"writes", "start_boundary", "end_boundary"}.union(*[CLAUSE.findall(it.read_text("utf-8")) for it in CRATES.glob("*/src/**/*.rt")])
 
 
 def faults():

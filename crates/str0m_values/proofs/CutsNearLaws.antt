@@ -1,10 +1,13 @@
 -- What going over the bytes of a field finds: a cut, and a number.
+use Rattle.std.proofs.Math.Nat.{pow-le-pow_right}
+use Rattle.std.proofs.lemmas.Int.Digits.{digits_value-lt}
 use Rattle.str0m_values.proofs.Common.{◌≡◌, ℕ, zero, suc, ◌<◌, ◌≤◌, ◌+◌, ◌-◌, List, [], ◌∷◌, length, take, drop, Some, None, refl, sym, ap}
 use Rattle.str0m_values.proofs.Common.{arith, AllDigits, digits_value, without_leading_plus, eq-eqb, ne_eqb, numerals_by_value, add-one}
-use Rattle.str0m_values.proofs.Common.{slice_range, tells_digits, digits_value_short, length-take}
+use Rattle.str0m_values.proofs.Common.{slice_range, tells_digits, digits_value_short, length-take, lit<}
 use Rattle.str0m_values.proofs.CutLaws.{cut_none, LacksCut-by_index}
 use Rattle.str0m_values.proofs.CutsNumLaws.{num_reads}
-use Rattle.str0m_values.specs.Cuts.{LacksCutAt, IsFirstCutAt, IsWrittenAs, cut, before_cut, num}
+use Rattle.str0m_values.specs.Cuts.{LacksCutAt, IsFirstCutAt, IsTheOnly, IsWrittenAs, IsWrittenIn, cut, before_cut, num}
+use Rattle.str0m_values.specs.CutsParts.{IsNumber}
 
 cut_at_first : (c : ℕ) (text : List ℕ) (i : ℕ) → IsFirstCutAt c text i → Some (take i text, drop (suc i) text) ≡ cut c text
 cut_at_first c [] i h = absurd (omega (arith, h.0))
@@ -39,3 +42,16 @@ cuts_written_signless digits n h = grind arith
 
 pub cuts_written_fits : (limit : ℕ) (text : List ℕ) (n : ℕ) → IsWrittenAs text n → n ≤ limit → Some n ≡ num limit text
 cuts_written_fits limit text n h le = grind (arith, cuts_written_signless, num_reads)
+
+-- seven hexadecimal digits and one more fit 32 bits
+pub seven_hex_digits : (digits : List ℕ) (i : ℕ) → AllDigits 16 (take i digits) → i ≤ 7 → digits_value 16 (take i digits) < 268435456
+seven_hex_digits digits i h le =
+    let short : length (take i digits) ≤ 7 = omega (arith, le, length-take i digits) in
+    omega (arith, digits_value-lt 16 (take i digits) h, pow-le-pow_right {n = 16} (lit< tt) short)
+
+hex_written_signless : (digits : List ℕ) (n : ℕ) → IsWrittenIn 16 digits n → without_leading_plus digits ≡ digits
+hex_written_signless digits n h = grind arith
+
+-- what digits alone write is the only number in the text
+pub hex_written_only : (text : List ℕ) (n : ℕ) → IsWrittenIn 16 text n → n ≤ 4294967295 → IsTheOnly (IsNumber 16 4294967295 text) (Some n)
+hex_written_only text n h le = grind (arith, hex_written_signless)

@@ -12,7 +12,8 @@ pub mod CutsBothWays
 pub mod CutsNearLaws
 pub mod CutsNumLaws
 pub mod CutsOnlyLaws
-pub mod FingerprintDigits
+pub mod DigitValuesTable
+pub mod FingerprintColonPairs
 pub mod FingerprintLaws
 pub mod FingerprintPairs
 pub mod FingerprintPieces

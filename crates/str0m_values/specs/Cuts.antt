@@ -75,8 +75,12 @@ abbrev pub IsFirstCutAt : ℕ → List ℕ → ℕ → Type 0
 IsFirstCutAt c text i = (i < length text) × (get_or text i 0 ≡ c) × LacksCutAt c text i
 
 -- the digits write n
+abbrev pub IsWrittenIn : ℕ → List ℕ → ℕ → Type 0
+IsWrittenIn radix digits n = IsNumeral radix digits × (n ≡ digits_value radix digits)
+
+-- the number that digits alone write in decimal
 abbrev pub IsWrittenAs : List ℕ → ℕ → Type 0
-IsWrittenAs digits n = IsNumeral 10 digits × (n ≡ digits_value 10 digits)
+IsWrittenAs = IsWrittenIn 10
 
 -- ---- a reading that answers an Option: both ways, and one value at most
 

@@ -1,11 +1,12 @@
 //! The parts of a line: what the readers of the crates above cut texts with.
 //!
-ghost use Rattle.std.specs.Prelude.{◌≡◌, not, option_map, ◌≤◌, length, MatchOption, IfSome};
+ghost use Rattle.std.specs.Prelude.{◌≡◌, not, option_map, ◌≤◌, bytes_eq, length, MatchOption, IfSome};
 ghost use Rattle.std.specs.Str.{str_eq_ignore_ascii_case};
-ghost use Rattle.str0m_values.specs.Cuts.{cut, before, strip, num, parts, lacks, IsFirstCutAt, LacksCutAt, IsWrittenAs, IsTheOnly};
+ghost use Rattle.str0m_values.specs.Cuts.{cut, before, strip, num, parts, lacks, IsFirstCutAt, LacksCutAt, IsWrittenAs, IsWrittenIn, IsTheOnly};
 ghost use Rattle.str0m_values.specs.CutsParts.{IsNumber, IsNumOr};
 ghost use Rattle.str0m_values.specs.Separator.{code};
 
+use crate::digit_values::value_of_digit;
 use crate::separator::Separator;
 
 /// How many bytes at the front of a text are gone over one by one: most fields end there, and calling a search of std
@@ -152,11 +153,45 @@ pub fn hex_u8(text: &str) -> Option<u8>
     u8::from_str_radix(text, 16).ok()
 }
 
+/// The longest number of hexadecimal digits that 32 bits always hold.
+const SHORT_HEX: usize = 8;
+
+/// The number that is written in one to eight hexadecimal digits alone.
+fn short_hex(digits: &[u8]) -> Option<u32>
+    ensures { IfSome result (IsWrittenIn 16 digits.now) }
+{
+    if digits.is_empty() || digits.len() > SHORT_HEX {
+        return None;
+    }
+    let mut number = 0;
+    for i in 0..digits.len() {
+        let value = value_of_digit(digits[i]);
+        if value >= 16 {
+            return None;
+        }
+        number = number * 16 + u32::from(value);
+    }
+    Some(number)
+}
+
 /// The number of 32 bits that std reads in the text in hexadecimal, likewise; `None` where it reads none.
 pub fn hex_u32(text: &str) -> Option<u32>
     ensures { IsTheOnly (IsNumber 16 4294967295 text.now) result }
 {
-    u32::from_str_radix(text, 16).ok()
+    // Most are digits alone, which are read in place.
+    match short_hex(text.as_bytes()) {
+        Some(number) => Some(number),
+        None => u32::from_str_radix(text, 16).ok(),
+    }
+}
+
+/// Whether two texts are the same.
+#[inline(always)]
+pub fn is_exact_text(text: &str, other: &str) -> bool
+    ensures { result ≡ bytes_eq text.now other.now }
+{
+    // Most that meet differ in length, which takes less to see than to call for a comparison.
+    text.len() == other.len() && text == other
 }
 
 /// Whether two texts are equal without regard to the case of ASCII letters.

@@ -1,13 +1,14 @@
 //! Fingerprints of certificates.
-ghost use Rattle.std.specs.Char.{digit_value};
 ghost use Rattle.std.specs.Fmt.{digit_glyph};
 ghost use Rattle.std.specs.Prelude.{◌≡◌, ◌<◌, ◌+◌, ◌∷◌, ◌↔◌, IfOk, IfSome, IsErr, IsErrOf, IsTrue, None, Some, length, true, flat_map};
 ghost use Rattle.str0m_values.specs.CutsParts.{Lacks, part_text_of};
 ghost use Rattle.str0m_values.specs.Fingerprint.{IsFingerprint, IsHexByte, IsFingerprintWrittenBy, HasBadByte, IsHashFront, IsBytesReading, IsBytesReadingAfter, IsFingerprintReading, GivesFingerprint, CanFingerprintBeReadBack, fingerprint_text, hex_pair, pairs_text, hash_preference_of};
 ghost use Rattle.str0m_values.specs.declared.fingerprint.Fingerprint.{Fingerprint};
 ghost use Rattle.str0m_values.specs.declared.fingerprint.FingerprintError.TheVariants.{NoSpace, BadByte, Memory};
+ghost use Rattle.str0m_values.specs.declared.fingerprint.TheConstants.{COLON_PAIRS};
 
 use crate::cuts::{cut, hex_u8, is_same_text};
+use crate::digit_values::value_of_digit;
 use crate::items::Items;
 use crate::separator::Separator;
 use crate::text::Text;
@@ -207,37 +208,6 @@ fn pair_byte(high: u8, low: u8) -> Option<u8>
     }
 }
 
-/// What each byte is worth as a digit of std, below 36, and 36 where it is none: one load takes the place of six tests.
-static DIGIT_VALUES: [u8; 256] = [
-    36, 36, 36, 36, 36, 36, 36, 36, 36, 36, 36, 36, 36, 36, 36, 36, 36, 36, 36, 36, 36, 36, 36, 36,
-    36, 36, 36, 36, 36, 36, 36, 36, 36, 36, 36, 36, 36, 36, 36, 36, 36, 36, 36, 36, 36, 36, 36, 36,
-    0, 1, 2, 3, 4, 5, 6, 7, 8, 9, 36, 36, 36, 36, 36, 36, 36, 10, 11, 12, 13, 14, 15, 16, 17, 18,
-    19, 20, 21, 22, 23, 24, 25, 26, 27, 28, 29, 30, 31, 32, 33, 34, 35, 36, 36, 36, 36, 36, 36, 10,
-    11, 12, 13, 14, 15, 16, 17, 18, 19, 20, 21, 22, 23, 24, 25, 26, 27, 28, 29, 30, 31, 32, 33, 34,
-    35, 36, 36, 36, 36, 36, 36, 36, 36, 36, 36, 36, 36, 36, 36, 36, 36, 36, 36, 36, 36, 36, 36, 36,
-    36, 36, 36, 36, 36, 36, 36, 36, 36, 36, 36, 36, 36, 36, 36, 36, 36, 36, 36, 36, 36, 36, 36, 36,
-    36, 36, 36, 36, 36, 36, 36, 36, 36, 36, 36, 36, 36, 36, 36, 36, 36, 36, 36, 36, 36, 36, 36, 36,
-    36, 36, 36, 36, 36, 36, 36, 36, 36, 36, 36, 36, 36, 36, 36, 36, 36, 36, 36, 36, 36, 36, 36, 36,
-    36, 36, 36, 36, 36, 36, 36, 36, 36, 36, 36, 36, 36, 36, 36, 36, 36, 36, 36, 36, 36, 36, 36, 36,
-    36, 36, 36, 36, 36, 36, 36, 36, 36, 36, 36, 36, 36, 36,
-];
-
-/// The table, whose length a call knows.
-#[inline(always)]
-fn digit_values() -> &'static [u8; 256]
-    ensures { result.now ≡ DIGIT_VALUES }
-{
-    &DIGIT_VALUES
-}
-
-/// What the byte is worth as a digit: 0 to 15 in hexadecimal, of either case.
-#[inline(always)]
-fn value_of_digit(byte: u8) -> u8
-    ensures { result ≡ digit_value byte }
-{
-    digit_values()[byte as usize]
-}
-
 impl fmt::Display for Fingerprint {
     ghost output = { λ f. Some (fingerprint_text f) };
 
@@ -265,7 +235,7 @@ impl<'a> fmt::Display for FingerprintFmt<'a> {
     }
 }
 
-/// Bytes, each as two upper-case hex digits after a `:`, written by fours.
+/// Bytes, each as two upper-case hex digits after a `:`.
 #[derive(Drop)]
 struct MorePairs<'a>(&'a [u8]);
 
@@ -273,59 +243,39 @@ impl<'a> fmt::Display for MorePairs<'a> {
     ghost output = { λ more. Some (flat_map (λ byte. 58 ∷ hex_pair byte) more.0.now) };
 
     fn fmt<W: fmt::Write>(&self, f: &mut fmt::Formatter<W>) -> fmt::Result {
-        let mut left = self.0;
-        while let Some((four, rest)) = left.split_first_chunk::<4>() {
-            FourPairs(*four).fmt(f)?;
-            left = rest;
-        }
-        LastPairs(left).fmt(f)
-    }
-}
-
-/// Four such bytes, in one write, which takes less time than a write for each. All of it is ASCII, so it is never refused.
-#[derive(Clone, Copy)]
-struct FourPairs([u8; 4]);
-
-impl fmt::Display for FourPairs {
-    ghost output = { λ four. Some (flat_map (λ byte. 58 ∷ hex_pair byte) four.0) };
-
-    fn fmt<W: fmt::Write>(&self, f: &mut fmt::Formatter<W>) -> fmt::Result {
-        let [a, b, c, d] = self.0;
-        let text = [
-            b':',
-            digit(a / 16),
-            digit(a % 16),
-            b':',
-            digit(b / 16),
-            digit(b % 16),
-            b':',
-            digit(c / 16),
-            digit(c % 16),
-            b':',
-            digit(d / 16),
-            digit(d % 16),
-        ];
-        match str::from_utf8(&text) {
-            Ok(text) => f.write_str(text),
-            Err(_) => Err(fmt::Error),
-        }
-    }
-}
-
-/// Such bytes, one by one.
-#[derive(Drop)]
-struct LastPairs<'a>(&'a [u8]);
-
-impl<'a> fmt::Display for LastPairs<'a> {
-    ghost output = { λ last. Some (flat_map (λ byte. 58 ∷ hex_pair byte) last.0.now) };
-
-    fn fmt<W: fmt::Write>(&self, f: &mut fmt::Formatter<W>) -> fmt::Result {
         for byte in self.0 {
-            f.write_str(":")?;
-            HexPair(*byte).fmt(f)?;
+            f.write_str(colon_pair(*byte))?;
         }
         Ok(())
     }
+}
+
+/// The two upper-case hex digits of each byte, in order, with `:` before each pair.
+const COLON_PAIRS: &str =
+    ":00:01:02:03:04:05:06:07:08:09:0A:0B:0C:0D:0E:0F:10:11:12:13:14:15:16:17:18:19:1A:1B:1C:1D:1E:1F\
+    :20:21:22:23:24:25:26:27:28:29:2A:2B:2C:2D:2E:2F:30:31:32:33:34:35:36:37:38:39:3A:3B:3C:3D:3E:3F\
+    :40:41:42:43:44:45:46:47:48:49:4A:4B:4C:4D:4E:4F:50:51:52:53:54:55:56:57:58:59:5A:5B:5C:5D:5E:5F\
+    :60:61:62:63:64:65:66:67:68:69:6A:6B:6C:6D:6E:6F:70:71:72:73:74:75:76:77:78:79:7A:7B:7C:7D:7E:7F\
+    :80:81:82:83:84:85:86:87:88:89:8A:8B:8C:8D:8E:8F:90:91:92:93:94:95:96:97:98:99:9A:9B:9C:9D:9E:9F\
+    :A0:A1:A2:A3:A4:A5:A6:A7:A8:A9:AA:AB:AC:AD:AE:AF:B0:B1:B2:B3:B4:B5:B6:B7:B8:B9:BA:BB:BC:BD:BE:BF\
+    :C0:C1:C2:C3:C4:C5:C6:C7:C8:C9:CA:CB:CC:CD:CE:CF:D0:D1:D2:D3:D4:D5:D6:D7:D8:D9:DA:DB:DC:DD:DE:DF\
+    :E0:E1:E2:E3:E4:E5:E6:E7:E8:E9:EA:EB:EC:ED:EE:EF:F0:F1:F2:F3:F4:F5:F6:F7:F8:F9:FA:FB:FC:FD:FE:FF";
+
+/// The pairs, by name: so the proof of what is cut out of them stays short.
+#[inline(always)]
+fn colon_pairs() -> &'static str
+    ensures { result.now ≡ COLON_PAIRS.now }
+{
+    COLON_PAIRS
+}
+
+/// A `:` and the two upper-case hex digits of the byte: to write what stands there takes less than to make it.
+#[inline(always)]
+fn colon_pair(byte: u8) -> &'static str
+    ensures { result.now ≡ 58 ∷ hex_pair byte }
+{
+    let at = byte as usize * 3;
+    &colon_pairs()[at..at + 3]
 }
 
 /// The upper-case hex digit of a number below 16.

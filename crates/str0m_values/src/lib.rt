@@ -7,6 +7,7 @@
 //! - `candidate_label`: What stands in front of each part of a candidate.
 //! - `candidate_text`: The text of a candidate, for the readers of lines.
 //! - `cuts`: The parts of a line: what the readers of the crates above cut texts with.
+//! - `digit_values`: What a byte is worth as a digit.
 //! - `direction`: The ways in which media flow.
 //! - `direction_label`: The words of directions, as attributes of a section say them (RFC 8866, section 6.7).
 //! - `extension`: Header extensions of RTP.
@@ -40,6 +41,7 @@ mod candidate_kind;
 pub mod candidate_label;
 pub mod candidate_text;
 pub mod cuts;
+pub mod digit_values;
 mod direction;
 pub mod direction_label;
 mod extension;

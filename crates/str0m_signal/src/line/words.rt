@@ -7,6 +7,7 @@ use crate::line::fields::short_field;
 use crate::line::parts::Part;
 use std::alloc::{AllocError, Global};
 use str0m_values::cuts::{has, num_u8, num_u32};
+use str0m_values::digit_values::value_of_digit;
 use str0m_values::{Mid, Pt, Separator, Ssrc, Text};
 
 fn is_word(text: &str) -> bool
@@ -94,7 +95,12 @@ impl Part for Ssrc {
 fn digit(byte: u8) -> Option<u32>
     ensures { result ≡ digit_read byte }
 {
-    char::from(byte).to_digit(16)
+    let value = value_of_digit(byte);
+    if value < 16 {
+        Some(u32::from(value))
+    } else {
+        None
+    }
 }
 
 /// The byte of a text that is two hexadecimal digits.
