@@ -1,5 +1,8 @@
 -- Sets of payload types as the bits of a number.
-use Rattle.str0m_formats.proofs.Common.{◌≡◌, ◌==◌, ℕ, ◌+◌, ◌-◌, ◌*◌, ◌%◌, ◌^◌, ◌<◌, ◌≤◌, ◌⊎◌, inl, inr, Bool, false, not, ◌||◌, bit_or}
+use Rattle.std.proofs.lemmas.Nat.{pow_below, pow_pos}
+use Rattle.std.proofs.lemmas.Nat.Bits.{and_pow}
+use Rattle.str0m_formats.proofs.Common.{◌≡◌, ◌==◌, ℕ, ◌+◌, ◌-◌, ◌*◌, ◌%◌, ◌^◌, ◌<◌, ◌≤◌, ◌⊎◌, inl, inr, Bool, true, false, not, ◌||◌}
+use Rattle.str0m_formats.proofs.Common.{bit_or}
 use Rattle.str0m_formats.proofs.Common.{List, ◌++◌, [], Some, None, find, refl, sym, ap, ◌∙◌, arith, lit<, range_with_len, option_or}
 use Rattle.str0m_formats.proofs.Common.{bit_at, eq-eqb, ne_eqb, bit_at-lt, bit_at_set_same, bit_at_set_other, bit_at-zero, or_lt, or-false}
 use Rattle.str0m_formats.proofs.Common.{or-true, find-append, nat_tests, min, bit_not, trailing_zeros, w128, cases_eq, bit_at_and}
@@ -24,6 +27,32 @@ set_bit n k t h = go (cases_eq t k) where
       ap (λ x. x == 1) (bit_at_set_other w128 n k h t ne)
       ∙ sym (or-false (bit_set n t))
       ∙ ap (λ b. bit_set n t || b) (sym (ne_eqb k t (λ e. ne (sym e))))
+
+-- what a set has in common with one type
+common_bit : (n k : ℕ) → k < 128 → bit_and n (1 * 2 ^ k % 2 ^ 128) ≡ bit_at n k * 2 ^ k
+common_bit n k h =
+    let one : 1 * 2 ^ k % 2 ^ 128 ≡ 2 ^ k = omega (arith, pow_below k 128 h) in
+    rw one (and_pow n k)
+
+-- it is nothing exactly where the type isn't in the set
+pub bit_missing : (n k : ℕ) → k < 128 → bit_and n (1 * 2 ^ k % 2 ^ 128) ≡ 0 → bit_set n k ≡ false
+bit_missing n k h none = go (cases_eq (bit_at n k) 0) where
+  go : (bit_at n k ≡ 0) ⊎ (bit_at n k ≡ 0 → ⊥) → bit_set n k ≡ false
+  go (inl e) = ap (λ x. x == 1) e
+  go (inr ne) =
+      let one : bit_at n k ≡ 1 = omega (arith, ne, bit_at-lt n k) in
+      let whole : bit_and n (1 * 2 ^ k % 2 ^ 128) ≡ 1 * 2 ^ k = common_bit n k h ∙ ap (λ x. x * 2 ^ k) one in
+      absurd (omega (arith, none, whole, pow_pos k))
+
+pub bit_there : (n k : ℕ) → k < 128 → (bit_and n (1 * 2 ^ k % 2 ^ 128) ≡ 0 → ⊥) → bit_set n k ≡ true
+bit_there n k h some = go (cases_eq (bit_at n k) 0) where
+  go : (bit_at n k ≡ 0) ⊎ (bit_at n k ≡ 0 → ⊥) → bit_set n k ≡ true
+  go (inl e) =
+      let nothing : bit_and n (1 * 2 ^ k % 2 ^ 128) ≡ 0 * 2 ^ k = common_bit n k h ∙ ap (λ x. x * 2 ^ k) e in
+      absurd (some (omega (arith, nothing)))
+  go (inr ne) =
+      let one : bit_at n k ≡ 1 = omega (arith, ne, bit_at-lt n k) in
+      ap (λ x. x == 1) one
 
 -- no type from 128 on
 pub no_bit : (n t : ℕ) → n < 2 ^ 128 → 128 ≤ t → bit_set n t ≡ false

@@ -65,10 +65,15 @@ impl ClaimMask {
         ensures answer { result ≡ nat_le pt 127 && not (bit_set self.old pt) }
         ensures claimed { (t : ℕ) → bit_set self.new t ≡ bit_set self.old t || (result && pt == t) }
     {
-        if pt.value() > 127 || self.has(pt) {
+        if pt.value() > 127 {
             return false;
         }
-        *self = ClaimMask(self.bits() | 1 << pt.value());
+        let bits = self.bits();
+        let bit = 1 << pt.value();
+        if bits & bit != 0 {
+            return false;
+        }
+        *self = ClaimMask(bits | bit);
         true
     }
 
