@@ -4,7 +4,7 @@ ghost use Rattle.std.specs.Prelude.{◌≡◌, ◌<◌, get_or, set, option_copi
 
 use str0m_sdp::label::{FIR, NACK, PLI, REMB, TRANSPORT_CC};
 use str0m_signal::{MediaAttribute, MediaLine, Pt};
-use str0m_values::cuts::strip;
+use str0m_values::cuts::{is_exact_text, strip};
 
 /// As many payload types as have a place in a table: eight bits hold their numbers.
 const FEEDBACK_TYPES: usize = 256;
@@ -55,11 +55,11 @@ impl OfferedFeedback {
         ensures { result ≡ named_offered words.now }
     {
         OfferedFeedback {
-            transport_cc: words == TRANSPORT_CC,
-            fir: words == FIR,
-            nack: words == NACK,
-            pli: words == PLI,
-            remb: words == REMB,
+            transport_cc: is_exact_text(words, TRANSPORT_CC),
+            fir: is_exact_text(words, FIR),
+            nack: is_exact_text(words, NACK),
+            pli: is_exact_text(words, PLI),
+            remb: is_exact_text(words, REMB),
         }
     }
 

@@ -10,6 +10,7 @@ use crate::label::{FIR, NACK, PLI, REMB, TRANSPORT_CC};
 use crate::section::type_tables::{TYPES, place};
 use std::fmt;
 use str0m_formats::PayloadParams;
+use str0m_values::cuts::is_exact_text;
 use str0m_values::{Pt, Text};
 
 /// Writes the `a=rtcp-fb` line of a payload type, with its end (RFC 4585, section 4.2).
@@ -55,11 +56,11 @@ impl Feedback {
         ensures { result ≡ named_feedback value.now }
     {
         Feedback {
-            transport_cc: value == TRANSPORT_CC,
-            fir: value == FIR,
-            nack: value == NACK,
-            pli: value == PLI,
-            remb: value == REMB,
+            transport_cc: is_exact_text(value, TRANSPORT_CC),
+            fir: is_exact_text(value, FIR),
+            nack: is_exact_text(value, NACK),
+            pli: is_exact_text(value, PLI),
+            remb: is_exact_text(value, REMB),
         }
     }
 
