@@ -1,6 +1,6 @@
 //! The parts of a line: what the readers of the crates above cut texts with.
 //!
-ghost use Rattle.std.specs.Prelude.{◌≡◌, not, option_map, ◌≤◌, bytes_eq, length, MatchOption, IfSome};
+ghost use Rattle.std.specs.Prelude.{◌≡◌, not, option_map, ◌≤◌, length, MatchOption, IfSome};
 ghost use Rattle.std.specs.Str.{str_eq_ignore_ascii_case};
 ghost use Rattle.str0m_values.specs.Cuts.{cut, before, strip, num, parts, lacks, IsFirstCutAt, LacksCutAt, IsWrittenAs, IsWrittenIn, IsTheOnly};
 ghost use Rattle.str0m_values.specs.CutsParts.{IsNumber, IsNumOr};
@@ -183,15 +183,6 @@ pub fn hex_u32(text: &str) -> Option<u32>
         Some(number) => Some(number),
         None => u32::from_str_radix(text, 16).ok(),
     }
-}
-
-/// Whether two texts are the same.
-#[inline(always)]
-pub fn is_exact_text(text: &str, other: &str) -> bool
-    ensures { result ≡ bytes_eq text.now other.now }
-{
-    // Most that meet differ in length, which takes less to see than to call for a comparison.
-    text.len() == other.len() && text == other
 }
 
 /// Whether two texts are equal without regard to the case of ASCII letters.

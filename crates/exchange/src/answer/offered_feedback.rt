@@ -4,7 +4,7 @@ ghost use Rattle.std.specs.Prelude.{◌≡◌, ◌<◌, get_or, set, option_copi
 
 use str0m_sdp::label::{FIR, NACK, PLI, REMB, TRANSPORT_CC};
 use str0m_signal::{MediaAttribute, MediaLine, Pt};
-use str0m_values::cuts::{is_exact_text, strip};
+use str0m_values::cuts::strip;
 
 /// As many payload types as have a place in a table: eight bits hold their numbers.
 const FEEDBACK_TYPES: usize = 256;
@@ -51,15 +51,17 @@ impl OfferedFeedback {
         }
     }
 
-    fn named(words: &str) -> OfferedFeedback
-        ensures { result ≡ named_offered words.now }
+    /// Switches on what the words name.
+    fn note(&mut self, words: &str)
+        ensures { self.new ≡ either_offered self.old (named_offered words.now) }
     {
-        OfferedFeedback {
-            transport_cc: is_exact_text(words, TRANSPORT_CC),
-            fir: is_exact_text(words, FIR),
-            nack: is_exact_text(words, NACK),
-            pli: is_exact_text(words, PLI),
-            remb: is_exact_text(words, REMB),
+        match words {
+            TRANSPORT_CC => self.transport_cc = true,
+            FIR => self.fir = true,
+            NACK => self.nack = true,
+            PLI => self.pli = true,
+            REMB => self.remb = true,
+            _ => {}
         }
     }
 
@@ -77,13 +79,13 @@ impl OfferedFeedback {
     }
 
     /// With what a line offers for all types.
-    fn with_line(self, attr: &MediaAttribute) -> OfferedFeedback
+    fn with_line(mut self, attr: &MediaAttribute) -> OfferedFeedback
         ensures { result ≡ with_offered self (feedback_for_all attr.now) }
     {
-        match feedback_for_all(attr) {
-            Some(words) => self.or(OfferedFeedback::named(words)),
-            None => self,
+        if let Some(words) = feedback_for_all(attr) {
+            self.note(words);
         }
+        self
     }
 }
 
@@ -100,8 +102,7 @@ fn add_feedback_value(table: &mut [OfferedFeedback; FEEDBACK_TYPES], pt: Pt, wor
     ensures added { table.new ≡ set table.old pt (either_offered (get_or table.old pt none_offered) (named_offered words.now)) }
     ensures within { pt < 256 }
 {
-    let place = feedback_place(pt);
-    table[place] = table[place].or(OfferedFeedback::named(words));
+    table[feedback_place(pt)].note(words);
 }
 
 /// What these lines offer.

@@ -10,7 +10,6 @@ use crate::label::{FIR, NACK, PLI, REMB, TRANSPORT_CC};
 use crate::section::type_tables::{TYPES, place};
 use std::fmt;
 use str0m_formats::PayloadParams;
-use str0m_values::cuts::is_exact_text;
 use str0m_values::{Pt, Text};
 
 /// Writes the `a=rtcp-fb` line of a payload type, with its end (RFC 4585, section 4.2).
@@ -51,29 +50,17 @@ impl Feedback {
         }
     }
 
-    /// What the value of an rtcp-fb line names.
-    fn named(value: &str) -> Feedback
-        ensures { result ≡ named_feedback value.now }
+    /// Switches on what the value of an rtcp-fb line names.
+    fn note(&mut self, value: &str)
+        ensures { self.new ≡ either_feedback self.old (named_feedback value.now) }
     {
-        Feedback {
-            transport_cc: is_exact_text(value, TRANSPORT_CC),
-            fir: is_exact_text(value, FIR),
-            nack: is_exact_text(value, NACK),
-            pli: is_exact_text(value, PLI),
-            remb: is_exact_text(value, REMB),
-        }
-    }
-
-    /// What either of both names.
-    fn or(self, other: Feedback) -> Feedback
-        ensures { result ≡ either_feedback self other }
-    {
-        Feedback {
-            transport_cc: self.transport_cc || other.transport_cc,
-            fir: self.fir || other.fir,
-            nack: self.nack || other.nack,
-            pli: self.pli || other.pli,
-            remb: self.remb || other.remb,
+        match value {
+            TRANSPORT_CC => self.transport_cc = true,
+            FIR => self.fir = true,
+            NACK => self.nack = true,
+            PLI => self.pli = true,
+            REMB => self.remb = true,
+            _ => {}
         }
     }
 
@@ -99,6 +86,5 @@ pub(crate) fn note_feedback(table: &mut [Feedback; TYPES], pt: Pt, value: &str)
     ensures noted { table.new ≡ set table.old pt (either_feedback (get_or table.old pt empty_feedback) (named_feedback value.now)) }
     ensures within { pt < 256 }
 {
-    let place = place(pt);
-    table[place] = table[place].or(Feedback::named(value));
+    table[place(pt)].note(value);
 }
