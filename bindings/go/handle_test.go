@@ -8,6 +8,7 @@ import (
 	"strings"
 	"sync"
 	"testing"
+	"time"
 )
 
 const goroutines = 100
@@ -143,18 +144,33 @@ func ownMemory(t *testing.T) int {
 	return must[int](t)(strconv.Atoi(strings.Fields(behind)[0]))
 }
 
+// collect frees what nobody has any longer. Finalizers run behind the collector, one after the other, so a last one tells that those before it
+// have run; what they let go is freed the next time.
+func collect() {
+	for i := 0; i < 3; i++ {
+		done := make(chan struct{})
+		runtime.SetFinalizer(&[64]byte{}, func(*[64]byte) { close(done) })
+		runtime.GC()
+		select {
+		case <-done:
+		case <-time.After(time.Second):
+		}
+	}
+}
+
 // grows is how much more memory the process has behind so many runs than behind a fifth of them.
 func grows(t *testing.T, times int, run func()) int {
 	before := 0
 	for i := 0; i < times; i++ {
 		run()
 		if i%100 == 0 {
-			runtime.GC()
+			collect()
 		}
 		if i == times/5 {
 			before = ownMemory(t)
 		}
 	}
+	collect()
 	return ownMemory(t) - before
 }
 
