@@ -1,7 +1,7 @@
 #!/usr/bin/env python3
 """Whether docs/LINT.md says of each code what the tables of crates/lint say (src/table/), which `sdplint --explain` prints, too.
 
-    scripts/lint_page.py --write   writes the page's tables from it
+    scripts/lint_page.py --write   writes the page's lists from it
 
 The page's head is written by hand, down to the line `<!-- codes -->`; what follows is generated. Each row of the tables stands in
 cases/lint/ with its code, as well."""
@@ -50,10 +50,6 @@ def tables():
         yield name, [dict(zip(FIELDS, (ESCAPE.sub(r"\1", text) for text in found))) for found in re.findall(row, bodies[name])]
 
 
-def cell(text):
-    return text.replace("|", "\\|")
-
-
 def generated():
     """What follows the page's head."""
     severity = dict(severities())
@@ -61,16 +57,14 @@ def generated():
         kind, head = HEADS[name]
         each = [severity[it] for it in cases_of(OWN[kind])] if kind in OWN else [severity[kind]] * len(rows)
         yield f"## {head}: {' and '.join(f'{it}s' for it in dict.fromkeys(each))}\n"
-        yield "| Code | What is wrong | What to do | Why | What gives it |\n|---|---|---|---|---|"
         for row, own in zip(rows, each, strict=True):
-            example = f"`{row['example']}`"
-            yield cell(f"`{row['name']}`" + f", {own}" * (len(set(each)) > 1)) + " | ".join(["", *(cell(it) for it in (row["title"], row["remedy"], f"{row['explanation']} ({row['source']})", example))])
+            kind = f" ({own})" if len(set(each)) > 1 else ""
+            yield f"- `{row['name']}`{kind}: {row['title']}: `{row['example']}`; {row['remedy']}"
         yield ""
 
 
 def page():
-    lines = [f"| {it} |" if it.startswith("`") else it for it in generated()]
-    return "\n".join(lines)
+    return "\n".join(generated())
 
 
 def faults():

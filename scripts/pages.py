@@ -2,8 +2,7 @@
 `crates/tests`, and that of docs/EXCHANGE.md in `crates/sdpexchange`; whether `str0m_signal` passes on all but what CALLING.md says; whether
 README.md is short, and all pages together are; and whether each link of a page leads to a file and a heading that are there.
 
-Words are what white space parts. All pages are every tracked `*.md` but docs/API.md, and of docs/LINT.md its head, down to the line
-`<!-- codes -->`: the rest of both is generated.
+Words are what white space parts. All pages are every tracked `*.md` but docs/API.md, the generated reference.
 
 A block of code stands in one of those files word for word, but for contracts and comments. One that has `use` lines is to compile as it
 stands: so its items stand in one file, each of them, and what they use of what that file imports or has is imported or stands in the
@@ -11,7 +10,6 @@ block."""
 import re
 import subprocess
 
-import lint_page
 from proved import TOP
 
 BLOCK = re.compile(r"^```rust\n(.*?)^```$", re.MULTILINE | re.DOTALL)
@@ -22,8 +20,8 @@ ITEM = re.compile(r"(?:pub(?:\(crate\))? )?(?:const )?(?:fn|struct|enum|const|tr
 LOWER, TOPMOST = ("str0m_values", "str0m_formats", "str0m_sdp"), "str0m_signal"
 CODE = {"README.md": ("uses",), "CALLING.md": ("uses", "tests"), "docs/EXCHANGE.md": ("sdpexchange",)}  # of each page, where its code stands
 PAGES = tuple(CODE)
-MOST_WORDS, MOST_WORDS_OF_ALL = 900, 24_000  # of README.md, and of all pages that are written by hand
-GENERATED = TOP / "docs" / "API.md"
+MOST_WORDS, MOST_WORDS_OF_ALL = 900, 24_000  # of README.md, and of all pages but the reference
+REFERENCE = TOP / "docs" / "API.md"
 LINK = re.compile(r"\]\(([^)#\s]*)(?:#([^)\s]*))?\)")
 HEADING = re.compile(r"^#+ (.*)$", re.M)
 
@@ -138,18 +136,10 @@ def tracked():
     return [page for it in told.stdout.split("\0") if it for page in [TOP / it] if page.is_file()]
 
 
-def written(page):
-    """What is written by hand of a page."""
-    text = page.read_text("utf-8")
-    if page == GENERATED:
-        return ""
-    return text.split(lint_page.MARK, 1)[0] if page == lint_page.PAGE else text
-
-
 def common_faults():
     """What is wrong with the pages together."""
     all_pages = tracked()
-    words = sum(len(written(it).split()) for it in all_pages)
+    words = sum(len(it.read_text("utf-8").split()) for it in all_pages if it != REFERENCE)
     if words > MOST_WORDS_OF_ALL:
         yield f"{words} words, {MOST_WORDS_OF_ALL} at most"
     if not all_pages:
