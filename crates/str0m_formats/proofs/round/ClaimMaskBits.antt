@@ -1,7 +1,7 @@
 -- Sets of payload types as the bits of a number.
 use Rattle.std.proofs.lemmas.Nat.{pow_below, pow_pos}
 use Rattle.std.proofs.lemmas.Nat.Bits.{and_pow}
-use Rattle.str0m_formats.proofs.Common.{◌≡◌, ◌==◌, ℕ, ◌+◌, ◌-◌, ◌*◌, ◌%◌, ◌^◌, ◌<◌, ◌≤◌, ◌⊎◌, inl, inr, Bool, true, false, not, ◌||◌}
+use Rattle.str0m_formats.proofs.Common.{◌≡◌, ◌==◌, ℕ, ◌+◌, ◌-◌, ◌*◌, ◌%◌, ◌^◌, ◌<◌, ◌≤◌, ◌⊎◌, inl, inr, Bool, true, false, not, ◌||◌, ◌&&◌}
 use Rattle.str0m_formats.proofs.Common.{bit_or}
 use Rattle.str0m_formats.proofs.Common.{List, ◌++◌, [], Some, None, find, refl, sym, ap, ◌∙◌, arith, lit<, range_with_len, option_or}
 use Rattle.str0m_formats.proofs.Common.{bit_at, eq-eqb, ne_eqb, bit_at-lt, bit_at_set_same, bit_at_set_other, bit_at-zero, or_lt, or-false}
@@ -15,7 +15,7 @@ use Rattle.str0m_formats.specs.round.Claimed.{free, claim_order}
 -- ---- one type
 
 -- a set with one bit more has that type, and else what it had
-pub set_bit : (n k t : ℕ) → k < 128 → bit_set (bit_or n (1 * 2 ^ k % 2 ^ 128)) t ≡ (bit_set n t || (k == t))
+set_bit : (n k t : ℕ) → k < 128 → bit_set (bit_or n (1 * 2 ^ k % 2 ^ 128)) t ≡ (bit_set n t || (k == t))
 set_bit n k t h = go (cases_eq t k) where
   go : (t ≡ k) ⊎ (t ≡ k → ⊥) → bit_set (bit_or n (1 * 2 ^ k % 2 ^ 128)) t ≡ (bit_set n t || (k == t))
   go (inl e) =
@@ -53,6 +53,15 @@ bit_there n k h some = go (cases_eq (bit_at n k) 0) where
   go (inr ne) =
       let one : bit_at n k ≡ 1 = omega (arith, ne, bit_at-lt n k) in
       ap (λ x. x == 1) one
+
+-- so has a set to which the type is added, where it may be there
+pub claimed_bit : (n k t : ℕ) → k < 128
+    → bit_set (bit_or n (1 * 2 ^ k % 2 ^ 128)) t ≡ (bit_set n t || ((bit_and n (1 * 2 ^ k % 2 ^ 128) == 0) && (k == t)))
+claimed_bit n k t h = set_bit n k t h ∙ go (cases_eq (bit_and n (1 * 2 ^ k % 2 ^ 128)) 0) where
+  go : (bit_and n (1 * 2 ^ k % 2 ^ 128) ≡ 0) ⊎ (bit_and n (1 * 2 ^ k % 2 ^ 128) ≡ 0 → ⊥)
+      → (bit_set n t || (k == t)) ≡ (bit_set n t || ((bit_and n (1 * 2 ^ k % 2 ^ 128) == 0) && (k == t)))
+  go (inl none) = rw none refl
+  go (inr some) = grind (arith, bit_there n k h some, ne_eqb, cases_eq)
 
 -- no type from 128 on
 pub no_bit : (n t : ℕ) → n < 2 ^ 128 → 128 ≤ t → bit_set n t ≡ false

@@ -70,11 +70,8 @@ impl ClaimMask {
         }
         let bits = self.bits();
         let bit = 1 << pt.value();
-        if bits & bit != 0 {
-            return false;
-        }
         *self = ClaimMask(bits | bit);
-        true
+        bits & bit == 0
     }
 
     /// The first type that neither mask has, in the order in which types are given.
