@@ -1,5 +1,4 @@
 //! Fingerprints of certificates.
-ghost use Rattle.std.specs.Fmt.{digit_glyph};
 ghost use Rattle.std.specs.Prelude.{◌≡◌, ◌<◌, ◌+◌, ◌∷◌, ◌↔◌, IfOk, IfSome, IsErr, IsErrOf, IsTrue, None, Some, length, true, flat_map};
 ghost use Rattle.str0m_values.specs.CutsParts.{Lacks, part_text_of};
 ghost use Rattle.str0m_values.specs.Fingerprint.{IsFingerprint, IsHexByte, IsFingerprintWrittenBy, HasBadByte, IsHashFront, IsBytesReading, IsBytesReadingAfter, IsFingerprintReading, GivesFingerprint, CanFingerprintBeReadBack, fingerprint_text, hex_pair, pairs_text, hash_preference_of};
@@ -13,8 +12,8 @@ use crate::items::Items;
 use crate::separator::Separator;
 use crate::text::Text;
 use std::alloc::{AllocError, AllocFailed, Global};
+use std::fmt;
 use std::hash::Hash;
-use std::{fmt, str};
 use thiserror::Error;
 
 /// Why a text is no fingerprint.
@@ -230,7 +229,7 @@ impl<'a> fmt::Display for FingerprintFmt<'a> {
         let Some((first, more)) = self.0.split_first() else {
             return Ok(());
         };
-        HexPair(*first).fmt(f)?;
+        f.write_str(bare_pair(*first))?;
         MorePairs(more).fmt(f)
     }
 }
@@ -278,31 +277,9 @@ fn colon_pair(byte: u8) -> &'static str
     &colon_pairs()[at..at + 3]
 }
 
-/// The upper-case hex digit of a number below 16.
-fn digit(number: u8) -> u8
-    ensures { number < 16 → result ≡ digit_glyph true number }
+/// The two upper-case hex digits of the byte.
+fn bare_pair(byte: u8) -> &'static str
+    ensures { result.now ≡ hex_pair byte }
 {
-    let low = number % 16;
-    if low < 10 {
-        b'0' + low
-    } else {
-        b'A' + (low - 10)
-    }
-}
-
-/// A byte as two upper-case hex digits, which are ASCII.
-#[derive(Clone, Copy)]
-struct HexPair(u8);
-
-impl fmt::Display for HexPair {
-    ghost output = { λ b. Some (hex_pair b.0) };
-
-    fn fmt<W: fmt::Write>(&self, f: &mut fmt::Formatter<W>) -> fmt::Result {
-        let byte = self.0;
-        let pair = [digit(byte / 16), digit(byte % 16)];
-        match str::from_utf8(&pair) {
-            Ok(pair) => f.write_str(pair),
-            Err(_) => Err(fmt::Error),
-        }
-    }
+    &colon_pair(byte)[1..]
 }
