@@ -1,5 +1,6 @@
 -- Lists that are kept in part and mapped, one item more.
-use Rattle.str0m_sdp.proofs.Common.{arith, ◌≡◌, ◌<◌, ◌+◌, ◌++◌, ℕ, Bool, true, false, cond, List, [], ◌∷◌, length, take, get_or, Option}
+use Rattle.str0m_sdp.proofs.Common.{arith, map, list_any, ◌||◌, ◌≡◌, ◌<◌, ◌+◌, ◌++◌, ℕ, Bool, true, false, cond, List, [], ◌∷◌, length}
+use Rattle.str0m_sdp.proofs.Common.{take, get_or, Option}
 use Rattle.str0m_sdp.proofs.Common.{Some, All, IfSome, filter, filter_map, option_to_list, refl, sym, ap, ◌∙◌, cons_option, option_or}
 use Rattle.str0m_sdp.proofs.Common.{take_at_read, append-nil, filter_map-append, filter-append, All-nil, All-head, All-tail}
 use Rattle.str0m_sdp.specs.Common.{last}
@@ -20,6 +21,17 @@ map_more {X} {Y} f xs i x lt is = grind (
   filter_map-append f (take i xs) (x ∷ []),
   map_one f x (f x),
 )
+
+-- a test of what items are mapped to
+pub any_of_mapped : {X Y : Type 0} (p : Y → Bool) (f : X → Y) (xs : List X) → list_any p (map f xs) ≡ list_any (λ x. p (f x)) xs
+any_of_mapped p f [] = refl
+any_of_mapped p f (x ∷ xs) = ap (λ (b : Bool). p (f x) || b) (any_of_mapped p f xs)
+
+-- of what items are mapped to some is kept, and mapped again
+pub kept_of_mapped : {X Y Z : Type 0} (g : Y → Option Z) (p : Y → Bool) (f : X → Y) (xs : List X)
+    → filter_map g (filter p (map f xs)) ≡ filter_map (λ x. g (f x)) (filter (λ x. p (f x)) xs)
+kept_of_mapped g p f [] = refl
+kept_of_mapped g p f (x ∷ xs) = grind (arith, kept_of_mapped g p f xs)
 
 -- an item that is kept
 pub filter_map_kept : {X Y : Type 0} (p : X → Bool) (f : X → Option Y) (xs : List X) (i : ℕ) (x : X) → i < length xs → x ≡ get_or xs i x

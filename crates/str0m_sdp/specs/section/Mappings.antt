@@ -3,10 +3,11 @@ use Rattle.std.specs.List.{list_any}
 use Rattle.std.specs.Prelude.{ℕ, Bool, ◌==◌, ◌&&◌, nat_eq, List, ◌++◌, Option, Some, None, option_map, filter_map, if◌then◌else◌}
 use Rattle.str0m_formats.specs.round.MatchScore.{same_codec}
 use Rattle.str0m_sdp.specs.Common.{distinct}
-use Rattle.str0m_sdp.specs.Prelude.{Codec, CodecSpec, static_spec}
+use Rattle.str0m_sdp.specs.Prelude.{Codec, CodecSpec, empty, static_spec}
 use Rattle.str0m_sdp.specs.attribute.RtpMap.{spec_of_map}
 use Rattle.str0m_sdp.specs.declared.attribute.MediaAttribute.{MediaAttribute}
 use Rattle.str0m_sdp.specs.declared.attribute.MediaAttribute.TheVariants.{RtpMap}
+use Rattle.str0m_sdp.specs.declared.section.mappings.MappedType.{MappedType}
 use Rattle.str0m_sdp.specs.declared.section.media_line.MediaLine.{MediaLine}
 use Rattle.str0m_sdp.specs.section.Consistency.{maps}
 
@@ -34,3 +35,7 @@ stands_for_codec codec pt row = row.0 == pt && same_codec row.1.codec codec
 -- whether one of these types is this one, for the codec
 abbrev pub is_mapped_to : Codec → List (ℕ × CodecSpec) → ℕ → Bool
 is_mapped_to codec mapped pt = list_any (stands_for_codec codec pt) mapped
+
+-- a type with the codec that it stands for, of whose format nothing is said
+abbrev pub codec_of_type : MappedType → ℕ × CodecSpec
+codec_of_type row = (row.pt, record { codec = row.codec; clock_rate = row.clock_rate; channels = row.channels; format = empty })

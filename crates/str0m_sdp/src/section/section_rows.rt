@@ -1,14 +1,15 @@
 //! The rows that a section describes.
-ghost use Rattle.std.specs.Prelude.{◌≡◌, ◌<◌, ◌++◌, [], All, IfOk, OnOk, option_to_list};
+ghost use Rattle.std.specs.Prelude.{◌≡◌, ◌<◌, ◌++◌, [], All, IfOk, OnOk, map, option_to_list};
 ghost use Rattle.str0m_sdp.specs.Prelude.{IsBounded, codec_content, format_of_fmtp, has_events, row_content_has_video, row_content_has_audio};
 ghost use Rattle.str0m_sdp.specs.declared.section.media_line.MediaLine.{MediaLine};
+ghost use Rattle.str0m_sdp.specs.section.Mappings.{codec_of_type};
 ghost use Rattle.str0m_sdp.specs.section.SectionRows.{KeepsToRowLines, fmtps_of, is_kept, row, rows};
 
 use crate::attribute::MediaAttribute;
 use crate::attribute::feedback::{Feedback, note_feedback};
 use crate::section::companions::note_companion_line;
 use crate::section::known_formats::{format_of, groups_of};
-use crate::section::mappings::{mapped_types, mappings, push_static_mapping, types_of};
+use crate::section::mappings::{MappedType, mapped_types, mappings, push_static_mapping, types_of};
 use crate::section::media_line::MediaLine;
 use crate::section::type_tables::{TYPES, place, types_in};
 use std::alloc::{AllocError, Global};
@@ -36,10 +37,10 @@ impl TypeFacts {
         &mut self,
         alloc: Global,
         attrs: &'a [MediaAttribute],
-        types: &[(Pt, CodecSpec)],
+        types: &[MappedType],
     ) -> Result<Vec<(u8, &'a [FormatParam])>, AllocError>
-        requires { RowTablesAreOf types.now [] self.old [] }
-        ensures words { IfOk result (λ lines. RowTablesAreOf types.now attrs.now self.new lines.items) }
+        requires { RowTablesAreOf (map codec_of_type types.now) [] self.old [] }
+        ensures words { IfOk result (λ lines. RowTablesAreOf (map codec_of_type types.now) attrs.now self.new lines.items) }
         ensures in_m_line { self.new.in_m_line ≡ self.old.in_m_line }
     {
         let mut lines = Vec::with_capacity(alloc, types.len())?;
@@ -78,13 +79,13 @@ impl TypeFacts {
     }
 
     /// Whether the type has a row.
-    fn is_kept(&self, pt: Pt, spec: CodecSpec) -> bool
-        ensures { (m : MediaLine) → RowTablesSayOf m self.now → result ≡ is_kept m (pt, spec) }
+    fn is_kept(&self, mapped: &MappedType) -> bool
+        ensures { (m : MediaLine) → RowTablesSayOf m self.now → result ≡ is_kept m (codec_of_type mapped.now) }
     {
-        let codec = spec.codec;
+        let codec = mapped.codec;
         is_row_audio(codec)
             || is_row_video(codec)
-            || (is_row_events(codec) && self.in_m_line[place(pt)])
+            || (is_row_events(codec) && self.in_m_line[place(mapped.pt)])
     }
 
     /// One more row, where the type has one, by what its fmtp lines say of the codec.
@@ -92,18 +93,16 @@ impl TypeFacts {
         &self,
         rows: &mut Vec<PayloadParams>,
         format: Option<FormatParams>,
-        pt: Pt,
-        spec: CodecSpec,
+        mapped: &MappedType,
     ) -> Result<(), AllocError>
-        ensures { (m : MediaLine) → RowTablesSayOf m self.now → format ≡ format_of_fmtp spec.codec (fmtps_of m.attrs pt) →
-            OnOk result (rows.new.items ≡ rows.old.items ++ option_to_list (row m (pt, spec))) }
+        ensures { (m : MediaLine) → RowTablesSayOf m self.now → format ≡ format_of_fmtp mapped.now.codec (fmtps_of m.attrs mapped.now.pt) →
+            OnOk result (rows.new.items ≡ rows.old.items ++ option_to_list (row m (codec_of_type mapped.now))) }
     {
         match format {
             Some(format) => {
-                let spec = CodecSpec { format, ..spec };
                 // A push of a row isn't accepted above the crate that defines it; docs/DECISIONS.md
                 // shows the message.
-                rows.extend_from_slice(&[self.row_of(pt, spec)])
+                rows.extend_from_slice(&[self.row_of(mapped.pt, mapped.spec(format))])
             }
             None => Ok(()),
         }
@@ -135,8 +134,8 @@ impl MediaLine {
     /// type of many lines stands as many times, then the static types of the m-line that have no
     /// such line (RFC 3551, section 6), each of these once. The only error is that memory was
     /// refused.
-    pub(crate) fn mapped(&self) -> Result<Vec<(Pt, CodecSpec)>, AllocError>
-        ensures { IfOk result (λ rows. rows.items ≡ mapped self.now) }
+    pub(crate) fn mapped(&self) -> Result<Vec<MappedType>, AllocError>
+        ensures { IfOk result (λ types. map codec_of_type types.items ≡ mapped self.now) }
     {
         let attrs = self.attrs.as_slice();
         let mut mapped = mappings(*self.attrs.allocator(), attrs, self.pts.len().min(TYPES))?;
@@ -152,8 +151,8 @@ impl MediaLine {
     }
 
     /// The rows of the section, by the mapped types.
-    fn rows_of(&self, types: &[(Pt, CodecSpec)]) -> Result<Vec<PayloadParams>, AllocError>
-        requires { types.now ≡ mapped self.now }
+    fn rows_of(&self, types: &[MappedType]) -> Result<Vec<PayloadParams>, AllocError>
+        requires { map codec_of_type types.now ≡ mapped self.now }
         ensures rows { IfOk result (λ params. params.items ≡ rows self.now) }
         ensures bounded { KeepsToRowLines self.now → IfOk result (λ params. All IsBounded params.items) }
     {
@@ -168,11 +167,11 @@ impl MediaLine {
         let mut groups = groups_of(alloc, lines.as_slice())?;
         let mut found = Vec::new(alloc);
         let mut rows = Vec::with_capacity(alloc, types.len())?;
-        for (pt, spec) in types {
-            if words.is_kept(*pt, *spec) {
+        for mapped in types {
+            if words.is_kept(mapped) {
                 let lines = lines.as_slice();
-                let format = format_of(&mut groups, &mut found, lines, *pt, spec.codec)?;
-                words.push_row(&mut rows, format, *pt, *spec)?;
+                let format = format_of(&mut groups, &mut found, lines, mapped.pt, mapped.codec)?;
+                words.push_row(&mut rows, format, mapped)?;
             }
         }
         Ok(rows)

@@ -2,6 +2,6 @@ use Rattle.str0m_sdp.proofs.Common.{◌≡◌, ◌==◌, ◌<◌, ℕ, false, ge
 use Rattle.str0m_sdp.proofs.section.mappings.mapped_types.Given as goal
 
 -- each row says whether its type is mapped so far
-abbrev pub invariant-loop-pt : goal.invariant-loop-pt
-invariant-loop-pt l = (length l.types ≡ 256) × ((pt : ℕ) → pt < 256
-    → get_or l.types pt false ≡ list_any (λ row. row.0 == pt) (take l.pt-index l.mapped))
+abbrev pub invariant-loop-row : goal.invariant-loop-row
+invariant-loop-row l = (length l.types ≡ 256) × ((pt : ℕ) → pt < 256
+    → get_or l.types pt false ≡ list_any (λ row. row.pt == pt) (take l.row-index l.mapped))

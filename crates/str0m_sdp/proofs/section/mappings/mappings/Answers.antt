@@ -1,8 +1,8 @@
-use Rattle.str0m_sdp.proofs.Common.{List, filter_map, ap, ◌∙◌, take_all}
+use Rattle.str0m_sdp.proofs.Common.{List, [], ◌∷◌, map, filter_map, ap, ◌∙◌, take_all, map-append}
 use Rattle.str0m_sdp.proofs.section.MappingLaws.{mapping_more, mapping_other}
 use Rattle.str0m_sdp.proofs.section.mappings.mappings.Goals as goal
 use Rattle.str0m_sdp.specs.declared.attribute.MediaAttribute.{MediaAttribute}
-use Rattle.str0m_sdp.specs.section.Mappings.{mapping}
+use Rattle.str0m_sdp.specs.section.Mappings.{codec_of_type, mapping}
 
 pub loop-attr-preserved : goal.loop-attr-preserved
 loop-attr-preserved c =
@@ -11,11 +11,18 @@ loop-attr-preserved c =
     let attr = c.attr-item.result in
     let lt = c.loop-attr-test.true in
     elim c.match-attr.branch [
-      | goal.in-RtpMap+in_ok-extend_from_slice w ↦
-          rw (w.rows-is, w.in_ok-extend_from_slice.ensures.items, w.from.ensures)
-          (mapping_more attrs c.loop-attr.rows.items i _ _ attr lt c.attr-item.is w.in-RtpMap.is c.loop-attr.invariant)
+      | goal.in-RtpMap+in_ok-push w ↦
+          rw (
+            w.types-is,
+            w.in_ok-push.ensures.items,
+            map-append codec_of_type c.loop-attr.types.items (w.new.result ∷ []),
+            w.new.ensures,
+            w.from.ensures,
+          )
+          (mapping_more attrs (map codec_of_type c.loop-attr.types.items) i _ _ attr lt c.attr-item.is w.in-RtpMap.is c.loop-attr.invariant)
       | goal.in_default w ↦
-          rw w.rows-is (mapping_other attrs c.loop-attr.rows.items i attr lt c.attr-item.is w.in_default.not-RtpMap c.loop-attr.invariant)
+          rw w.types-is (mapping_other attrs (map codec_of_type c.loop-attr.types.items) i attr lt c.attr-item.is w.in_default.not-RtpMap
+          c.loop-attr.invariant)
     ]
 
 pub returns : goal.returns

@@ -1,23 +1,28 @@
-use Rattle.str0m_sdp.proofs.Common.{◌≡◌, ◌==◌, ◌++◌, ℕ, List, take, filter_map, nat_eq, ap, sym, ◌∙◌, append_assoc, list_any, append-nil}
+use Rattle.str0m_sdp.proofs.Common.{◌≡◌, ◌==◌, ◌++◌, ℕ, List, take, map, filter_map, nat_eq, ap, sym, ◌∙◌, append_assoc, list_any}
+use Rattle.str0m_sdp.proofs.Common.{append-nil}
 use Rattle.str0m_sdp.proofs.Common.{length-set, take_all, CodecSpec, option_to_list}
 use Rattle.str0m_sdp.proofs.section.MappingLaws.{any_mapped, mapping_statics_new, mapping_statics_seen, mapping_mark_new, mapping_mark_seen}
+use Rattle.str0m_sdp.proofs.section.MappingsFilterMap.{any_of_mapped}
 use Rattle.str0m_sdp.proofs.section.SectionRowsParts.{rows_or_false}
 use Rattle.str0m_sdp.proofs.section.media_line.MediaLine.mapped.Goals as goal
 use Rattle.str0m_sdp.specs.Common.{distinct}
 use Rattle.str0m_sdp.specs.declared.attribute.MediaAttribute.{MediaAttribute}
+use Rattle.str0m_sdp.specs.declared.section.mappings.MappedType.{MappedType}
 use Rattle.str0m_sdp.specs.section.Consistency.{maps}
-use Rattle.str0m_sdp.specs.section.Mappings.{mapping, unmapped_type, mapped, static_type}
+use Rattle.str0m_sdp.specs.section.Mappings.{codec_of_type, mapping, unmapped_type, mapped, static_type}
 
 pub loop-pt-init : goal.loop-pt-init
 loop-pt-init c =
     let attrs = c.args.self.now.attrs in
-    let rows : c.in_ok-mapped.mapped.items ≡ filter_map mapping attrs =
+    let rows : map codec_of_type c.in_ok-mapped.mapped.items ≡ filter_map mapping attrs =
     c.in_ok-mapped.ensures ∙ ap (λ (attrs : List MediaAttribute). filter_map mapping attrs) c.as_slice-attrs.ensures in
     record {
       rows = rows ∙ sym (append-nil (filter_map mapping attrs));
       whole = c.mapped_types-seen.ensures.whole;
       seen = λ pt lt. c.mapped_types-seen.ensures.rows pt lt
-          ∙ ap (λ (rows : List (ℕ × CodecSpec)). list_any (λ row. row.0 == pt) rows) (c.as_slice.ensures.value ∙ rows)
+          ∙ ap (λ (rows : List MappedType). list_any (λ row. row.pt == pt) rows) c.as_slice.ensures.value
+          ∙ sym (any_of_mapped (λ row. row.0 == pt) codec_of_type c.in_ok-mapped.mapped.items)
+          ∙ ap (λ (rows : List (ℕ × CodecSpec)). list_any (λ row. row.0 == pt) rows) rows
           ∙ any_mapped pt attrs ∙ sym (rows_or_false (list_any (maps pt) attrs));
     }
 

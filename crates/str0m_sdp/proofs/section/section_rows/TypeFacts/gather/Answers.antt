@@ -1,6 +1,7 @@
-use Rattle.str0m_sdp.proofs.Common.{◌≡◌, [], rules, tests, refl, take_all}
+use Rattle.str0m_sdp.proofs.Common.{◌≡◌, [], map, rules, tests, refl, take_all}
 use Rattle.str0m_sdp.proofs.section.SectionRowsGatherLaws.{fmtp_gathered, feedback_gathered, row_other_gathered}
 use Rattle.str0m_sdp.proofs.section.section_rows.TypeFacts.gather.Goals as goal
+use Rattle.str0m_sdp.specs.section.Mappings.{codec_of_type}
 
 pub loop-attr-init : goal.loop-attr-init
 loop-attr-init c =
@@ -12,7 +13,7 @@ returns-in_err-push-in-Fmtp-clause-in_m_line c = c.loop-attr.invariant.1
 
 pub loop-attr-preserved : goal.loop-attr-preserved
 loop-attr-preserved c =
-    let types = c.args.types.now in
+    let types = map codec_of_type c.args.types.now in
     let attrs = c.args.attrs.now in
     let words = c.loop-attr.self in
     let lines = c.loop-attr.lines.items in
