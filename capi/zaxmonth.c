@@ -13,6 +13,10 @@ struct zax_config {
     struct handle handle;
 };
 
+struct zax_exchange {
+    struct handle handle;
+};
+
 enum { MESSAGE_CAP = 4096 }; /* of the messages of the library the longest quotes a line */
 
 static _Alignas(16) uint8_t nothing[16]; /* what an empty slice points to */
@@ -84,14 +88,19 @@ static const uint8_t *bytes(const char *text, size_t length)
     return length ? (const uint8_t *)text : nothing;
 }
 
-/* An empty handle of a description; NULL where there is no memory. (glibc's calloc takes longer than its malloc.) */
-static zax_session *empty_session(void)
-{
-    zax_session *made = malloc(sizeof *made);
-    if (made)
-        made->handle.ptr = NULL;
-    return made;
-}
+/* An empty handle of a kind; NULL where there is no memory. (glibc's calloc takes longer than its malloc.) */
+#define EMPTY_HANDLE(kind)                       \
+    static zax_##kind *empty_##kind(void)        \
+    {                                            \
+        zax_##kind *made = malloc(sizeof *made); \
+        if (made)                                \
+            made->handle.ptr = NULL;             \
+        return made;                             \
+    }
+
+EMPTY_HANDLE(session)
+EMPTY_HANDLE(config)
+EMPTY_HANDLE(exchange)
 
 zax_status zax_read(const char *text, size_t length, zax_session **session, zax_error *error)
 {
@@ -334,7 +343,7 @@ static zax_status make_config(uint32_t (*fill)(struct handle *), zax_config **co
     if (!config)
         return ZAX_E_ARGUMENT;
     *config = NULL;
-    zax_config *made = calloc(1, sizeof *made);
+    zax_config *made = empty_config();
     if (!made)
         return ZAX_E_MEMORY;
     uint32_t status = fill(&made->handle);
@@ -422,10 +431,6 @@ zax_status zax_answer(zax_config *config, zax_session *own, size_t section)
 
 /* ---- Exchanges of offers and answers */
 
-struct zax_exchange {
-    struct handle handle;
-};
-
 static int is_text(zax_slice text)
 {
     return is_slice(text.at, text.length, 1);
@@ -500,7 +505,7 @@ zax_status zax_exchange_new(const zax_own *own, zax_config *config, zax_exchange
     *exchange = NULL;
     if (!is_own(own) || !config || !is_full(&config->handle))
         return told(error, ZAX_E_ARGUMENT, "no configuration, no text, no direction, or reserved bytes that aren't 0");
-    zax_exchange *made = calloc(1, sizeof *made);
+    zax_exchange *made = empty_exchange();
     if (!made)
         return told(error, ZAX_E_MEMORY, "out of memory");
     uint32_t status = exchange_of(&made->handle, &config->handle, own, &fault);
