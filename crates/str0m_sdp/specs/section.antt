@@ -14,3 +14,4 @@ pub mod Sources
 pub mod SsrcInfo
 pub mod SsrcInfoReading
 pub mod TypeLines
+pub mod TypeTables

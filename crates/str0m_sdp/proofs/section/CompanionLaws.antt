@@ -5,8 +5,10 @@ use Rattle.str0m_sdp.proofs.Common.{Codec, CodecSpec, FormatParam}
 use Rattle.str0m_sdp.specs.Common.{last}
 use Rattle.str0m_sdp.specs.declared.attribute.MediaAttribute.{MediaAttribute}
 use Rattle.str0m_sdp.specs.declared.attribute.MediaAttribute.TheVariants.{Fmtp}
+use Rattle.str0m_sdp.specs.declared.section.type_tables.TypeTable.{TypeTable}
 use Rattle.str0m_sdp.specs.section.Companions.{names_type, companion_in, companion}
 use Rattle.str0m_sdp.specs.section.Mappings.{is_mapped_to}
+use Rattle.str0m_sdp.specs.section.TypeTables.{type_in_table}
 
 companion_options_none : {X : Type 0} (o : Option X) → option_or o None ≡ o
 companion_options_none o = grind arith
@@ -64,16 +66,16 @@ companion_fmtp codec mapped attrs i n values attr pt lt is variant =
 
 -- so a table in which it is noted, where it is of the codec, has what goes with each type one line on
 pub companions_noted : (codec : Codec) (mapped : List (ℕ × CodecSpec)) (attrs : List MediaAttribute) (of_codec : List Bool)
-    (old new : List (Option ℕ))
+    (old new : TypeTable)
     (i n : ℕ) (values : List FormatParam) (attr : MediaAttribute)
     → i < length attrs → attr ≡ get_or attrs i attr → attr ≡ Fmtp n values
-    → get_or of_codec n false ≡ is_mapped_to codec mapped n → length old ≡ 256
-    → ((m : ℕ) → m < length old → get_or new m None ≡ cond (get_or of_codec n false && list_any (names_type codec m) values) (Some n)
-    (get_or old m None))
-    → ((pt : ℕ) → pt < 256 → get_or old pt None ≡ companion codec mapped (take i attrs) pt)
-    → (pt : ℕ) → pt < 256 → get_or new pt None ≡ companion codec mapped (take (i + 1) attrs) pt
-companions_noted codec mapped attrs of_codec old new i n values attr lt is variant tells rows noted so_far pt small =
-    grind (arith, companion_fmtp)
+    → get_or of_codec n false ≡ is_mapped_to codec mapped n
+    → ((m : ℕ) → type_in_table new m ≡ cond (get_or of_codec n false && list_any (names_type codec m) values) (Some n)
+    (type_in_table old m))
+    → ((pt : ℕ) → type_in_table old pt ≡ companion codec mapped (take i attrs) pt)
+    → (pt : ℕ) → type_in_table new pt ≡ companion codec mapped (take (i + 1) attrs) pt
+companions_noted codec mapped attrs of_codec old new i n values attr lt is variant tells noted so_far pt =
+    noted pt ∙ rw (tells, so_far pt) (sym (companion_fmtp codec mapped attrs i n values attr pt lt is variant))
 
 -- before any attribute there is none
 pub companion_start : (codec : Codec) (mapped : List (ℕ × CodecSpec)) (pt : ℕ) → None ≡ companion codec mapped [] pt

@@ -8,7 +8,7 @@ use Rattle.str0m_sdp.specs.section.SectionRowsFacts.{row_of, RowTablesSayOf}
 
 row_said : (m : MediaLine) (words : TypeFacts) (pt : ℕ) (spec : CodecSpec) (format : FormatParams) → RowTablesSayOf m words → pt < 256
     → row_of words pt (record spec { format = format }) ≡ row_with m pt spec format
-row_said m words pt spec format say small = rw (say.rtx pt small, say.red pt small, say.feedback pt small) refl
+row_said m words pt spec format say small = rw (say.rtx pt, say.red pt, say.feedback pt small) refl
 
 -- the row of a type whose lines aren't refused
 pub row_is : (m : MediaLine) (words : TypeFacts) (pt : ℕ) (spec : CodecSpec) (format : FormatParams) → RowTablesSayOf m words → pt < 256

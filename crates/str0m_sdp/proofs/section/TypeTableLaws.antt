@@ -1,11 +1,14 @@
 -- Tables by payload type, one attribute more.
-use Rattle.str0m_sdp.proofs.Common.{arith, ◌≡◌, ◌<◌, ◌+◌, ◌++◌, ℕ, true, false, List, [], ◌∷◌, length, take, get_or, Option, None, count_by}
+use Rattle.str0m_sdp.proofs.Common.{arith, ◌≡◌, ◌<◌, ◌+◌, ◌++◌, ℕ, true, false, List, [], ◌∷◌, length, take, get_or, Bool, Option, Some}
+use Rattle.str0m_sdp.proofs.Common.{None, count_by, cond, when, ◌==◌, replicate, zero, suc}
 use Rattle.str0m_sdp.proofs.Common.{refl, sym, ap, ◌∙◌, inl, inr, cases_eq, eq-eqb, ne_eqb, take_at_read, get_or-set_same, get_or-set_other}
-use Rattle.str0m_sdp.proofs.Common.{FormatParam, ◌<|>◌, is_some, set, count_by_more_no, count_by_more_yes}
+use Rattle.str0m_sdp.proofs.Common.{FormatParam, ◌<|>◌, set, count_by_more_no, count_by_more_yes}
 use Rattle.str0m_sdp.specs.declared.attribute.MediaAttribute.{MediaAttribute}
 use Rattle.str0m_sdp.specs.declared.attribute.MediaAttribute.TheVariants.{RtpMap, Fmtp}
 use Rattle.str0m_sdp.specs.declared.attribute.rtp_map.RtpMap.{RtpMap as Mapping}
-use Rattle.str0m_sdp.specs.section.Consistency.{maps, section_apt_among, section_apt_in, first_section_apt}
+use Rattle.str0m_sdp.specs.declared.section.type_tables.TypeTable.{TypeTable}
+use Rattle.str0m_sdp.specs.section.Consistency.{maps, section_apt_in, first_section_apt}
+use Rattle.str0m_sdp.specs.section.TypeTables.{IsWholeTable, type_in_table}
 
 -- ---- mappings
 
@@ -35,12 +38,6 @@ table_or_else_none o = grind arith
 type_or_else_assoc : (a b c : Option ℕ) → ((a <|> b) <|> c) ≡ (a <|> (b <|> c))
 type_or_else_assoc a b c = grind arith
 
-table_apt_none_is : (o : Option ℕ) → is_some o ≡ false → o ≡ None
-table_apt_none_is o empty = grind arith
-
-type_some_or : (a b : Option ℕ) → is_some a ≡ true → a ≡ (a <|> b)
-type_some_or a b full = grind arith
-
 first_section_apt-append : (pt : ℕ) (xs ys : List MediaAttribute)
     → first_section_apt pt (xs ++ ys) ≡ (first_section_apt pt xs <|> first_section_apt pt ys)
 first_section_apt-append pt [] ys = refl
@@ -51,65 +48,61 @@ table_first_apt_more : (pt : ℕ) (attrs : List MediaAttribute) (i : ℕ) (attr 
     → first_section_apt pt (take (i + 1) attrs) ≡ (first_section_apt pt (take i attrs) <|> section_apt_in pt attr)
 table_first_apt_more pt attrs i attr lt is = grind (arith, take_at_read, first_section_apt-append, table_or_else_none)
 
-section_apt_of_own : (n : ℕ) (values : List FormatParam) → section_apt_in n (Fmtp n values) ≡ section_apt_among values
-section_apt_of_own n values = rw (eq-eqb n n refl) refl
-
-section_apt_of_others : (n pt : ℕ) (values : List FormatParam) → (n ≡ pt → ⊥) → section_apt_in pt (Fmtp n values) ≡ None
-section_apt_of_others n pt values apart = rw (ne_eqb n pt apart) refl
-
 section_apt_none : (pt : ℕ) (attr : MediaAttribute) → ((n : ℕ) (values : List FormatParam) → attr ≡ Fmtp n values → ⊥)
     → section_apt_in pt attr ≡ None
 section_apt_none pt attr other = grind arith
 
--- an attribute that names no type for this one changes nothing
-pub table_first_apt_same : (attrs : List MediaAttribute) (firsts : List (Option ℕ)) (i : ℕ) (attr : MediaAttribute)
-    → i < length attrs → attr ≡ get_or attrs i attr
-    → (pt : ℕ) → section_apt_in pt attr ≡ None
-    → get_or firsts pt None ≡ first_section_apt pt (take i attrs)
-    → get_or firsts pt None ≡ first_section_apt pt (take (i + 1) attrs)
-table_first_apt_same attrs firsts i attr lt is pt silent so_far =
-    grind (arith, table_first_apt_more pt attrs i attr lt is, table_or_else_none (first_section_apt pt (take i attrs)))
-
 -- what is no fmtp line names none
-pub table_first_apt_other : (attrs : List MediaAttribute) (firsts : List (Option ℕ)) (i : ℕ) (attr : MediaAttribute)
+pub table_first_apt_other : (attrs : List MediaAttribute) (first : Option ℕ) (i : ℕ) (attr : MediaAttribute)
     → i < length attrs → attr ≡ get_or attrs i attr → ((n : ℕ) (values : List FormatParam) → attr ≡ Fmtp n values → ⊥)
-    → (pt : ℕ) → get_or firsts pt None ≡ first_section_apt pt (take i attrs)
-    → get_or firsts pt None ≡ first_section_apt pt (take (i + 1) attrs)
-table_first_apt_other attrs firsts i attr lt is other pt so_far = table_first_apt_same attrs firsts i attr lt is pt
-    (section_apt_none pt attr other)
-    so_far
+    → (pt : ℕ) → first ≡ first_section_apt pt (take i attrs) → first ≡ first_section_apt pt (take (i + 1) attrs)
+table_first_apt_other attrs first i attr lt is other pt so_far =
+    grind (
+      arith,
+      table_first_apt_more pt attrs i attr lt is,
+      section_apt_none pt attr other,
+      table_or_else_none (first_section_apt pt (take i attrs)),
+    )
 
--- the first that is named stays
-pub table_first_apt_kept : (attrs : List MediaAttribute) (firsts : List (Option ℕ)) (i n : ℕ) (values : List FormatParam)
+-- an fmtp line's own is the first where none is named yet
+pub table_first_apt_noted : (attrs : List MediaAttribute) (first then : Option ℕ) (i n : ℕ) (values : List FormatParam)
     (attr : MediaAttribute)
-    → i < length attrs → attr ≡ get_or attrs i attr → attr ≡ Fmtp n values → is_some (get_or firsts n None) ≡ true
-    → (pt : ℕ) → get_or firsts pt None ≡ first_section_apt pt (take i attrs)
-    → get_or firsts pt None ≡ first_section_apt pt (take (i + 1) attrs)
-table_first_apt_kept attrs firsts i n values attr lt is variant named pt so_far =
-    elim (cases_eq n pt) [
-      | inl same ↦
-          let there = ap (λ (o : Option ℕ). is_some o) (sym so_far) ∙ rw same at named in
-          so_far ∙ type_some_or (first_section_apt pt (take i attrs)) (section_apt_in pt attr) there
-          ∙ sym (table_first_apt_more pt attrs i attr lt is)
-      | inr apart ↦ table_first_apt_same attrs firsts i attr lt is pt
-          (ap (section_apt_in pt) variant ∙ section_apt_of_others n pt values apart) so_far
-    ]
+    → i < length attrs → attr ≡ get_or attrs i attr → attr ≡ Fmtp n values
+    → (pt : ℕ) → then ≡ (first <|> section_apt_in pt (Fmtp n values)) → first ≡ first_section_apt pt (take i attrs)
+    → then ≡ first_section_apt pt (take (i + 1) attrs)
+table_first_apt_noted attrs first then i n values attr lt is variant pt noted so_far =
+    noted ∙ ap (λ (a : MediaAttribute). first <|> section_apt_in pt a) (sym variant)
+    ∙ ap (λ (o : Option ℕ). o <|> section_apt_in pt attr) so_far ∙ sym (table_first_apt_more pt attrs i attr lt is)
 
--- where none is named yet, the line's own is the first
-pub table_first_apt_named : (attrs : List MediaAttribute) (firsts : List (Option ℕ)) (i n : ℕ) (values : List FormatParam)
-    (attr : MediaAttribute)
-    → i < length attrs → n < length firsts → attr ≡ get_or attrs i attr → attr ≡ Fmtp n values → is_some (get_or firsts n None) ≡ false
-    → (pt : ℕ) → get_or firsts pt None ≡ first_section_apt pt (take i attrs)
-    → get_or (set firsts n (section_apt_among values)) pt None ≡ first_section_apt pt (take (i + 1) attrs)
-table_first_apt_named attrs firsts i n values attr lt row is variant none pt so_far =
-    elim (cases_eq n pt) [
-      | inl same ↦
-          let at_row = rw (← same) at so_far in
-          let nothing : first_section_apt n (take i attrs) ≡ None = sym at_row ∙ table_apt_none_is (get_or firsts n None) none in
-          rw (← same) (get_or-set_same firsts n (section_apt_among values) None row ∙ sym (table_first_apt_more n attrs i attr lt is
-          ∙ ap (λ (o : Option ℕ). o <|> section_apt_in n attr) nothing ∙ ap (section_apt_in n) variant ∙ section_apt_of_own n values))
-      | inr apart ↦
-          get_or-set_other firsts n pt (section_apt_among values) None (λ same. apart (sym same))
-          ∙ table_first_apt_same attrs firsts i attr lt is pt (ap (section_apt_in pt) variant ∙ section_apt_of_others n pt values apart)
-          so_far
+-- ---- tables of types
+
+type_absent : (there : Bool) (pt : ℕ) → there ≡ false → when there pt ≡ None
+type_absent there pt is = grind arith
+
+none_is_there : (count pt : ℕ) → get_or (replicate count false) pt false ≡ false
+none_is_there zero pt = refl
+none_is_there (suc count) zero = refl
+none_is_there (suc count) (suc pt) = none_is_there count pt
+
+-- a table that is cleared has no type for any
+pub type_cleared : (pts : List ℕ) (pt : ℕ) → when (get_or (replicate 256 false) pt false) (get_or pts pt 0) ≡ None
+type_cleared pts pt = type_absent _ (get_or pts pt 0) (none_is_there 256 pt)
+
+-- a type that is set is that of its place, and of no other
+pub type_set : (table : TypeTable) (pt one n : ℕ) → pt < 256 → IsWholeTable table
+    → when (get_or (set table.is_there pt true) n false) (get_or (set table.pts pt one) n 0)
+    ≡ cond (pt == n) (Some one) (type_in_table table n)
+type_set table pt one n small whole =
+    elim (cases_eq pt n) [
+      | inl same ↦ rw (
+        ← same,
+        get_or-set_same table.is_there pt true false (rw (← whole.is_there) at small),
+        get_or-set_same table.pts pt one 0 (rw (← whole.pts) at small),
+        eq-eqb pt pt refl,
+      ) refl
+      | inr apart ↦ rw (
+        get_or-set_other table.is_there pt n true false (λ same. apart (sym same)),
+        get_or-set_other table.pts pt n one 0 (λ same. apart (sym same)),
+        ne_eqb pt n apart,
+      ) refl
     ]

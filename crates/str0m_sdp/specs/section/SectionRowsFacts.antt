@@ -12,28 +12,29 @@ use Rattle.str0m_sdp.specs.section.Companions.{companion}
 use Rattle.str0m_sdp.specs.section.FmtpLines.{fmtp_lines_with}
 use Rattle.str0m_sdp.specs.section.Mappings.{mapped}
 use Rattle.str0m_sdp.specs.section.SectionRows.{fmtps_of}
+use Rattle.str0m_sdp.specs.section.TypeTables.{IsWholeTable, type_in_table}
 
 -- the row of a type, as the tables tell it
 abbrev pub row_of : TypeFacts → ℕ → CodecSpec → PayloadParams
 row_of words pt spec =
     with_feedback (get_or words.feedback pt empty_feedback)
-    (record (new_row pt (get_or words.rtx pt None) spec) {
-      red = if row_content_has_audio (codec_content spec.codec) then get_or words.red pt None else None;
+    (record (new_row pt (type_in_table words.rtx pt) spec) {
+      red = if row_content_has_audio (codec_content spec.codec) then type_in_table words.red pt else None;
     })
 
 -- the tables say what the section says
 pub record RowTablesSayOf (m : MediaLine) (words : TypeFacts) : Type 0 where
   pub in_m_line : (pt : ℕ) → pt < 256 → get_or words.in_m_line pt false ≡ list_any (λ n. n == pt) m.pts
-  pub rtx : (pt : ℕ) → pt < 256 → get_or words.rtx pt None ≡ companion Rtx (mapped m) m.attrs pt
-  pub red : (pt : ℕ) → pt < 256 → get_or words.red pt None ≡ companion Red (mapped m) m.attrs pt
+  pub rtx : (pt : ℕ) → type_in_table words.rtx pt ≡ companion Rtx (mapped m) m.attrs pt
+  pub red : (pt : ℕ) → type_in_table words.red pt ≡ companion Red (mapped m) m.attrs pt
   pub feedback : (pt : ℕ) → pt < 256 → get_or words.feedback pt empty_feedback ≡ feedback_of m.attrs pt
 
 -- the tables, and the fmtp lines beside their types, say what these attributes say of each type
 pub record RowTablesAreOf (types : List (ℕ × CodecSpec)) (attrs : List MediaAttribute) (words : TypeFacts) (lines : List (ℕ × Bor (List FormatParam))) : Type 0 where
-  pub rtx_rows : length words.rtx ≡ 256
-  pub red_rows : length words.red ≡ 256
+  pub rtx_rows : IsWholeTable words.rtx
+  pub red_rows : IsWholeTable words.red
   pub feedback_rows : length words.feedback ≡ 256
-  pub rtx : (pt : ℕ) → pt < 256 → get_or words.rtx pt None ≡ companion Rtx types attrs pt
-  pub red : (pt : ℕ) → pt < 256 → get_or words.red pt None ≡ companion Red types attrs pt
+  pub rtx : (pt : ℕ) → type_in_table words.rtx pt ≡ companion Rtx types attrs pt
+  pub red : (pt : ℕ) → type_in_table words.red pt ≡ companion Red types attrs pt
   pub feedback : (pt : ℕ) → pt < 256 → get_or words.feedback pt empty_feedback ≡ feedback_of attrs pt
   pub gathered : (pt : ℕ) → format_line_values (fmtp_lines_with pt lines) ≡ fmtps_of attrs pt

@@ -177,7 +177,7 @@ fn check_section_apts(attrs: &[MediaAttribute], mid: Mid) -> Result<(), Fault>
     let mut left = attrs;
     while let Some((attr, more)) = left.split_first() {
         if let MediaAttribute::Fmtp { pt, values } = attr {
-            check_section_apt(firsts[place(*pt)], values.as_slice(), *pt, mid)?;
+            check_section_apt(firsts.get(*pt), values.as_slice(), *pt, mid)?;
         }
         left = more;
     }

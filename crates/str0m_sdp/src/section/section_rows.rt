@@ -11,7 +11,7 @@ use crate::section::companions::note_companion_line;
 use crate::section::known_formats::{format_of, groups_of};
 use crate::section::mappings::{MappedType, mapped_types, mappings, push_static_mapping, types_of};
 use crate::section::media_line::MediaLine;
-use crate::section::type_tables::{TYPES, place, types_in};
+use crate::section::type_tables::{TYPES, TypeTable, place, types_in};
 use std::alloc::{AllocError, Global};
 use str0m_formats::{Codec, CodecSpec, FormatParam, FormatParams, PayloadParams};
 use str0m_values::Pt;
@@ -20,8 +20,8 @@ use str0m_values::Pt;
 #[derive(Drop)]
 struct TypeFacts {
     /// The types of retransmissions and of redundant audio.
-    rtx: [Option<Pt>; TYPES],
-    red: [Option<Pt>; TYPES],
+    rtx: TypeTable,
+    red: TypeTable,
     /// Whether the type stands in the m-line.
     in_m_line: [bool; TYPES],
     feedback: [Feedback; TYPES],
@@ -68,14 +68,13 @@ impl TypeFacts {
         ensures row { result ≡ row_of self.now pt spec }
         ensures within { pt < 256 }
     {
-        let place = place(pt);
         let red = if is_row_audio(spec.codec) {
-            self.red[place]
+            self.red.get(pt)
         } else {
             None
         };
-        let params = PayloadParams::new(pt, self.rtx[place], spec).with_red(red);
-        self.feedback[place].switched_on(params)
+        let params = PayloadParams::new(pt, self.rtx.get(pt), spec).with_red(red);
+        self.feedback[place(pt)].switched_on(params)
     }
 
     /// Whether the type has a row.
@@ -158,8 +157,8 @@ impl MediaLine {
     {
         let alloc = *self.attrs.allocator();
         let mut words = TypeFacts {
-            rtx: [None; TYPES],
-            red: [None; TYPES],
+            rtx: TypeTable::none(),
+            red: TypeTable::none(),
             in_m_line: types_in(self.pts.as_slice()),
             feedback: [Feedback::none(); TYPES],
         };

@@ -1,4 +1,4 @@
-use Rattle.str0m_sdp.proofs.Common.{◌++◌, ◌==◌, ℕ, List, map, replicate, filter, filter_map, option_to_list, refl, rules, tests, sym, ap}
+use Rattle.str0m_sdp.proofs.Common.{◌++◌, ◌==◌, ℕ, List, map, replicate, filter, filter_map, option_to_list, rules, tests, sym, ap}
 use Rattle.str0m_sdp.proofs.Common.{◌∙◌}
 use Rattle.str0m_sdp.proofs.Common.{Bor, list_any, take_all, All-same, format_line_values, FormatParam, CodecSpec, PayloadParams, IsBounded}
 use Rattle.str0m_sdp.proofs.section.MappingsFilterMap.{filter_map_kept, filter_map_left_out, kept_of_mapped}
@@ -12,8 +12,8 @@ use Rattle.str0m_sdp.specs.section.Mappings.{codec_of_type}
 use Rattle.str0m_sdp.specs.section.SectionRows.{is_kept, row, rows}
 
 pub gather-requires : goal.gather-requires
-gather-requires c = row_nothing_gathered (map codec_of_type c.args.types.now) _ refl refl
-    (ap (λ (f : Feedback). replicate 256 f) c.none.ensures)
+gather-requires c = row_nothing_gathered (map codec_of_type c.args.types.now) _ c.none.ensures.whole c.none-2.ensures.whole
+    c.none.ensures.none c.none-2.ensures.none (ap (λ (f : Feedback). replicate 256 f) c.none-3.ensures)
 
 pub loop-mapped-init : goal.loop-mapped-init
 loop-mapped-init c =

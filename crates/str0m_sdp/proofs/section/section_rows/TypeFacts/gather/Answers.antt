@@ -29,8 +29,8 @@ loop-attr-preserved c =
             fmtp_gathered types attrs words lines c.types_of-rtx_types.result c.types_of-red_types.result _ _ i w.in-Fmtp.pt
                 w.as_slice-values.result attr
                 lt is variant w.value.ensures.range c.types_of-rtx_types.ensures.rows c.types_of-red_types.ensures.rows
-                w.note_companion_line.ensures.whole w.note_companion_line-in-Fmtp.ensures.whole w.note_companion_line.ensures.rows
-                w.note_companion_line-in-Fmtp.ensures.rows
+                (w.note_companion_line.ensures.whole so_far.rtx_rows) (w.note_companion_line-in-Fmtp.ensures.whole so_far.red_rows)
+                (w.note_companion_line.ensures.noted so_far.rtx_rows) (w.note_companion_line-in-Fmtp.ensures.noted so_far.red_rows)
                 so_far,
             c.loop-attr.invariant.1,
           )
