@@ -11,7 +11,7 @@ use str0m_formats::{Codec, CodecSpec, FormatParams};
 use str0m_values::{Frequency, Pt};
 
 /// A payload type, and the codec that it stands for, of whose format nothing is said yet: a `CodecSpec` would carry an empty one
-/// for each type, four times as large as all else.
+/// for each type, five times as large as all else.
 #[derive(Drop)]
 pub(crate) struct MappedType {
     pub(crate) pt: Pt,
