@@ -45,13 +45,20 @@ pub(crate) fn exchange_for_answers(alloc: Global) -> Result<Exchange, AllocError
     Ok(Exchange::new(answering_side(alloc)?, config))
 }
 
+/// Answers an offer; how many sections the answer has.
+fn sections_answered_by(exchange: &mut Exchange, offer: &str) -> Result<usize, ExchangeError>
+    ensures { IfOk result (HasAnswered offer.now) }
+{
+    let answer = exchange.accept_offer(offer)?;
+    Ok(answer.media_lines.len())
+}
+
 /// Answers an offer in an exchange of its own; how many sections the answer has.
 fn sections_answered(alloc: Global, offer: &str) -> Result<usize, ExchangeError>
     ensures { IfOk result (HasAnswered offer.now) }
 {
     let mut exchange = exchange_for_answers(alloc)?;
-    let answer = exchange.accept_offer(offer)?;
-    Ok(answer.media_lines.len())
+    sections_answered_by(&mut exchange, offer)
 }
 
 fn answered_once(alloc: Global, offer: &str) -> Option<usize>

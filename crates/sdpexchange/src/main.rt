@@ -61,10 +61,10 @@ fn exchange_said_last(
     Ok(said)
 }
 
-/// What a session of this side comes to, as text.
+/// What a session of this side comes to, as text. The configuration is made first: to drop it takes less proof than to drop the side.
 fn exchange_session_text(rt: &HostRuntime, matches: &ArgMatches<'_>) -> Result<String, Fault> {
-    let own = own_side(rt.alloc(), matches)?;
-    let mut exchange = Exchange::new(own, configured_codecs(rt.alloc(), matches)?);
+    let config = configured_codecs(rt.alloc(), matches)?;
+    let mut exchange = Exchange::new(own_side(rt.alloc(), matches)?, config);
     exchange_said_last(rt, matches, &mut exchange)
 }
 

@@ -1,5 +1,5 @@
 use Rattle.bench_calls.proofs.AnswerLaws.{as_many_sections_answered}
-use Rattle.bench_calls.proofs.answers.sections_answered.Goals as goal
+use Rattle.bench_calls.proofs.answers.sections_answered_by.Goals as goal
 use Rattle.bench_calls.specs.Answers.{HasAnswered}
 use Rattle.std.proofs.Common.{◌≡◌, ℕ, length, subst, sym}
 
