@@ -30,6 +30,7 @@ pub struct Extension {
 impl Extension {
     /// The extension of a URI that stands in a description, so that descriptions list it. The only error is
     /// that memory was refused, of which the URIs that browsers write need none.
+    #[inline(always)] // (each extmap line is read by it)
     pub fn from_sdp_uri(alloc: Global, uri: &str) -> Result<Extension, AllocError>
         ensures made { IfOk result (λ e. e ≡ record { uri = uri.now; serialized = true }) }
         ensures known { is_known_uri uri.now ≡ true → IsOk result }
