@@ -5,11 +5,11 @@ ghost use Rattle.str0m_signal.specs.form.FormTransport.{fingerprint};
 
 use crate::line::front::behind_label;
 use crate::line::parts::parts;
-use crate::line::words::hex_pair;
+use crate::line::words::{hex_byte, hex_pair};
 use arrayvec::ArrayVec;
 use std::alloc::{AllocError, Global};
 use str0m_sdp::label;
-use str0m_values::cuts::{cut, strip};
+use str0m_values::cuts::cut;
 use str0m_values::{Fingerprint, Items, Separator, Text};
 
 /// The byte that two hex digits write before a `:`, and what follows that.
@@ -17,10 +17,13 @@ use str0m_values::{Fingerprint, Items, Separator, Text};
 fn hash_pair_before(text: &str) -> Option<(u8, &str)>
     ensures { IfSome result (λ found. IsHashPairBefore text.now found.0 found.1.now) }
 {
-    let (pair, rest) = text.split_at_checked(2)?;
-    let more = strip(rest, ":")?;
-    let byte = hex_pair(pair)?;
-    Some((byte, more))
+    let bytes = text.as_bytes();
+    if bytes.len() > 2 && bytes[2] == b':' {
+        let byte = hex_byte(bytes[0], bytes[1])?;
+        Some((byte, &text[3..]))
+    } else {
+        None
+    }
 }
 
 /// How many bytes of a hash are read in place, so that their list asks for memory once: SHA-512 makes as many.

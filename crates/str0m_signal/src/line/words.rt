@@ -1,5 +1,5 @@
 //! The items of lists.
-ghost use Rattle.std.specs.Prelude.{◌≡◌, ◌&&◌};
+ghost use Rattle.std.specs.Prelude.{◌≡◌, ◌∷◌, ◌&&◌, []};
 ghost use Rattle.str0m_signal.specs.Prelude.{is_rest, lacks, num};
 ghost use Rattle.str0m_signal.specs.line.WordsReading.{word_text_read, name_read, digit_read, hex_pair_read, without_word_space};
 
@@ -103,6 +103,15 @@ fn digit(byte: u8) -> Option<u32>
     }
 }
 
+/// The byte that two hexadecimal digits write.
+pub(crate) fn hex_byte(high: u8, low: u8) -> Option<u8>
+    ensures { result ≡ hex_pair_read (high ∷ low ∷ []) }
+{
+    let first = digit(high)?;
+    let second = digit(low)?;
+    Some((first * 16 + second) as u8)
+}
+
 /// The byte of a text that is two hexadecimal digits.
 pub(crate) fn hex_pair(text: &str) -> Option<u8>
     ensures { result ≡ hex_pair_read text.now }
@@ -110,9 +119,7 @@ pub(crate) fn hex_pair(text: &str) -> Option<u8>
     let [high, low] = text.as_bytes() else {
         return None;
     };
-    let first = digit(*high)?;
-    let second = digit(*low)?;
-    Some((first * 16 + second) as u8)
+    hex_byte(*high, *low)
 }
 
 /// A byte as two hexadecimal digits.
