@@ -1,6 +1,8 @@
 //! The attributes of sessions and of sections.
-ghost use Rattle.std.specs.Prelude.{◌≡◌, IfOk, Some, refl};
-ghost use Rattle.str0m_sdp.specs.attribute.Attribute.{session_attribute_text, media_attribute_text, direction_attribute, session_words, media_words, attribute_word_read};
+ghost use Rattle.std.specs.Fmt.{WritesOnOk};
+ghost use Rattle.std.specs.Prelude.{◌≡◌, false, IfOk, MatchOption, Some, refl};
+ghost use Rattle.str0m_sdp.specs.attribute.Attribute.{session_attribute_text, media_attribute_text, direction_attribute, session_words, media_words, attribute_word_read, is_session_text_alone, is_session_labelled_text, is_media_text_alone, is_media_labelled_text, is_media_labelled_value};
+ghost use Rattle.str0m_sdp.specs.form.Printed.{attribute_line, labelled_line};
 
 use crate::attribute::ext_map::write_ext_map;
 use crate::attribute::feedback::write_feedback;
@@ -17,7 +19,7 @@ use crate::form::printed::{Printed, write_alone, write_labelled};
 use crate::form::word::Word;
 use crate::label;
 use std::alloc::AllocError;
-use std::fmt;
+use std::fmt::{self, Display};
 use str0m_formats::FormatParam;
 use str0m_values::{
     Boxed, Candidate, Direction, Extension, Fingerprint, Items, Mid, Name, Pt, Ssrc, Text,
@@ -245,27 +247,58 @@ impl From<Direction> for MediaAttribute {
     }
 }
 
+impl SessionAttribute {
+    /// What the line says after `a=` where it is a text alone: a word, or all of what isn't known.
+    #[inline]
+    fn as_text_alone(&self) -> Option<&str>
+        ensures { MatchOption result (is_session_text_alone self.now ≡ false)
+            (λ text. session_attribute_text self.now ≡ attribute_line text.now) }
+    {
+        match self {
+            SessionAttribute::AllowMixedExts => Some(label::EXTMAP_ALLOW_MIXED),
+            SessionAttribute::IceLite => Some(label::ICE_LITE),
+            SessionAttribute::EndOfCandidates => Some(label::END_OF_CANDIDATES),
+            SessionAttribute::Unused(text) => Some(text.as_str()),
+            _ => None,
+        }
+    }
+
+    /// The label and the text of a line that is these two.
+    #[inline]
+    fn as_labelled_text(&self) -> Option<(&'static str, &Text)>
+        ensures { MatchOption result (is_session_labelled_text self.now ≡ false)
+            (λ said. session_attribute_text self.now ≡ labelled_line said.0.now said.1.now) }
+    {
+        match self {
+            SessionAttribute::IceUfrag(text) => Some((label::ICE_UFRAG, text)),
+            SessionAttribute::IcePwd(text) => Some((label::ICE_PWD, text)),
+            SessionAttribute::IceOptions(text) => Some((label::ICE_OPTIONS, text)),
+            _ => None,
+        }
+    }
+}
+
 /// The `a=` line, with its end.
 impl fmt::Display for SessionAttribute {
     ghost output = { λ attribute. Some (session_attribute_text attribute) };
 
     fn fmt<W: fmt::Write>(&self, f: &mut fmt::Formatter<W>) -> fmt::Result {
+        if let Some(text) = self.as_text_alone() {
+            return write_alone(f, text);
+        }
+        if let Some((label, text)) = self.as_labelled_text() {
+            return write_labelled(f, label, text);
+        }
         match self {
             SessionAttribute::Group { typ, mids } => GroupLine { typ, mids }.fmt(f),
             SessionAttribute::MsidSemantic {
                 semantic,
                 stream_ids: ids,
             } => MsidSemanticLine { semantic, ids }.fmt(f),
-            SessionAttribute::AllowMixedExts => write_alone(f, label::EXTMAP_ALLOW_MIXED),
-            SessionAttribute::IceLite => write_alone(f, label::ICE_LITE),
-            SessionAttribute::IceUfrag(text) => write_labelled(f, label::ICE_UFRAG, text),
-            SessionAttribute::IcePwd(text) => write_labelled(f, label::ICE_PWD, text),
-            SessionAttribute::IceOptions(text) => write_labelled(f, label::ICE_OPTIONS, text),
             SessionAttribute::Fingerprint(hash) => write_labelled(f, label::FINGERPRINT, hash),
             SessionAttribute::Setup(setup) => write_labelled(f, label::SETUP, setup),
             SessionAttribute::Candidate(candidate) => write!(f, "a={candidate}\r\n"),
-            SessionAttribute::EndOfCandidates => write_alone(f, label::END_OF_CANDIDATES),
-            SessionAttribute::Unused(text) => write_alone(f, text.as_str()),
+            _ => unreachable!(),
         }
     }
 }
@@ -276,64 +309,117 @@ impl Printed for SessionAttribute {
     ghost prints = { λ _. refl };
 }
 
+impl MediaAttribute {
+    /// What the line says after `a=` where it is a text alone: a word, or all of what isn't known.
+    #[inline]
+    fn as_text_alone(&self) -> Option<&str>
+        ensures { MatchOption result (is_media_text_alone self.now ≡ false)
+            (λ text. media_attribute_text self.now ≡ attribute_line text.now) }
+    {
+        match self {
+            MediaAttribute::RecvOnly => Some(label::RECV_ONLY),
+            MediaAttribute::SendRecv => Some(label::SEND_RECV),
+            MediaAttribute::SendOnly => Some(label::SEND_ONLY),
+            MediaAttribute::Inactive => Some(label::INACTIVE),
+            MediaAttribute::RtcpMux => Some(label::RTCP_MUX),
+            MediaAttribute::RtcpMuxOnly => Some(label::RTCP_MUX_ONLY),
+            MediaAttribute::RtcpRsize => Some(label::RTCP_RSIZE),
+            MediaAttribute::EndOfCandidates => Some(label::END_OF_CANDIDATES),
+            MediaAttribute::Unused(text) => Some(text.as_str()),
+            _ => None,
+        }
+    }
+
+    /// The label and the text of a line that is these two.
+    #[inline]
+    fn as_labelled_text(&self) -> Option<(&'static str, &Text)>
+        ensures { MatchOption result (is_media_labelled_text self.now ≡ false)
+            (λ said. media_attribute_text self.now ≡ labelled_line said.0.now said.1.now) }
+    {
+        match self {
+            MediaAttribute::Rtcp(text) => Some((label::RTCP, text)),
+            MediaAttribute::IceUfrag(text) => Some((label::ICE_UFRAG, text)),
+            MediaAttribute::IcePwd(text) => Some((label::ICE_PWD, text)),
+            MediaAttribute::IceOptions(text) => Some((label::ICE_OPTIONS, text)),
+            MediaAttribute::SctpInit(text) => Some((label::SCTP_INIT, text)),
+            _ => None,
+        }
+    }
+}
+
+/// Writes the `a=` line of an attribute that has more than texts, with its end.
+#[inline]
+fn write_valued<W: fmt::Write>(f: &mut fmt::Formatter<W>, attribute: &MediaAttribute) -> fmt::Result
+    requires alone { is_media_text_alone attribute.now ≡ false }
+    requires labelled { is_media_labelled_text attribute.now ≡ false }
+    ensures { WritesOnOk W.write_str_gives f.old result (media_attribute_text attribute.now) f.new }
+{
+    match attribute {
+        MediaAttribute::Fingerprint(hash) => write_labelled(f, label::FINGERPRINT, hash),
+        MediaAttribute::Setup(setup) => write_labelled(f, label::SETUP, setup),
+        MediaAttribute::Mid(mid) => write_labelled(f, label::MID, mid),
+        MediaAttribute::SctpPort(port) => write_labelled(f, label::SCTP_PORT, port),
+        MediaAttribute::MaxMessageSize(size) => write_labelled(f, label::MAX_MESSAGE_SIZE, size),
+        MediaAttribute::Msid(msid) => write_labelled(f, label::MSID, msid.get()),
+        MediaAttribute::Candidate(candidate) => {
+            let candidate = candidate.get();
+            write!(f, "a={candidate}\r\n")
+        }
+        _ => write_of_media(f, attribute),
+    }
+}
+
+/// Writes the `a=` line of an attribute that speaks of payload types, extensions, streams or sources, with its end.
+#[inline]
+fn write_of_media<W: fmt::Write>(
+    f: &mut fmt::Formatter<W>,
+    attribute: &MediaAttribute,
+) -> fmt::Result
+    requires alone { is_media_text_alone attribute.now ≡ false }
+    requires labelled { is_media_labelled_text attribute.now ≡ false }
+    requires valued { is_media_labelled_value attribute.now ≡ false }
+    ensures { WritesOnOk W.write_str_gives f.old result (media_attribute_text attribute.now) f.new }
+{
+    match attribute {
+        MediaAttribute::ExtMap { id, ext } => write_ext_map(f, *id, ext),
+        MediaAttribute::RtpMap { pt, value } => write_rtp_map(f, *pt, *value),
+        MediaAttribute::RtcpFb { pt, value } => write_feedback(f, *pt, value),
+        MediaAttribute::Fmtp { pt, values } => write_fmtp(f, *pt, values.as_slice()),
+        MediaAttribute::Rid {
+            id,
+            direction,
+            pt: pts,
+            restriction,
+        } => RidLine {
+            id: id.get(),
+            direction,
+            pts,
+            restrictions: restriction.get(),
+        }
+        .fmt(f),
+        MediaAttribute::Simulcast(simulcast) => SimulcastLine(simulcast).fmt(f),
+        MediaAttribute::SsrcGroup { semantics, ssrcs } => {
+            let ssrcs = ssrcs.as_slice();
+            SsrcGroupLine { semantics, ssrcs }.fmt(f)
+        }
+        MediaAttribute::Ssrc { ssrc, attr, value } => write_source(f, *ssrc, attr, value),
+        _ => unreachable!(),
+    }
+}
+
 /// The `a=` line, with its end; nothing for what has no line: an `Fmtp` none of whose values has a
 /// text, an extension that isn't written, layers that are none or munged, a group without sources.
 impl fmt::Display for MediaAttribute {
     ghost output = { λ attribute. Some (media_attribute_text attribute) };
 
     fn fmt<W: fmt::Write>(&self, f: &mut fmt::Formatter<W>) -> fmt::Result {
-        match self {
-            MediaAttribute::Rtcp(text) => write_labelled(f, label::RTCP, text),
-            MediaAttribute::IceUfrag(text) => write_labelled(f, label::ICE_UFRAG, text),
-            MediaAttribute::IcePwd(text) => write_labelled(f, label::ICE_PWD, text),
-            MediaAttribute::IceOptions(text) => write_labelled(f, label::ICE_OPTIONS, text),
-            MediaAttribute::Fingerprint(hash) => write_labelled(f, label::FINGERPRINT, hash),
-            MediaAttribute::Setup(setup) => write_labelled(f, label::SETUP, setup),
-            MediaAttribute::Mid(mid) => write_labelled(f, label::MID, mid),
-            MediaAttribute::SctpPort(port) => write_labelled(f, label::SCTP_PORT, port),
-            MediaAttribute::MaxMessageSize(size) => write_labelled(
-                f,
-                label::MAX_MESSAGE_SIZE,
-                size,
-            ),
-            MediaAttribute::SctpInit(text) => write_labelled(f, label::SCTP_INIT, text),
-            MediaAttribute::ExtMap { id, ext } => write_ext_map(f, *id, ext),
-            MediaAttribute::RecvOnly => write_alone(f, label::RECV_ONLY),
-            MediaAttribute::SendRecv => write_alone(f, label::SEND_RECV),
-            MediaAttribute::SendOnly => write_alone(f, label::SEND_ONLY),
-            MediaAttribute::Inactive => write_alone(f, label::INACTIVE),
-            MediaAttribute::Msid(msid) => write_labelled(f, label::MSID, msid.get()),
-            MediaAttribute::RtcpMux => write_alone(f, label::RTCP_MUX),
-            MediaAttribute::RtcpMuxOnly => write_alone(f, label::RTCP_MUX_ONLY),
-            MediaAttribute::RtcpRsize => write_alone(f, label::RTCP_RSIZE),
-            MediaAttribute::Candidate(candidate) => {
-                let candidate = candidate.get();
-                write!(f, "a={candidate}\r\n")
-            }
-            MediaAttribute::EndOfCandidates => write_alone(f, label::END_OF_CANDIDATES),
-            MediaAttribute::RtpMap { pt, value } => write_rtp_map(f, *pt, *value),
-            MediaAttribute::RtcpFb { pt, value } => write_feedback(f, *pt, value),
-            MediaAttribute::Fmtp { pt, values } => write_fmtp(f, *pt, values.as_slice()),
-            MediaAttribute::Rid {
-                id,
-                direction,
-                pt: pts,
-                restriction,
-            } => RidLine {
-                id: id.get(),
-                direction,
-                pts,
-                restrictions: restriction.get(),
-            }
-            .fmt(f),
-            MediaAttribute::Simulcast(simulcast) => SimulcastLine(simulcast).fmt(f),
-            MediaAttribute::SsrcGroup { semantics, ssrcs } => {
-                let ssrcs = ssrcs.as_slice();
-                SsrcGroupLine { semantics, ssrcs }.fmt(f)
-            }
-            MediaAttribute::Ssrc { ssrc, attr, value } => write_source(f, *ssrc, attr, value),
-            MediaAttribute::Unused(text) => write_alone(f, text.as_str()),
+        if let Some(text) = self.as_text_alone() {
+            return write_alone(f, text);
         }
+        if let Some((label, text)) = self.as_labelled_text() {
+            return write_labelled(f, label, text);
+        }
+        write_valued(f, self)
     }
 }
 

@@ -1,5 +1,5 @@
 -- What attributes print: a line for each form (RFC 8866, sections 5.13 and 6). And which of them are a word alone.
-use Rattle.std.specs.Prelude.{◌<◌, ◌^◌, ℕ, List, [], ◌∷◌, ◌++◌, Option, None, All, codes, decimal, bytes_eq, IsUtf8}
+use Rattle.std.specs.Prelude.{◌<◌, ◌^◌, ℕ, Bool, true, false, List, [], ◌∷◌, ◌++◌, Option, None, All, codes, decimal, bytes_eq, IsUtf8}
 use Rattle.str0m_sdp.specs.Prelude.{Direction, IsByte, candidate_text, fingerprint_text, when, ◌<|>◌}
 use Rattle.str0m_sdp.specs.attribute.AttributeFits.{AreAttributeTexts, FitsCandidate, FitsFingerprint, FitsLayer, FitsParam, FitsRtpMap, IsMidText, IsPortNumber, IsSourceNumber}
 use Rattle.str0m_sdp.specs.attribute.ExtMap.{ext_map_text}
@@ -64,6 +64,56 @@ media_attribute_text (media.Simulcast simulcast) = simulcast_text simulcast
 media_attribute_text (media.SsrcGroup semantics ssrcs) = ssrc_group_text semantics ssrcs
 media_attribute_text (media.Ssrc ssrc attr value) = attribute_line (label.SSRC.now ++ (decimal ssrc ++ (codes " " ++ (attr ++ (codes ":" ++ value)))))
 media_attribute_text (media.Unused text) = attribute_line text
+
+-- ---- what follows the `a=` of a line
+
+-- of a session's a text alone: a word, or all of what isn't known
+abbrev pub is_session_text_alone : SessionAttribute → Bool
+is_session_text_alone session.AllowMixedExts = true
+is_session_text_alone session.IceLite = true
+is_session_text_alone session.EndOfCandidates = true
+is_session_text_alone (session.Unused text) = true
+is_session_text_alone _ = false
+
+-- of a session's a label and a text
+abbrev pub is_session_labelled_text : SessionAttribute → Bool
+is_session_labelled_text (session.IceUfrag text) = true
+is_session_labelled_text (session.IcePwd text) = true
+is_session_labelled_text (session.IceOptions text) = true
+is_session_labelled_text _ = false
+
+-- of a section's a text alone
+abbrev pub is_media_text_alone : MediaAttribute → Bool
+is_media_text_alone media.RecvOnly = true
+is_media_text_alone media.SendRecv = true
+is_media_text_alone media.SendOnly = true
+is_media_text_alone media.Inactive = true
+is_media_text_alone media.RtcpMux = true
+is_media_text_alone media.RtcpMuxOnly = true
+is_media_text_alone media.RtcpRsize = true
+is_media_text_alone media.EndOfCandidates = true
+is_media_text_alone (media.Unused text) = true
+is_media_text_alone _ = false
+
+-- of a section's a label and a text
+abbrev pub is_media_labelled_text : MediaAttribute → Bool
+is_media_labelled_text (media.Rtcp text) = true
+is_media_labelled_text (media.IceUfrag text) = true
+is_media_labelled_text (media.IcePwd text) = true
+is_media_labelled_text (media.IceOptions text) = true
+is_media_labelled_text (media.SctpInit text) = true
+is_media_labelled_text _ = false
+
+-- of a section's a label and one other value
+abbrev pub is_media_labelled_value : MediaAttribute → Bool
+is_media_labelled_value (media.Fingerprint hash) = true
+is_media_labelled_value (media.Setup setup) = true
+is_media_labelled_value (media.Mid mid) = true
+is_media_labelled_value (media.SctpPort port) = true
+is_media_labelled_value (media.MaxMessageSize size) = true
+is_media_labelled_value (media.Msid msid) = true
+is_media_labelled_value (media.Candidate candidate) = true
+is_media_labelled_value _ = false
 
 -- the attribute of a direction (RFC 8866, section 6.7)
 abbrev pub direction_attribute : Direction → MediaAttribute
