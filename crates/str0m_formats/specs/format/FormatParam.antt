@@ -25,6 +25,10 @@ pub data Kind : Type 0 where
   exactly : (text : List ℕ) → Kind
   anything : Kind
 
+abbrev pub is_flag : Kind → Bool
+is_flag flag = true
+is_flag kind = false
+
 -- what a value of the kind holds
 abbrev pub HeldParamValue : Kind → Type 0
 HeldParamValue flag = Bool

@@ -1,9 +1,9 @@
 //! The parameters of formats, and how they are read.
-ghost use Rattle.std.specs.Prelude.{◌≡◌, IfOk, codes, option_map, bytes_eq};
+ghost use Rattle.std.specs.Prelude.{◌≡◌, false, IfOk, codes, option_map, bytes_eq};
 ghost use Rattle.str0m_formats.specs.Prelude.{IsNum, IsTheOnly, num, when};
 ghost use Rattle.str0m_formats.specs.declared.format.format_param.FormatParam.{FormatParam};
 ghost use Rattle.str0m_formats.specs.declared.format.format_param.FormatParam.TheVariants.{AmrWbUnsupported};
-ghost use Rattle.str0m_formats.specs.format.FormatParam.{IsMode, IsModeSet, IsParsedParam, IsEventRange, IsBareParam, IsPrintedParam, pair_texts, entry, entry_text};
+ghost use Rattle.str0m_formats.specs.format.FormatParam.{IsMode, IsModeSet, IsParsedParam, IsEventRange, IsBareParam, IsPrintedParam, pair_texts, entry, entry_text, is_flag, kind, number};
 ghost use Rattle.str0m_formats.specs.format.FormatParamReading.{param_number_read, param_hex_read, modes_read, param_value_read, param_of, bare_param};
 ghost use Rattle.str0m_formats.specs.format.Pairs.{ArePairsRead};
 ghost use Rattle.str0m_formats.specs.format.ParamText.{keyed_text};
@@ -141,11 +141,11 @@ fn modes(text: &str) -> Option<u16>
 
 impl FormatKey {
     /// The parameter of a value after the key.
+    #[inline]
     fn param(self, value: &str) -> Option<FormatParam>
         ensures { result ≡ param_value_read self value.now }
     {
         match self {
-            FormatKey::MinPTime => Some(FormatParam::MinPTime(num_u8(value, 255)?)),
             FormatKey::Stereo => Some(FormatParam::Stereo(is_param_flag_one(value))),
             FormatKey::SpropStereo => Some(FormatParam::SpropStereo(is_param_flag_one(value))),
             FormatKey::UseInbandFec => Some(FormatParam::UseInbandFec(is_param_flag_one(value))),
@@ -153,24 +153,47 @@ impl FormatKey {
             FormatKey::LevelAsymmetryAllowed => {
                 Some(FormatParam::LevelAsymmetryAllowed(is_param_flag_one(value)))
             }
-            FormatKey::PacketizationMode => {
-                Some(FormatParam::PacketizationMode(num_u8(value, 255)?))
-            }
-            FormatKey::ProfileLevelId => {
-                Some(FormatParam::ProfileLevelId(param_hex_else_decimal(value)?))
-            }
-            FormatKey::ProfileId => Some(FormatParam::ProfileId(num_u32(value)?)),
-            FormatKey::Profile => Some(FormatParam::Profile(num_u8(value, 255)?)),
-            FormatKey::LevelIdx => Some(FormatParam::LevelIdx(num_u8(value, 255)?)),
-            FormatKey::Tier => Some(FormatParam::Tier(num_u8(value, 255)?)),
-            FormatKey::SpropMaxDonDiff => Some(FormatParam::SpropMaxDonDiff(distance(value)?)),
             FormatKey::OctetAlign => Some(FormatParam::OctetAlign(is_param_flag_one(value))),
-            FormatKey::ModeSet => Some(FormatParam::ModeSet(modes(value)?)),
-            FormatKey::Apt => Some(FormatParam::Apt(Pt::new_with_value(num_u8(value, 255)?))),
+            _ => self.param_but_flag(value),
+        }
+    }
+
+    /// The parameter of a value after a key that takes no flag.
+    #[inline]
+    fn param_but_flag(self, value: &str) -> Option<FormatParam>
+        requires { is_flag (kind self) ≡ false }
+        ensures { result ≡ param_value_read self value.now }
+    {
+        match self {
+            FormatKey::ProfileLevelId => {
+                param_hex_else_decimal(value).map(FormatParam::ProfileLevelId)
+            }
+            FormatKey::ProfileId => num_u32(value).map(FormatParam::ProfileId),
+            FormatKey::SpropMaxDonDiff => distance(value).map(FormatParam::SpropMaxDonDiff),
+            FormatKey::ModeSet => modes(value).map(FormatParam::ModeSet),
             FormatKey::Crc => unsupported_param(is_param_flag_one(value)),
             FormatKey::RobustSorting => unsupported_param(is_param_flag_one(value)),
             FormatKey::ModeChangePeriod => unsupported_param(is_key_text(value, "2")),
             FormatKey::Interleaving => Some(FormatParam::AmrWbUnsupported),
+            _ => self.byte_param(value),
+        }
+    }
+
+    /// The parameter of a value after a key that takes a number up to 255.
+    #[inline]
+    fn byte_param(self, value: &str) -> Option<FormatParam>
+        requires { kind self ≡ number 255 }
+        ensures { result ≡ param_value_read self value.now }
+    {
+        let n = num_u8(value, 255)?;
+        match self {
+            FormatKey::MinPTime => Some(FormatParam::MinPTime(n)),
+            FormatKey::PacketizationMode => Some(FormatParam::PacketizationMode(n)),
+            FormatKey::Profile => Some(FormatParam::Profile(n)),
+            FormatKey::LevelIdx => Some(FormatParam::LevelIdx(n)),
+            FormatKey::Tier => Some(FormatParam::Tier(n)),
+            FormatKey::Apt => Some(FormatParam::Apt(Pt::new_with_value(n))),
+            _ => unreachable!(),
         }
     }
 }
