@@ -1,7 +1,7 @@
 //! Formats: the parameters of a codec, each in a field.
-ghost use Rattle.std.specs.Prelude.{◌≡◌, ◌++◌, IfOk, Some};
+ghost use Rattle.std.specs.Prelude.{◌≡◌, ◌++◌, false, IfOk, Some};
 ghost use Rattle.str0m_formats.specs.declared.format.format_params.Field.TheVariants as field;
-ghost use Rattle.str0m_formats.specs.format.FormatParam.{param_text, param_part_if};
+ghost use Rattle.str0m_formats.specs.format.FormatParam.{is_flag, kind, param_text, param_part_if};
 ghost use Rattle.str0m_formats.specs.format.FormatParams.{set_all, empty, set, param_at, params_of, params_text};
 
 use crate::format::format_key::FormatKey;
@@ -141,31 +141,41 @@ impl FormatParams {
     }
 
     /// The parameter of the field of a key, where it is given.
+    #[inline]
     fn keyed(self, key: FormatKey) -> Option<FormatParam>
         ensures { result ≡ param_at (field.Key key) self }
     {
         match key {
-            FormatKey::MinPTime => Some(FormatParam::MinPTime(self.min_p_time?)),
-            FormatKey::Stereo => Some(FormatParam::Stereo(self.stereo?)),
-            FormatKey::SpropStereo => Some(FormatParam::SpropStereo(self.sprop_stereo?)),
-            FormatKey::UseInbandFec => Some(FormatParam::UseInbandFec(self.use_inband_fec?)),
-            FormatKey::UseDtx => Some(FormatParam::UseDtx(self.use_dtx?)),
-            FormatKey::LevelAsymmetryAllowed => Some(FormatParam::LevelAsymmetryAllowed(
-                self.level_asymmetry_allowed?,
-            )),
-            FormatKey::PacketizationMode => Some(FormatParam::PacketizationMode(
-                self.packetization_mode?,
-            )),
-            FormatKey::ProfileLevelId => Some(FormatParam::ProfileLevelId(self.profile_level_id?)),
-            FormatKey::ProfileId => Some(FormatParam::ProfileId(self.profile_id?)),
-            FormatKey::Profile => Some(FormatParam::Profile(self.profile?)),
-            FormatKey::LevelIdx => Some(FormatParam::LevelIdx(self.level_idx?)),
-            FormatKey::Tier => Some(FormatParam::Tier(self.tier?)),
-            FormatKey::SpropMaxDonDiff => Some(FormatParam::SpropMaxDonDiff(
-                self.sprop_max_don_diff?,
-            )),
-            FormatKey::OctetAlign => Some(FormatParam::OctetAlign(self.octet_align?)),
-            FormatKey::ModeSet => Some(FormatParam::ModeSet(self.mode_set?)),
+            FormatKey::Stereo => self.stereo.map(FormatParam::Stereo),
+            FormatKey::SpropStereo => self.sprop_stereo.map(FormatParam::SpropStereo),
+            FormatKey::UseInbandFec => self.use_inband_fec.map(FormatParam::UseInbandFec),
+            FormatKey::UseDtx => self.use_dtx.map(FormatParam::UseDtx),
+            FormatKey::LevelAsymmetryAllowed => self
+                .level_asymmetry_allowed
+                .map(FormatParam::LevelAsymmetryAllowed),
+            FormatKey::OctetAlign => self.octet_align.map(FormatParam::OctetAlign),
+            _ => self.keyed_but_flag(key),
+        }
+    }
+
+    /// The parameter of the field of a key that takes no flag, where it is given.
+    #[inline]
+    fn keyed_but_flag(self, key: FormatKey) -> Option<FormatParam>
+        requires { is_flag (kind key) ≡ false }
+        ensures { result ≡ param_at (field.Key key) self }
+    {
+        match key {
+            FormatKey::MinPTime => self.min_p_time.map(FormatParam::MinPTime),
+            FormatKey::PacketizationMode => self
+                .packetization_mode
+                .map(FormatParam::PacketizationMode),
+            FormatKey::ProfileLevelId => self.profile_level_id.map(FormatParam::ProfileLevelId),
+            FormatKey::ProfileId => self.profile_id.map(FormatParam::ProfileId),
+            FormatKey::Profile => self.profile.map(FormatParam::Profile),
+            FormatKey::LevelIdx => self.level_idx.map(FormatParam::LevelIdx),
+            FormatKey::Tier => self.tier.map(FormatParam::Tier),
+            FormatKey::SpropMaxDonDiff => self.sprop_max_don_diff.map(FormatParam::SpropMaxDonDiff),
+            FormatKey::ModeSet => self.mode_set.map(FormatParam::ModeSet),
             _ => None,
         }
     }
