@@ -1,8 +1,8 @@
 //! The attributes of sessions and of sections.
 ghost use Rattle.std.specs.Fmt.{WritesOnOk};
-ghost use Rattle.std.specs.Prelude.{◌≡◌, false, IfOk, MatchOption, Some, refl};
-ghost use Rattle.str0m_sdp.specs.attribute.Attribute.{session_attribute_text, media_attribute_text, direction_attribute, session_words, media_words, attribute_word_read, is_session_text_alone, is_session_labelled_text, is_media_text_alone, is_media_labelled_text, is_media_labelled_value};
-ghost use Rattle.str0m_sdp.specs.form.Printed.{attribute_line, labelled_line};
+ghost use Rattle.std.specs.Prelude.{◌≡◌, false, true, IfOk, Some, refl};
+ghost use Rattle.str0m_sdp.specs.attribute.Attribute.{session_attribute_text, media_attribute_text, direction_attribute, session_words, media_words, attribute_word_read, is_session_text_alone, has_session_values, is_media_text_alone, has_one_media_value, has_many_media_values};
+ghost use Rattle.str0m_sdp.specs.form.Printed.{attribute_line};
 
 use crate::attribute::ext_map::write_ext_map;
 use crate::attribute::feedback::write_feedback;
@@ -19,7 +19,7 @@ use crate::form::printed::{Printed, write_alone, write_labelled};
 use crate::form::word::Word;
 use crate::label;
 use std::alloc::AllocError;
-use std::fmt::{self, Display};
+use std::fmt;
 use str0m_formats::FormatParam;
 use str0m_values::{
     Boxed, Candidate, Direction, Extension, Fingerprint, Items, Mid, Name, Pt, Ssrc, Text,
@@ -248,33 +248,36 @@ impl From<Direction> for MediaAttribute {
 }
 
 impl SessionAttribute {
-    /// What the line says after `a=` where it is a text alone: a word, or all of what isn't known.
+    /// What the line says after `a=` where that is a text alone: a word, or all of what isn't known.
     #[inline]
-    fn as_text_alone(&self) -> Option<&str>
-        ensures { MatchOption result (is_session_text_alone self.now ≡ false)
-            (λ text. session_attribute_text self.now ≡ attribute_line text.now) }
+    fn text_alone(&self) -> &str
+        requires { is_session_text_alone self.now ≡ true }
+        ensures { session_attribute_text self.now ≡ attribute_line result.now }
     {
         match self {
-            SessionAttribute::AllowMixedExts => Some(label::EXTMAP_ALLOW_MIXED),
-            SessionAttribute::IceLite => Some(label::ICE_LITE),
-            SessionAttribute::EndOfCandidates => Some(label::END_OF_CANDIDATES),
-            SessionAttribute::Unused(text) => Some(text.as_str()),
-            _ => None,
+            SessionAttribute::AllowMixedExts => label::EXTMAP_ALLOW_MIXED,
+            SessionAttribute::IceLite => label::ICE_LITE,
+            SessionAttribute::EndOfCandidates => label::END_OF_CANDIDATES,
+            SessionAttribute::Unused(text) => text.as_str(),
+            _ => unreachable!(),
         }
     }
+}
 
-    /// The label and the text of a line that is these two.
-    #[inline]
-    fn as_labelled_text(&self) -> Option<(&'static str, &Text)>
-        ensures { MatchOption result (is_session_labelled_text self.now ≡ false)
-            (λ said. session_attribute_text self.now ≡ labelled_line said.0.now said.1.now) }
-    {
-        match self {
-            SessionAttribute::IceUfrag(text) => Some((label::ICE_UFRAG, text)),
-            SessionAttribute::IcePwd(text) => Some((label::ICE_PWD, text)),
-            SessionAttribute::IceOptions(text) => Some((label::ICE_OPTIONS, text)),
-            _ => None,
-        }
+/// Writes the `a=` line of a text, with its end: of a label and the text, or of the text alone.
+#[inline]
+fn write_session_text<W: fmt::Write>(
+    f: &mut fmt::Formatter<W>,
+    attribute: &SessionAttribute,
+) -> fmt::Result
+    requires { has_session_values attribute.now ≡ false }
+    ensures { WritesOnOk W.write_str_gives f.old result (session_attribute_text attribute.now) f.new }
+{
+    match attribute {
+        SessionAttribute::IceUfrag(text) => write_labelled(f, label::ICE_UFRAG, text),
+        SessionAttribute::IcePwd(text) => write_labelled(f, label::ICE_PWD, text),
+        SessionAttribute::IceOptions(text) => write_labelled(f, label::ICE_OPTIONS, text),
+        _ => write_alone(f, attribute.text_alone()),
     }
 }
 
@@ -283,12 +286,6 @@ impl fmt::Display for SessionAttribute {
     ghost output = { λ attribute. Some (session_attribute_text attribute) };
 
     fn fmt<W: fmt::Write>(&self, f: &mut fmt::Formatter<W>) -> fmt::Result {
-        if let Some(text) = self.as_text_alone() {
-            return write_alone(f, text);
-        }
-        if let Some((label, text)) = self.as_labelled_text() {
-            return write_labelled(f, label, text);
-        }
         match self {
             SessionAttribute::Group { typ, mids } => GroupLine { typ, mids }.fmt(f),
             SessionAttribute::MsidSemantic {
@@ -298,7 +295,7 @@ impl fmt::Display for SessionAttribute {
             SessionAttribute::Fingerprint(hash) => write_labelled(f, label::FINGERPRINT, hash),
             SessionAttribute::Setup(setup) => write_labelled(f, label::SETUP, setup),
             SessionAttribute::Candidate(candidate) => write!(f, "a={candidate}\r\n"),
-            _ => unreachable!(),
+            _ => write_session_text(f, self),
         }
     }
 }
@@ -310,48 +307,54 @@ impl Printed for SessionAttribute {
 }
 
 impl MediaAttribute {
-    /// What the line says after `a=` where it is a text alone: a word, or all of what isn't known.
+    /// What the line says after `a=` where that is a text alone: a word, or all of what isn't known.
     #[inline]
-    fn as_text_alone(&self) -> Option<&str>
-        ensures { MatchOption result (is_media_text_alone self.now ≡ false)
-            (λ text. media_attribute_text self.now ≡ attribute_line text.now) }
+    fn text_alone(&self) -> &str
+        requires { is_media_text_alone self.now ≡ true }
+        ensures { media_attribute_text self.now ≡ attribute_line result.now }
     {
         match self {
-            MediaAttribute::RecvOnly => Some(label::RECV_ONLY),
-            MediaAttribute::SendRecv => Some(label::SEND_RECV),
-            MediaAttribute::SendOnly => Some(label::SEND_ONLY),
-            MediaAttribute::Inactive => Some(label::INACTIVE),
-            MediaAttribute::RtcpMux => Some(label::RTCP_MUX),
-            MediaAttribute::RtcpMuxOnly => Some(label::RTCP_MUX_ONLY),
-            MediaAttribute::RtcpRsize => Some(label::RTCP_RSIZE),
-            MediaAttribute::EndOfCandidates => Some(label::END_OF_CANDIDATES),
-            MediaAttribute::Unused(text) => Some(text.as_str()),
-            _ => None,
-        }
-    }
-
-    /// The label and the text of a line that is these two.
-    #[inline]
-    fn as_labelled_text(&self) -> Option<(&'static str, &Text)>
-        ensures { MatchOption result (is_media_labelled_text self.now ≡ false)
-            (λ said. media_attribute_text self.now ≡ labelled_line said.0.now said.1.now) }
-    {
-        match self {
-            MediaAttribute::Rtcp(text) => Some((label::RTCP, text)),
-            MediaAttribute::IceUfrag(text) => Some((label::ICE_UFRAG, text)),
-            MediaAttribute::IcePwd(text) => Some((label::ICE_PWD, text)),
-            MediaAttribute::IceOptions(text) => Some((label::ICE_OPTIONS, text)),
-            MediaAttribute::SctpInit(text) => Some((label::SCTP_INIT, text)),
-            _ => None,
+            MediaAttribute::RecvOnly => label::RECV_ONLY,
+            MediaAttribute::SendRecv => label::SEND_RECV,
+            MediaAttribute::SendOnly => label::SEND_ONLY,
+            MediaAttribute::Inactive => label::INACTIVE,
+            MediaAttribute::RtcpMux => label::RTCP_MUX,
+            MediaAttribute::RtcpMuxOnly => label::RTCP_MUX_ONLY,
+            MediaAttribute::RtcpRsize => label::RTCP_RSIZE,
+            MediaAttribute::EndOfCandidates => label::END_OF_CANDIDATES,
+            MediaAttribute::Unused(text) => text.as_str(),
+            _ => unreachable!(),
         }
     }
 }
 
-/// Writes the `a=` line of an attribute that has more than texts, with its end.
+/// Writes the `a=` line of a text, with its end: of a label and the text, or of the text alone.
 #[inline]
-fn write_valued<W: fmt::Write>(f: &mut fmt::Formatter<W>, attribute: &MediaAttribute) -> fmt::Result
-    requires alone { is_media_text_alone attribute.now ≡ false }
-    requires labelled { is_media_labelled_text attribute.now ≡ false }
+fn write_media_text<W: fmt::Write>(
+    f: &mut fmt::Formatter<W>,
+    attribute: &MediaAttribute,
+) -> fmt::Result
+    requires many { has_many_media_values attribute.now ≡ false }
+    requires one { has_one_media_value attribute.now ≡ false }
+    ensures { WritesOnOk W.write_str_gives f.old result (media_attribute_text attribute.now) f.new }
+{
+    match attribute {
+        MediaAttribute::Rtcp(text) => write_labelled(f, label::RTCP, text),
+        MediaAttribute::IceUfrag(text) => write_labelled(f, label::ICE_UFRAG, text),
+        MediaAttribute::IcePwd(text) => write_labelled(f, label::ICE_PWD, text),
+        MediaAttribute::IceOptions(text) => write_labelled(f, label::ICE_OPTIONS, text),
+        MediaAttribute::SctpInit(text) => write_labelled(f, label::SCTP_INIT, text),
+        _ => write_alone(f, attribute.text_alone()),
+    }
+}
+
+/// Writes the `a=` line of a label and one value, with its end.
+#[inline]
+fn write_media_value<W: fmt::Write>(
+    f: &mut fmt::Formatter<W>,
+    attribute: &MediaAttribute,
+) -> fmt::Result
+    requires { has_many_media_values attribute.now ≡ false }
     ensures { WritesOnOk W.write_str_gives f.old result (media_attribute_text attribute.now) f.new }
 {
     match attribute {
@@ -365,45 +368,7 @@ fn write_valued<W: fmt::Write>(f: &mut fmt::Formatter<W>, attribute: &MediaAttri
             let candidate = candidate.get();
             write!(f, "a={candidate}\r\n")
         }
-        _ => write_of_media(f, attribute),
-    }
-}
-
-/// Writes the `a=` line of an attribute that speaks of payload types, extensions, streams or sources, with its end.
-#[inline]
-fn write_of_media<W: fmt::Write>(
-    f: &mut fmt::Formatter<W>,
-    attribute: &MediaAttribute,
-) -> fmt::Result
-    requires alone { is_media_text_alone attribute.now ≡ false }
-    requires labelled { is_media_labelled_text attribute.now ≡ false }
-    requires valued { is_media_labelled_value attribute.now ≡ false }
-    ensures { WritesOnOk W.write_str_gives f.old result (media_attribute_text attribute.now) f.new }
-{
-    match attribute {
-        MediaAttribute::ExtMap { id, ext } => write_ext_map(f, *id, ext),
-        MediaAttribute::RtpMap { pt, value } => write_rtp_map(f, *pt, *value),
-        MediaAttribute::RtcpFb { pt, value } => write_feedback(f, *pt, value),
-        MediaAttribute::Fmtp { pt, values } => write_fmtp(f, *pt, values.as_slice()),
-        MediaAttribute::Rid {
-            id,
-            direction,
-            pt: pts,
-            restriction,
-        } => RidLine {
-            id: id.get(),
-            direction,
-            pts,
-            restrictions: restriction.get(),
-        }
-        .fmt(f),
-        MediaAttribute::Simulcast(simulcast) => SimulcastLine(simulcast).fmt(f),
-        MediaAttribute::SsrcGroup { semantics, ssrcs } => {
-            let ssrcs = ssrcs.as_slice();
-            SsrcGroupLine { semantics, ssrcs }.fmt(f)
-        }
-        MediaAttribute::Ssrc { ssrc, attr, value } => write_source(f, *ssrc, attr, value),
-        _ => unreachable!(),
+        _ => write_media_text(f, attribute),
     }
 }
 
@@ -413,13 +378,31 @@ impl fmt::Display for MediaAttribute {
     ghost output = { λ attribute. Some (media_attribute_text attribute) };
 
     fn fmt<W: fmt::Write>(&self, f: &mut fmt::Formatter<W>) -> fmt::Result {
-        if let Some(text) = self.as_text_alone() {
-            return write_alone(f, text);
+        match self {
+            MediaAttribute::ExtMap { id, ext } => write_ext_map(f, *id, ext),
+            MediaAttribute::RtpMap { pt, value } => write_rtp_map(f, *pt, *value),
+            MediaAttribute::RtcpFb { pt, value } => write_feedback(f, *pt, value),
+            MediaAttribute::Fmtp { pt, values } => write_fmtp(f, *pt, values.as_slice()),
+            MediaAttribute::Rid {
+                id,
+                direction,
+                pt: pts,
+                restriction,
+            } => RidLine {
+                id: id.get(),
+                direction,
+                pts,
+                restrictions: restriction.get(),
+            }
+            .fmt(f),
+            MediaAttribute::Simulcast(simulcast) => SimulcastLine(simulcast).fmt(f),
+            MediaAttribute::SsrcGroup { semantics, ssrcs } => {
+                let ssrcs = ssrcs.as_slice();
+                SsrcGroupLine { semantics, ssrcs }.fmt(f)
+            }
+            MediaAttribute::Ssrc { ssrc, attr, value } => write_source(f, *ssrc, attr, value),
+            _ => write_media_value(f, self),
         }
-        if let Some((label, text)) = self.as_labelled_text() {
-            return write_labelled(f, label, text);
-        }
-        write_valued(f, self)
     }
 }
 

@@ -75,12 +75,14 @@ is_session_text_alone session.EndOfCandidates = true
 is_session_text_alone (session.Unused text) = true
 is_session_text_alone _ = false
 
--- of a session's a label and a text
-abbrev pub is_session_labelled_text : SessionAttribute → Bool
-is_session_labelled_text (session.IceUfrag text) = true
-is_session_labelled_text (session.IcePwd text) = true
-is_session_labelled_text (session.IceOptions text) = true
-is_session_labelled_text _ = false
+-- of a session's more than texts
+abbrev pub has_session_values : SessionAttribute → Bool
+has_session_values (session.Group typ mids) = true
+has_session_values (session.MsidSemantic semantic ids) = true
+has_session_values (session.Fingerprint hash) = true
+has_session_values (session.Setup setup) = true
+has_session_values (session.Candidate candidate) = true
+has_session_values _ = false
 
 -- of a section's a text alone
 abbrev pub is_media_text_alone : MediaAttribute → Bool
@@ -95,25 +97,28 @@ is_media_text_alone media.EndOfCandidates = true
 is_media_text_alone (media.Unused text) = true
 is_media_text_alone _ = false
 
--- of a section's a label and a text
-abbrev pub is_media_labelled_text : MediaAttribute → Bool
-is_media_labelled_text (media.Rtcp text) = true
-is_media_labelled_text (media.IceUfrag text) = true
-is_media_labelled_text (media.IcePwd text) = true
-is_media_labelled_text (media.IceOptions text) = true
-is_media_labelled_text (media.SctpInit text) = true
-is_media_labelled_text _ = false
+-- of a section's a label and one value, which is no plain text
+abbrev pub has_one_media_value : MediaAttribute → Bool
+has_one_media_value (media.Fingerprint hash) = true
+has_one_media_value (media.Setup setup) = true
+has_one_media_value (media.Mid mid) = true
+has_one_media_value (media.SctpPort port) = true
+has_one_media_value (media.MaxMessageSize size) = true
+has_one_media_value (media.Msid msid) = true
+has_one_media_value (media.Candidate candidate) = true
+has_one_media_value _ = false
 
--- of a section's a label and one other value
-abbrev pub is_media_labelled_value : MediaAttribute → Bool
-is_media_labelled_value (media.Fingerprint hash) = true
-is_media_labelled_value (media.Setup setup) = true
-is_media_labelled_value (media.Mid mid) = true
-is_media_labelled_value (media.SctpPort port) = true
-is_media_labelled_value (media.MaxMessageSize size) = true
-is_media_labelled_value (media.Msid msid) = true
-is_media_labelled_value (media.Candidate candidate) = true
-is_media_labelled_value _ = false
+-- of a section's a label and many values
+abbrev pub has_many_media_values : MediaAttribute → Bool
+has_many_media_values (media.ExtMap id ext) = true
+has_many_media_values (media.RtpMap pt value) = true
+has_many_media_values (media.RtcpFb pt value) = true
+has_many_media_values (media.Fmtp pt values) = true
+has_many_media_values (media.Rid id direction pts restrictions) = true
+has_many_media_values (media.Simulcast simulcast) = true
+has_many_media_values (media.SsrcGroup semantics ssrcs) = true
+has_many_media_values (media.Ssrc ssrc attr value) = true
+has_many_media_values _ = false
 
 -- the attribute of a direction (RFC 8866, section 6.7)
 abbrev pub direction_attribute : Direction → MediaAttribute
