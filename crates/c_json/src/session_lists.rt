@@ -62,7 +62,7 @@ impl Listed for SessionList {
         attr: &SessionAttribute,
     ) -> Result<(), AllocError> {
         match attr {
-            SessionAttribute::Candidate(found) => add_candidate(json, found),
+            SessionAttribute::Candidate(found) => add_candidate(json, found.get()),
             SessionAttribute::Group { typ, mids } => add_session_group(json, typ, mids.as_slice()),
             SessionAttribute::Unused(text) => add_unread(json, text.as_str()),
             _ => {

@@ -14,8 +14,8 @@ pub(crate) fn in_session(answer: &mut Answer, field: &str, text: &str) -> Sessio
         "group" | "group-mid" => held_in_group(answer, field, text),
         "semantic" | "semantic-stream" => held_in_semantic(answer, field, text),
         "fingerprint" => SessionAttribute::Fingerprint(held_fingerprint(answer, text)),
-        "candidate" => SessionAttribute::Candidate(held_candidate(answer, text, None)),
-        "candidate-ufrag" => SessionAttribute::Candidate(held_candidate(answer, "1", Some(text))),
+        "candidate" => held_in_session_candidate(answer, text, None),
+        "candidate-ufrag" => held_in_session_candidate(answer, "1", Some(text)),
         _ => in_session_line(field, text_of(answer, text)),
     }
 }
@@ -193,6 +193,24 @@ fn held_in_candidate(answer: &mut Answer, foundation: &str, ufrag: Option<&str>)
 fn made_candidate(alloc: Global, candidate: Candidate) -> Result<MediaAttribute, AllocError> {
     let candidate = Boxed::new(alloc, candidate)?;
     Ok(MediaAttribute::Candidate(candidate))
+}
+
+fn held_in_session_candidate(
+    answer: &mut Answer,
+    foundation: &str,
+    ufrag: Option<&str>,
+) -> SessionAttribute {
+    let candidate = held_candidate(answer, foundation, ufrag);
+    let made = made_session_candidate(answer.alloc(), candidate);
+    answer.kept(made, SessionAttribute::IceLite)
+}
+
+fn made_session_candidate(
+    alloc: Global,
+    candidate: Candidate,
+) -> Result<SessionAttribute, AllocError> {
+    let candidate = Boxed::new(alloc, candidate)?;
+    Ok(SessionAttribute::Candidate(candidate))
 }
 
 /// A layer that is sent or received under this name; else one that is sent under another, of which the text is noted.

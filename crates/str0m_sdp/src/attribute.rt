@@ -73,7 +73,7 @@ pub enum SessionAttribute {
     /// `a=setup:` (RFC 8842, section 5.2).
     Setup(Setup),
     /// `a=candidate:` (RFC 8839, section 5.1).
-    Candidate(Candidate),
+    Candidate(Boxed<Candidate>),
     /// `a=end-of-candidates` (RFC 8840, section 8.1).
     EndOfCandidates,
     /// Any other attribute, as the text after `a=`.
@@ -294,7 +294,10 @@ impl fmt::Display for SessionAttribute {
             } => MsidSemanticLine { semantic, ids }.fmt(f),
             SessionAttribute::Fingerprint(hash) => write_labelled(f, label::FINGERPRINT, hash),
             SessionAttribute::Setup(setup) => write_labelled(f, label::SETUP, setup),
-            SessionAttribute::Candidate(candidate) => write!(f, "a={candidate}\r\n"),
+            SessionAttribute::Candidate(found) => {
+                let found = found.get();
+                write!(f, "a={found}\r\n")
+            }
             _ => write_session_text(f, self),
         }
     }

@@ -89,7 +89,7 @@ impl TransportAttribute for SessionAttribute {
 
     fn as_candidate(&self) -> Option<&Candidate> {
         match self {
-            SessionAttribute::Candidate(candidate) => Some(candidate),
+            SessionAttribute::Candidate(candidate) => Some(candidate.get()),
             _ => None,
         }
     }

@@ -16,7 +16,7 @@ use std::alloc::{AllocError, Global};
 use str0m_sdp::{SessionAttribute, label};
 use str0m_values::candidate_text::candidate;
 use str0m_values::cuts::strip;
-use str0m_values::{Items, Text};
+use str0m_values::{Boxed, Items, Text};
 
 fn session_setup(text: &str) -> Option<SessionAttribute>
     ensures { result ≡ (setup Setup).read text.now }
@@ -54,7 +54,7 @@ fn session_candidate(alloc: Global, text: &str) -> Result<Option<SessionAttribut
     ensures { IfOk result (λ found. found ≡ (form_made_as candidate Candidate).read text.now) }
 {
     match candidate(alloc, text)? {
-        Some(candidate) => Ok(Some(SessionAttribute::Candidate(candidate))),
+        Some(candidate) => Ok(Some(SessionAttribute::Candidate(Boxed::new(alloc, candidate)?))),
         None => Ok(None),
     }
 }
