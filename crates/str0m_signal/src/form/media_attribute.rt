@@ -312,6 +312,9 @@ impl Attribute for MediaAttribute {
     }
 }
 
+/// How many attribute lines browsers give a short section.
+const USUAL_MEDIA_LINES: usize = 32;
+
 /// The run of attribute lines that stands next.
 pub(crate) fn media_attributes(
     alloc: Global,
@@ -319,5 +322,5 @@ pub(crate) fn media_attributes(
 ) -> Result<(Items<MediaAttribute>, &str), AllocError>
     ensures { IfOk result (λ found. Run (OneLine IsMediaLine) (lines_of text.now) found.0 (lines_of found.1.now)) }
 {
-    attribute_run(alloc, text)
+    attribute_run(alloc, text, USUAL_MEDIA_LINES)
 }

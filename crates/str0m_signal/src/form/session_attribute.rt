@@ -108,6 +108,9 @@ impl Attribute for SessionAttribute {
     }
 }
 
+/// How many attribute lines browsers give a session.
+const USUAL_SESSION_LINES: usize = 3;
+
 /// The run of attribute lines that stands next.
 pub(crate) fn session_attributes(
     alloc: Global,
@@ -115,5 +118,5 @@ pub(crate) fn session_attributes(
 ) -> Result<(Items<SessionAttribute>, &str), AllocError>
     ensures { IfOk result (λ found. Run (OneLine IsSessionLine) (lines_of text.now) found.0 (lines_of found.1.now)) }
 {
-    attribute_run(alloc, text)
+    attribute_run(alloc, text, USUAL_SESSION_LINES)
 }

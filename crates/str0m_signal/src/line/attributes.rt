@@ -87,11 +87,8 @@ pub(crate) fn next_line<A: Attribute>(
     }
 }
 
-/// How many lines a list of attributes has room for at first, where the text may have so many: no answer depends on it.
-const FIRST_LINES: usize = 32;
-
 /// How many further items a list may keep room for.
-const SPARE_ITEMS: usize = 8;
+const SPARE_ITEMS: usize = 4;
 
 /// The items as they are held, which is for longer than they are read: room for many further ones is given back.
 pub(crate) fn without_spare_room<T: Drop>(mut items: Vec<T>) -> Items<T>
@@ -103,15 +100,17 @@ pub(crate) fn without_spare_room<T: Drop>(mut items: Vec<T>) -> Items<T>
     Items::from(items)
 }
 
-/// The run of attribute lines that stands next.
+/// The run of attribute lines that stands next, in a list that has room for `usual` lines at first, where the text may have so
+/// many: no answer depends on it.
 pub(crate) fn attribute_run<A: Attribute>(
     alloc: Global,
     text: &str,
+    usual: usize,
 ) -> Result<(Items<A>, &str), AllocError>
     ensures { IfOk result (λ found. Run (ReadsTo (read_attribute A.reading)) (lines_of text.now) found.0 (lines_of found.1.now)) }
 {
     let likely = text.len() / BYTES_OF_A_LINE;
-    let mut attributes = Vec::with_capacity(alloc, likely.min(FIRST_LINES))?;
+    let mut attributes = Vec::with_capacity(alloc, likely.min(usual))?;
     let mut rest = text;
     while let Some((content, after)) = clean_line(rest) {
         if !take_attribute_content(alloc, content, &mut attributes)? {

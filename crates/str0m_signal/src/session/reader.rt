@@ -1,6 +1,6 @@
 //! The readers of whole texts and of single lines.
 
-ghost use Rattle.std.specs.Prelude.{All, IfOk};
+ghost use Rattle.std.specs.Prelude.{◌≡◌, ◌++◌, ◌∷◌, [], All, IfOk};
 ghost use Rattle.str0m_signal.specs.Prelude.{HasBoundedRows};
 ghost use Rattle.str0m_signal.specs.form.CandidateLine.{IsCandidateLine};
 ghost use Rattle.str0m_signal.specs.form.MediaAttribute.{IsMediaLine};
@@ -14,7 +14,7 @@ use crate::form::session_attribute::session_attributes;
 use crate::line::attributes::{Attribute, next_line};
 use crate::session::header::{SessionHead, next_header};
 use crate::session::section::section;
-use std::alloc::Global;
+use std::alloc::{AllocError, Global};
 use str0m_sdp::{MediaAttribute, MediaLine, Sdp, SdpError, Session, SessionAttribute};
 use str0m_values::{Candidate, Items};
 
@@ -28,6 +28,17 @@ pub(crate) fn reader_refusal(alloc: Global, message: &str) -> SdpError
     }
 }
 
+/// Puts a section behind the others. Most descriptions have one or two, so that room is made for no more at first.
+fn push_section(sections: &mut Vec<MediaLine>, section: MediaLine) -> Result<(), AllocError>
+    ensures { IfOk result (λ _. sections.new.items ≡ sections.old.items ++ section ∷ []) }
+{
+    if sections.len() == sections.capacity() {
+        sections.reserve_exact(sections.len().max(1))?;
+    }
+    sections.push(section)?;
+    Ok(())
+}
+
 /// The consistent sections that stand next.
 fn sections(alloc: Global, text: &str) -> Result<(Items<MediaLine>, &str), SdpError>
     ensures { Answers lines_left result (λ v. Sections (lines_of text.now) v.0 v.1) }
@@ -38,7 +49,7 @@ fn sections(alloc: Global, text: &str) -> Result<(Items<MediaLine>, &str), SdpEr
         if let Some(message) = m.check_consistent()? {
             return Err(SdpError::ParseError(message));
         }
-        sections.push(m)?;
+        push_section(&mut sections, m)?;
         rest = after;
     }
     Ok((Items::from(sections), rest))

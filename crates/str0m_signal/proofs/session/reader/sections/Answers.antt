@@ -22,7 +22,7 @@ loop-sections-preserved c =
     let here = rw c.in-Some.is at c.in_ok-m.ensures in
     let consistent = rw c.in_default-2.is at c.in_ok-message.ensures in (
       search rules,
-      rw c.in_ok-push.ensures.items
+      rw c.in_ok-push_section.ensures
           (chain_more ConsistentSection (lines_of c.args.text.now) c.loop-sections.sections.items (lines_of c.loop-sections.rest.now)
           c.in-Some.m (lines_of c.in-Some.after.now) c.loop-sections.invariant.1 (here, consistent.told)),
     )
