@@ -121,7 +121,8 @@ def functions_of(path, text, homes):
 
 
 class Edit:
-    """What it changes (file, old text, new text), the functions that it turns or names, and whether it turns more than bodies.
+    """What it changes (file, old text, new text), the functions that it turns or names, the clause by which it falls, if it names one, and whether
+    it turns more than bodies.
 
     The functions that can fall by it are its reach: no others than these where it turns bodies; those that read a table, where
     it turns one that stands in bodies alone; else those of all files that name its own, by whatever other files."""
@@ -142,6 +143,7 @@ class Edit:
                 table = next((it for it in TABLE.finditer(before[file]) if it.start() <= at and at + len(old) <= it.end()), None)
                 readers.append(table and readers_of(file, table, before, homes))
                 self.changes.append((file, old, new))
+        self.clause = said.get("clause", "").strip()
         self.is_wide = None in turned or bool(self.functions)
         self.functions = self.functions or turned - {None}
         self.reach = self.functions
