@@ -35,11 +35,12 @@ class Group:
 def groups_of(edits, texts, count):
     """The edits in so many groups, and in further ones where those don't take them.
 
-    An edit in place goes to the first group that takes it, since what calls its function, and is tried beside it, is checked again; one in a
-    copy goes to the smallest."""
-    groups = [Group(texts) for _ in range(count)]
-    for edit in sorted(edits, key=lambda it: has_copy(it, texts)):
-        in_order = sorted(groups, key=lambda it: len(it.edits)) if has_copy(edit, texts) else groups
+    An edit in place goes to the first group that takes it, since what calls its function, and is tried beside it, is checked again. One in a
+    copy goes where its neighbours are, as long as there is room: what one check tries rests on the same modules then, which it loads once. One of
+    a table comes last: no group that has such a one takes copies of what reads the table."""
+    groups, room = [Group(texts) for _ in range(count)], -(-len(edits) // count)
+    for edit in sorted(edits, key=lambda it: (it.is_wide, has_copy(it, texts), it.changes[0][0], min(it.functions), it.name)):
+        in_order = sorted(groups, key=lambda it: len(it.edits) >= room) if has_copy(edit, texts) else groups
         if not any(it.takes(edit) for it in in_order):
             groups.append(Group(texts))
             groups[-1].takes(edit)
