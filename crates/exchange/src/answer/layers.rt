@@ -2,12 +2,13 @@
 ghost use Rattle.exchange.specs.Prelude.{rid_name_of};
 ghost use Rattle.exchange.specs.answer.Layers.{IsTurnedLayerLine, answered_layers, answered_rid, answered_rids, is_rid_named, is_rid_answered, is_rid_left, is_layer_named, is_row_type, layers_line, received_layers, sent_layers, rid_types_left};
 ghost use Rattle.std.specs.List.{list_any};
-ghost use Rattle.std.specs.Prelude.{◌≡◌, ◌++◌, ◌==◌, ℕ, IfOk, List, OnOk, filter, filter_map, option_to_list, All, []};
+ghost use Rattle.std.specs.Prelude.{◌≡◌, ◌++◌, ◌==◌, ◌&&◌, ℕ, bytes_eq, codes, IfOk, List, OnOk, filter, filter_map, option_to_list, All, []};
+ghost use Rattle.str0m_sdp.specs.declared.attribute.MediaAttribute.TheVariants.{Rid};
 
 use std::alloc::{AllocError, Global};
 use str0m_signal::{
-    Boxed, Items, MediaAttribute, MediaLine, PayloadParams, Pt, Simulcast, SimulcastGroups,
-    SimulcastLayer, Text, Word,
+    Boxed, Items, MediaAttribute, MediaLine, PayloadParams, Pt, RestrictionId, Simulcast,
+    SimulcastGroups, SimulcastLayer, Text, Word,
 };
 
 /// The layers that the offer sends.
@@ -69,6 +70,37 @@ fn rid_types_left(alloc: Global, rows: &[PayloadParams], pts: &[Pt]) -> Result<V
     Ok(left)
 }
 
+/// Whether a rid line of the offer is answered: its layer is sent, and may be sent under the type of a row.
+fn is_rid_received(
+    sent: &[SimulcastLayer],
+    rows: &[PayloadParams],
+    name: &str,
+    direction: &str,
+    listed: &[Pt],
+) -> bool
+    ensures { result ≡ (bytes_eq direction.now (codes "send") && (list_any (is_layer_named name.now) sent.now && is_rid_left rows.now listed.now)) }
+{
+    direction == "send" && is_layer_sent(sent, name) && is_rid_left(rows, listed)
+}
+
+/// The rid line by which a layer is received.
+fn received_rid(
+    alloc: Global,
+    rows: &[PayloadParams],
+    id: &RestrictionId,
+    listed: &[Pt],
+    restriction: &Items<(Text, Text)>,
+) -> Result<MediaAttribute, AllocError>
+    ensures { IfOk result (λ rid. rid ≡ Rid id.now (codes "recv") (rid_types_left rows.now listed.now) restriction.now) }
+{
+    Ok(MediaAttribute::Rid {
+        id: Boxed::new(alloc, id.clone()?)?,
+        direction: Word("recv"),
+        pt: Items(rid_types_left(alloc, rows, listed)?),
+        restriction: Boxed::new(alloc, restriction.clone()?)?,
+    })
+}
+
 /// The rid line that answers a line of the offer.
 fn answered_rid(
     alloc: Global,
@@ -84,22 +116,9 @@ fn answered_rid(
             direction,
             pt,
             restriction,
-        } => {
-            let (name, listed) = (id.0.as_str(), pt.as_slice());
-            if direction.as_str() == "send"
-                && is_layer_sent(sent, name)
-                && is_rid_left(rows, listed)
-            {
-                Ok(Some(MediaAttribute::Rid {
-                    id: Boxed::new(alloc, id.get().clone()?)?,
-                    direction: Word("recv"),
-                    pt: Items(rid_types_left(alloc, rows, listed)?),
-                    restriction: Boxed::new(alloc, restriction.get().clone()?)?,
-                }))
-            } else {
-                Ok(None)
-            }
-        }
+        } if is_rid_received(sent, rows, id.0.as_str(), direction.as_str(), pt.as_slice()) => Ok(
+            Some(received_rid(alloc, rows, id.get(), pt.as_slice(), restriction.get())?),
+        ),
         _ => Ok(None),
     }
 }
