@@ -1,5 +1,6 @@
 -- When two formats are equal, two specs and two parameters: `==` of each part decides, and so does that of the whole.
-use Rattle.str0m_formats.proofs.Common.{◌≡◌, ℕ, Bool, true, false, Option, nat_eq, refl, sym, ◌∙◌, Decides, unsigned_Decides, option_eq}
+use Rattle.str0m_formats.proofs.Common.{◌≡◌, ◌==◌, ℕ, Bool, true, false, Option, nat_eq, refl, sym, ◌∙◌, Decides, unsigned_Decides}
+use Rattle.str0m_formats.proofs.Common.{option_eq}
 use Rattle.str0m_formats.proofs.Common.{H265ProfileTierLevel, H266ProfileTierLevel}
 use Rattle.str0m_formats.proofs.format.FormatParamsDerived.{ParamEqualityTest, param_equality, param_eq_word}
 use Rattle.str0m_formats.specs.contracts.codec.Codec as codec_type
@@ -62,9 +63,12 @@ param_equality_fails false d n = refl
 specs_apart : (t : Bool) (a b : CodecSpec) → (a ≡ b → t ≡ true) → t ≡ false → same_spec a b ≡ false
 specs_apart t a b holds h = param_equality_fails (same_spec a b) (spec_Decides a b) (λ e. let it : true ≡ false = sym (holds e) ∙ h in cc)
 
--- specs of two codecs are not equal, nor are those whose formats differ in a number
+-- specs of two codecs or rates are not equal, nor are those whose formats differ in a number
 pub other_codec : (a b : CodecSpec) → same_codec a.codec b.codec ≡ false → same_spec a b ≡ false
 other_codec a b = specs_apart (same_codec a.codec b.codec) a b (λ e. (codec_Decides a.codec b.codec).1 (λ i. (e i).codec))
+
+pub other_rate : (a b : CodecSpec) → (a.clock_rate == b.clock_rate) ≡ false → same_spec a b ≡ false
+other_rate a b = specs_apart (a.clock_rate == b.clock_rate) a b (λ e. (unsigned_Decides _ _).1 (λ i. (e i).clock_rate))
 
 pub other_level : (a b : CodecSpec) → given_numbers_match a.format.profile_level_id b.format.profile_level_id ≡ false
     → same_spec a b ≡ false

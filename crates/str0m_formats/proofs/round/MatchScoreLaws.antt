@@ -9,7 +9,8 @@ use Rattle.str0m_formats.specs.declared.codec.Codec.TheVariants.{AmrWb, Tele}
 use Rattle.str0m_formats.specs.declared.codec.codec_spec.CodecSpec.{CodecSpec}
 use Rattle.str0m_formats.specs.declared.format.format_params.FormatParams.{FormatParams}
 use Rattle.str0m_formats.specs.declared.round.match_score.ProfileNumbers.{ProfileNumbers}
-use Rattle.str0m_formats.specs.round.MatchScore.{same_spec, given_numbers_match, given_flags_match, flags_match, numbers_match_or}
+use Rattle.str0m_formats.specs.round.MatchScore.{same_codec, same_spec, given_numbers_match, given_flags_match, flags_match}
+use Rattle.str0m_formats.specs.round.MatchScore.{numbers_match_or}
 use Rattle.str0m_formats.specs.round.MatchScore.{opus_score, scores_as_mono}
 use Rattle.str0m_formats.specs.round.MatchScore.{mode_score}
 use Rattle.str0m_formats.specs.round.MatchScore.{amr_wb_score, h264_level_score, h264_score, profile_score, av1_score, format_score}
@@ -110,3 +111,25 @@ own_score a = record {
 
 pub score_itself : (a b : CodecSpec) → a ≡ b → IsSelfScore a (score a b)
 score_itself a b e = subst (λ (x : CodecSpec). IsSelfScore a (score a x)) e (own_score a)
+
+-- ---- specs of one codec at one rate
+
+-- what is of AMR-WB scores by its modes, equal or not
+pub score_of_amr_wb : (a b : CodecSpec) → same_codec a.codec AmrWb ≡ true → same_codec a.codec b.codec ≡ true
+    → (a.clock_rate == b.clock_rate) ≡ true → score a b ≡ codec_score a.codec a b
+score_of_amr_wb a b amr codec rate = (score_rules a b).alike (λ _. (codec_Decides a.codec AmrWb).0 amr)
+    ((codec_Decides a.codec b.codec).0 codec) ((unsigned_Decides a.clock_rate b.clock_rate).0 rate)
+
+-- what fits in full by the codec's rule does so, equal or not
+pub score_in_full : (a b : CodecSpec) → codec_score a.codec a b ≡ Some 100 → same_codec a.codec b.codec ≡ true
+    → (a.clock_rate == b.clock_rate) ≡ true → score a b ≡ Some 100
+score_in_full a b full codec rate =
+    let same = (codec_Decides a.codec b.codec).0 codec in
+    let at_one_rate = (unsigned_Decides a.clock_rate b.clock_rate).0 rate in
+    elim (score_test_either_way (same_spec a b) (spec_Decides a b)) [
+      | inr n ↦ (score_rules a b).alike (λ e. absurd (n e)) same at_one_rate ∙ full
+      | inl e ↦ elim (score_test_either_way _ (codec_Decides a.codec AmrWb)) [
+        | inl amr ↦ (score_rules a b).alike (λ _. amr) same at_one_rate ∙ full
+        | inr other ↦ (score_rules a b).equal e other
+      ]
+    ]

@@ -110,10 +110,14 @@ fn h264_score(own: &FormatParams, other: &FormatParams) -> Option<usize>
     ensures bound { IfSome result (λ n. n ≤ 100) }
 {
     if own.packetization_mode.unwrap_or(0) == other.packetization_mode.unwrap_or(0) {
-        h264_level_score(
-            H264ProfileLevel::named(own.profile_level_id),
-            H264ProfileLevel::named(other.profile_level_id),
-        )
+        let mine = H264ProfileLevel::named(own.profile_level_id);
+        // Most that fit have one id, which is looked up once.
+        let theirs = if own.profile_level_id == other.profile_level_id {
+            mine
+        } else {
+            H264ProfileLevel::named(other.profile_level_id)
+        };
+        h264_level_score(mine, theirs)
     } else {
         None
     }
@@ -232,29 +236,32 @@ fn codec_score(own: &CodecSpec, other: &CodecSpec) -> Option<usize>
     }
 }
 
-/// Whether two specs are equal. Most that meet are of two codecs, or of H264 in two profiles, levels or modes: that is looked
-/// at first, since the whole of two formats takes several times as long.
-#[tactic(auto, using(crate::proofs::format::FormatParamsEqual::other_codec, crate::proofs::format::FormatParamsEqual::other_level, crate::proofs::format::FormatParamsEqual::other_mode))]
+/// Whether two specs of one codec are equal. Most that meet are of H264 in two profiles, levels or modes: that is looked at
+/// first, since the whole of two formats takes several times as long.
+#[tactic(auto, using(crate::proofs::format::FormatParamsEqual::other_level, crate::proofs::format::FormatParamsEqual::other_mode))]
 fn is_same_spec(own: &CodecSpec, other: &CodecSpec) -> bool
     ensures { result ≡ same_spec own.now other.now }
 {
-    own.codec == other.codec
-        && own.format.profile_level_id == other.format.profile_level_id
+    own.format.profile_level_id == other.format.profile_level_id
         && own.format.packetization_mode == other.format.packetization_mode
         && *own == *other
 }
 
-/// The score of two specs: the first rule that applies. Equal ones fit in full, but for AMR-WB.
-#[tactic(auto, unfolding(crate::specs::round::MatchScore::score))]
+/// The score of two specs: the first rule that applies. Equal ones fit in full, but for AMR-WB: whether they are equal is asked
+/// last, since of most that are the codec's own rule says as much. It isn't inlined: to go over the rows of other codecs, which are
+/// most, then takes few instructions.
+#[inline(never)]
+#[tactic(auto, using(crate::proofs::format::FormatParamsEqual::other_codec, crate::proofs::format::FormatParamsEqual::other_rate), unfolding(crate::specs::round::MatchScore::score))]
 pub(crate) fn spec_score(own: &CodecSpec, other: &CodecSpec) -> Option<usize>
     ensures score { result ≡ score own.now other.now }
     ensures bound { IfSome result (λ n. n ≤ 100) }
 {
-    if is_same_spec(own, other) && own.codec != Codec::AmrWb {
-        return Some(FULL_SCORE);
-    }
     if own.codec == other.codec && own.clock_rate == other.clock_rate {
-        codec_score(own, other)
+        match codec_score(own, other) {
+            Some(FULL_SCORE) => Some(FULL_SCORE),
+            _ if own.codec != Codec::AmrWb && is_same_spec(own, other) => Some(FULL_SCORE),
+            points => points,
+        }
     } else {
         None
     }
