@@ -13,7 +13,7 @@ use Rattle.str0m_signal.proofs.line.PairLaws.{EndsValue, pair_value_given, pair_
 use Rattle.str0m_signal.proofs.line.PairsOneByOne.{all_pairs_found, all_pairs_given}
 use Rattle.str0m_signal.proofs.line.PartLaws.{parted_both}
 use Rattle.str0m_signal.specs.form.Fmtp.{AreFmtpBlanks, IsFmtpKey, IsFmtpValue, AreFmtpPairsOneByOne}
-use Rattle.str0m_signal.specs.form.FmtpReading.{fmtp_value_read, skip_pair_blanks, fmtp_key_read, fmtp_pairs_at}
+use Rattle.str0m_signal.specs.form.FmtpReading.{fmtp_value_read, skip_pair_blanks, fmtp_key_read, fmtp_pairs_at, key_and_rest_read}
 use Rattle.str0m_signal.specs.form.Rid.{IsActiveRid, IsRestriction, AreRestrictions, AreTyped, AreRidLists, IsRidMore, IsDirection}
 use Rattle.str0m_signal.specs.form.Rid.{IsDirectedRid}
 use Rattle.str0m_signal.specs.form.Rid.{IsRid}
@@ -55,6 +55,11 @@ rid_pair_stands : (text blanks : List ℕ) (pair : List ℕ × List ℕ) (next :
     → text ≡ (blanks ++ (pair.0 ++ (61 ∷ pair.1))) ++ rid_tail_of next → AreFmtpBlanks blanks → IsFmtpKey pair.0 → IsFmtpValue pair.1
     → RidPairStands text pair next
 rid_pair_stands text blanks pair next e are key value = grind (arith, append-nil)
+
+-- one is read by its key, its value, and what stands behind
+pub restriction_by_key : (text : List ℕ) → restriction_read text ≡ (key_and_rest_read (skip_pair_blanks text) >>= λ k. fmtp_value_read k.1
+    >>= λ value. next_read value.1 >>= λ next. Some ((k.0, value.0), next))
+restriction_by_key text = grind arith
 
 pub restriction_found : (text : List ℕ) (pair : List ℕ × List ℕ) (next : Option (List ℕ)) → restriction_read text ≡ Some (pair, next)
     → RidPairStands text pair next

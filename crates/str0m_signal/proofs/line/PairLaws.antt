@@ -1,19 +1,9 @@
 -- The parts of an fmtp pair.
-use Rattle.str0m_signal.proofs.Common.{◌≡◌, ◌⊎◌, ℕ, ◌<◌, ◌≤◌, zero, suc, true, not, ◌&&◌, List, [], ◌∷◌, ◌++◌, length, take, drop}
-use Rattle.str0m_signal.proofs.Common.{None, Some, refl, sym, ap, ◌∙◌, arith, inl, inr, lt-ltb, false≢true, append-nil, AllByRecursion}
-use Rattle.str0m_signal.proofs.Common.{list_any, Lacks, IsRest, before, lacks, when, is_rest, cut_before_front, strip_at, if◌then◌else◌}
+use Rattle.str0m_signal.proofs.Common.{◌≡◌, ◌⊎◌, ℕ, ◌<◌, ◌≤◌, zero, suc, true, List, [], ◌∷◌, ◌++◌, length, take, drop}
+use Rattle.str0m_signal.proofs.Common.{Some, refl, sym, ap, ◌∙◌, arith, inl, inr, lt-ltb, false≢true, append-nil, AllByRecursion}
+use Rattle.str0m_signal.proofs.Common.{Lacks, IsRest, before, cut_before_front, strip_at}
 use Rattle.str0m_signal.proofs.Common.{take-append-drop}
-use Rattle.str0m_signal.specs.form.FmtpReading.{ends_value, NoneEnds, IsValueEnd, fmtp_value_read, is_pair_blank, skip_pair_blanks}
-use Rattle.str0m_signal.specs.form.FmtpReading.{fmtp_key_read}
-
--- a text without spaces and tabs has neither
-pair_blank_in : (text : List ℕ) → list_any is_pair_blank text ≡ not (lacks 32 text && lacks 9 text)
-pair_blank_in [] = refl
-pair_blank_in (x ∷ xs) = grind (arith, pair_blank_in xs)
-
--- a key is what has none and isn't empty
-pub pair_key_is : (text : List ℕ) → fmtp_key_read text ≡ (if list_any is_pair_blank text then None else when (is_rest text) text)
-pair_key_is text = grind (arith, pair_blank_in)
+use Rattle.str0m_signal.specs.form.FmtpReading.{ends_value, NoneEnds, IsValueEnd, fmtp_value_read, skip_pair_blanks}
 
 -- a value ends at the end of the text, at `;`, at a space or at a tab
 abbrev pub EndsValue : List ℕ → Type 0

@@ -9,8 +9,7 @@ ghost use Rattle.str0m_signal.specs.form.RidReading.{rid_lists_of, next_read, re
 ghost use Rattle.str0m_signal.specs.form.RidStreamName.{is_stream_name};
 
 use crate::form::simulcast::is_stream_name;
-use crate::line::front::behind_label;
-use crate::line::pairs::{key, skip_pair_blanks, value};
+use crate::line::pairs::{key_and_rest, skip_pair_blanks, value};
 use crate::line::parts::parts;
 use crate::line::words::Number;
 use std::alloc::{AllocError, Global};
@@ -30,28 +29,30 @@ fn rid_next(text: &str) -> Option<Option<&str>>
 }
 
 /// The restriction at the front of the text, and what stands after it.
+#[tactic(auto, using(crate::proofs::form::RidLaws::restriction_by_key))]
 fn restriction(text: &str) -> Option<(&str, &str, Option<&str>)>
     ensures { option_map (λ x. ((x.0.now, x.1.now), option_map (λ y. y.now) x.2)) result ≡ restriction_read text.now }
 {
-    let (front, behind) = cut(skip_pair_blanks(text), Separator::Equals)?;
-    let key = key(front)?;
+    let (key, behind) = key_and_rest(skip_pair_blanks(text))?;
     let (value, behind) = value(behind)?;
     let more = rid_next(behind)?;
     Some((key, value, more))
 }
 
-/// Whether the text is restrictions.
-fn are_restrictions(text: &str) -> bool
-    ensures { result ≡ is_some (restrictions_read text.now) }
+/// How many restrictions the text is; `None` where it isn't restrictions.
+fn restriction_count(text: &str) -> Option<usize>
+    ensures { is_some result ≡ is_some (restrictions_read text.now) }
 {
+    let mut count: usize = 1;
     let mut rest = text;
     loop {
         let Some((_, _, next)) = restriction(rest) else {
-            return false;
+            return None;
         };
         let Some(more) = next else {
-            return true;
+            return Some(count);
         };
+        count = count.saturating_add(1);
         rest = more;
     }
 }
@@ -71,11 +72,16 @@ fn keep_restriction(
     Ok(())
 }
 
-/// The restrictions of the text. Memory is taken for those that stand before one that can't be read, too.
-fn restrictions(alloc: Global, text: &str) -> Result<Option<Items<(Text, Text)>>, AllocError>
+/// The restrictions of the text, in a list that has room for so many: no answer depends on it. Memory is taken for those that stand
+/// before one that can't be read, too.
+fn restrictions(
+    alloc: Global,
+    text: &str,
+    count: usize,
+) -> Result<Option<Items<(Text, Text)>>, AllocError>
     ensures { IfOk result (λ found. found ≡ restrictions_read text.now) }
 {
-    let mut pairs = Vec::new(alloc);
+    let mut pairs = Vec::with_capacity(alloc, count)?;
     let mut rest = text;
     loop {
         let Some((key, value, next)) = restriction(rest) else {
@@ -89,25 +95,29 @@ fn restrictions(alloc: Global, text: &str) -> Result<Option<Items<(Text, Text)>>
     }
 }
 
-/// Whether the text is nothing or restrictions.
-fn is_restricted(text: &str) -> bool
-    ensures { result ≡ is_some (restricted_read text.now) }
+/// How many restrictions the text is, where it is nothing or restrictions.
+fn restricted_count(text: &str) -> Option<usize>
+    ensures { is_some result ≡ is_some (restricted_read text.now) }
 {
     if text.is_empty() {
-        true
+        Some(0)
     } else {
-        are_restrictions(text)
+        restriction_count(text)
     }
 }
 
 /// The restrictions of the text, or none where it is nothing. Memory is taken as `restrictions` takes it.
-fn read_restricted(alloc: Global, text: &str) -> Result<Option<Items<(Text, Text)>>, AllocError>
+fn read_restricted(
+    alloc: Global,
+    text: &str,
+    count: usize,
+) -> Result<Option<Items<(Text, Text)>>, AllocError>
     ensures { IfOk result (λ found. found ≡ restricted_read text.now) }
 {
     if text.is_empty() {
         Ok(Some(Items::empty(alloc)))
     } else {
-        restrictions(alloc, text)
+        restrictions(alloc, text, count)
     }
 }
 
@@ -115,10 +125,9 @@ fn read_restricted(alloc: Global, text: &str) -> Result<Option<Items<(Text, Text
 fn restricted(alloc: Global, text: &str) -> Result<Option<Items<(Text, Text)>>, AllocError>
     ensures { IfOk result (λ found. found ≡ restricted_read text.now) }
 {
-    if is_restricted(text) {
-        read_restricted(alloc, text)
-    } else {
-        Ok(None)
+    match restricted_count(text) {
+        Some(count) => read_restricted(alloc, text, count),
+        None => Ok(None),
     }
 }
 
@@ -145,13 +154,13 @@ fn typed(alloc: Global, text: &str) -> Result<Option<RidLists>, AllocError>
             None => Ok(None),
         };
     };
-    if !is_restricted(behind) {
+    let Some(count) = restricted_count(behind) else {
         return Ok(None);
-    }
+    };
     let Some(types) = parts::<Number<127>>(alloc, front, Separator::Comma)? else {
         return Ok(None);
     };
-    let Some(restrictions) = read_restricted(alloc, behind)? else {
+    let Some(restrictions) = read_restricted(alloc, behind, count)? else {
         return Ok(None);
     };
     Ok(Some(RidLists {
@@ -212,7 +221,7 @@ fn direction(text: &str) -> Option<(&'static str, &str)>
 fn rid_fields(text: &str) -> Option<(&str, &'static str, &str)>
     ensures { option_map (λ x. (x.0.now, (x.1.now, x.2.now))) result ≡ behind label.RID.now (two_read 32 (λ name. when (is_stream_name name) name) direction_read) text.now }
 {
-    let body = behind_label(text, label::RID)?;
+    let body = strip(text, label::RID)?;
     let (name, directed) = cut(body, Separator::Space)?;
     if !is_stream_name(name) {
         return None;

@@ -1,12 +1,11 @@
 //! Pairs of a key and a value, parted by `;`.
 
-ghost use Rattle.std.specs.List.{list_any};
 ghost use Rattle.std.specs.Prelude.{◌≡◌, ◌<◌, ◌+◌, IfOk, IfSome, drop, get_or, length, option_map, take};
 ghost use Rattle.str0m_signal.specs.Prelude.{pair_texts, parts};
-ghost use Rattle.str0m_signal.specs.form.FmtpReading.{IsValueEnd, ends_value, is_pair_blank, fmtp_value_read, skip_pair_blanks, fmtp_next_read, fmtp_key_read, key_and_rest_read, key_cut, pair_read, pairs_read};
+ghost use Rattle.str0m_signal.specs.form.FmtpReading.{IsValueEnd, ends_value, is_pair_blank, fmtp_value_read, skip_pair_blanks, fmtp_next_read, key_and_rest_read, key_cut, pair_read, pairs_read};
 
-use crate::line::front::behind_label;
 use std::alloc::{AllocError, Global};
+use str0m_values::cuts::strip;
 
 fn ends_value(byte: u8) -> bool
     ensures { result ≡ ends_value byte }
@@ -44,9 +43,9 @@ pub(crate) fn skip_pair_blanks(text: &str) -> &str
 {
     let mut rest = text;
     loop {
-        if let Some(more) = behind_label(rest, " ") {
+        if let Some(more) = strip(rest, " ") {
             rest = more;
-        } else if let Some(more) = behind_label(rest, "\t") {
+        } else if let Some(more) = strip(rest, "\t") {
             rest = more;
         } else {
             return rest;
@@ -54,28 +53,10 @@ pub(crate) fn skip_pair_blanks(text: &str) -> &str
     }
 }
 
-/// Whether there is a space or a tab.
-fn has_pair_blank(bytes: &[u8]) -> bool
-    ensures { result ≡ list_any is_pair_blank bytes.now }
-{
-    bytes.iter().any(|byte| is_pair_blank(*byte))
-}
-
 fn is_pair_blank(byte: u8) -> bool
     ensures { result ≡ is_pair_blank byte }
 {
     byte == b' ' || byte == b'\t'
-}
-
-/// A key: one or more characters other than space and tab.
-#[tactic(auto, using(crate::proofs::line::PairLaws::pair_key_is))]
-pub(crate) fn key(text: &str) -> Option<&str>
-    ensures { option_map (λ x. x.now) result ≡ fmtp_key_read text.now }
-{
-    if has_pair_blank(text.as_bytes()) {
-        return None;
-    }
-    if text.is_empty() { None } else { Some(text) }
 }
 
 /// What stands after a value and its blanks: the end, or `;` and more.
@@ -85,7 +66,7 @@ fn fmtp_next(text: &str) -> Option<Option<&str>>
     if text.is_empty() {
         return Some(None);
     }
-    let more = skip_pair_blanks(behind_label(text, ";")?);
+    let more = skip_pair_blanks(strip(text, ";")?);
     if more.is_empty() {
         Some(None)
     } else {
@@ -115,7 +96,7 @@ fn key_end(bytes: &[u8]) -> Option<usize>
 
 /// A key of one or more characters other than blanks, and what follows the `=` behind it.
 #[inline(always)]
-fn key_and_rest(text: &str) -> Option<(&str, &str)>
+pub(crate) fn key_and_rest(text: &str) -> Option<(&str, &str)>
     ensures { parts result ≡ key_and_rest_read text.now }
 {
     match key_end(text.as_bytes()) {

@@ -25,7 +25,7 @@ pub returns-then-branch : goal.returns-then-branch
 returns-then-branch g c =
     let one = takes_read _ _ c.loop-part.parts.items c.taken_attribute_result-2.new.place.items true c.read-2.ensures
     (rw c.if-branch.true at c.in_ok-taken_attribute_result-2.ensures) in
-    rw (c.without_spare_room.ensures, one.2)
+    rw (c.from.ensures, one.2)
     (part_ends (code c.args.at) g.T.Part.reading c.args.text.now c.loop-part.parts.items c.loop-part.rest.now
     one.0 (sym c.in_default.ensures) one.1 c.loop-part.invariant.1)
 

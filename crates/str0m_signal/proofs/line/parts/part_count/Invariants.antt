@@ -1,5 +1,5 @@
 use Rattle.str0m_signal.proofs.Common.{◌≡◌, length, is_some, Utf8, shadow, code}
-use Rattle.str0m_signal.proofs.line.parts.are_parts.Given as goal
+use Rattle.str0m_signal.proofs.line.parts.part_count.Given as goal
 use Rattle.str0m_signal.specs.form.FormReading.{parted_read}
 
 -- the rest is items where the text is

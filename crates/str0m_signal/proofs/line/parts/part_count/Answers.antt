@@ -1,6 +1,6 @@
 use Rattle.str0m_signal.proofs.Common.{rules, sym, ◌∙◌, code}
 use Rattle.str0m_signal.proofs.line.PartLaws.{part_cut_shorter, one_part, bad_part, last_part}
-use Rattle.str0m_signal.proofs.line.parts.are_parts.Goals as goal
+use Rattle.str0m_signal.proofs.line.parts.part_count.Goals as goal
 
 pub returns-then-not-is_part : goal.returns-then-not-is_part
 returns-then-not-is_part g c = sym
@@ -17,6 +17,10 @@ loop-part-preserved g c = (
       (sym c.in-Some.ensures) (sym c.is_part.ensures ∙ c.if-not-is_part.false)) ∙ c.loop-part.invariant.1,
 )
 
-pub returns : goal.returns
-returns g c = c.is_part-2.ensures ∙ sym (last_part (code c.args.at) g.T.Part.reading c.loop-part.rest.now (sym c.in_default.ensures))
-    ∙ c.loop-part.invariant.1
+pub returns-then-is_part : goal.returns-then-is_part
+returns-then-is_part g c = sym c.if-is_part.true ∙ c.is_part-2.ensures
+    ∙ sym (last_part (code c.args.at) g.T.Part.reading c.loop-part.rest.now (sym c.in_default.ensures)) ∙ c.loop-part.invariant.1
+
+pub returns-else-is_part : goal.returns-else-is_part
+returns-else-is_part g c = sym c.if-is_part.false ∙ c.is_part-2.ensures
+    ∙ sym (last_part (code c.args.at) g.T.Part.reading c.loop-part.rest.now (sym c.in_default.ensures)) ∙ c.loop-part.invariant.1

@@ -1,5 +1,5 @@
 use Rattle.str0m_signal.proofs.Common.{◌≡◌, length, is_some, Utf8, shadow}
-use Rattle.str0m_signal.proofs.form.rid.are_restrictions.Given as goal
+use Rattle.str0m_signal.proofs.form.rid.restriction_count.Given as goal
 use Rattle.str0m_signal.proofs.line.PairsOneByOne.{LeftPairs}
 use Rattle.str0m_signal.specs.form.RidReading.{restriction_read, restrictions_read}
 

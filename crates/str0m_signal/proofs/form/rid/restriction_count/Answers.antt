@@ -1,6 +1,6 @@
 use Rattle.str0m_signal.proofs.Common.{◌≡◌, ◌∙◌, rules, sym, is_some}
 use Rattle.str0m_signal.proofs.form.RidLaws.{restriction_shorter}
-use Rattle.str0m_signal.proofs.form.rid.are_restrictions.Goals as goal
+use Rattle.str0m_signal.proofs.form.rid.restriction_count.Goals as goal
 use Rattle.str0m_signal.proofs.line.PairsOneByOne.{next_pair_of}
 use Rattle.str0m_signal.proofs.line.PartLaws.{part_some_bound}
 use Rattle.str0m_signal.specs.form.RidReading.{restriction_read, restrictions_read}
