@@ -21,7 +21,7 @@
 //!   - `attributes`: Attribute lines, and runs of them.
 //!   - `bare_values`: The values of fmtp lines that have no keys.
 //!   - `fields`: What fields of several lines share.
-//!   - `front`: What stands at the front of lines: labels, and numbers before a space.
+//!   - `front`: Numbers at the front of lines, before a space.
 //!   - `heads`: The m-lines of sections.
 //!   - `lines`: The lines of a text.
 //!   - `pairs`: Pairs of a key and a value, parted by `;`.

@@ -1,11 +1,9 @@
 -- What a cut at a character, and what follows a prefix, are.
 use Rattle.std.proofs.lemmas.Str.Pattern.{IsSplitOnceResult, split_parts}
-use Rattle.std.specs.Borrow.{Bor}
-use Rattle.std.specs.Str.Pattern.{FindsTextPrefix}
 use Rattle.str0m_values.proofs.Common.{◌≡◌, ◌≢◌, ℕ, suc, inl, inr, ◌<◌, ◌≤◌, ◌+◌, true, not, List, [], ◌∷◌, ◌++◌, length, get_or, drop}
-use Rattle.str0m_values.proofs.Common.{take, Option, Some, None, refl, sym, ap, ◌∙◌, arith, append-nil, option_map, is_some, eq-eqb, ne_eqb}
+use Rattle.str0m_values.proofs.Common.{take, Option, Some, None, refl, sym, ap, ◌∙◌, arith, append-nil, is_some, eq-eqb, ne_eqb}
 use Rattle.str0m_values.proofs.Common.{cases_eq, both_ways, and_parts, some_pair_parts, none-some, drop-append_seam, take-append_seam}
-use Rattle.str0m_values.proofs.Common.{IsUtf8, IsCharBoundary, MatchOption, not-true, false_from_ne_true, length-append}
+use Rattle.str0m_values.proofs.Common.{IsUtf8, IsCharBoundary, not-true, false_from_ne_true, length-append}
 use Rattle.str0m_values.proofs.Common.{IsCharBoundary-from_take}
 use Rattle.str0m_values.specs.Cuts.{cut, before_cut, strip, parts, front, before, lacks}
 use Rattle.str0m_values.specs.CutsParts.{Lacks}
@@ -68,10 +66,21 @@ strip_none p text h =
     [ None ↦ λ _. refl | Some rest ↦ λ f. absurd (h rest (strip_found p text rest f)) ] e in
     cases (strip p text) refl
 
-pub strip_from_prefix : (p text : List ℕ) (r : Option (Bor (List ℕ)))
-    → MatchOption r (FindsTextPrefix p text None) (λ x. (n : ℕ) × FindsTextPrefix p text (Some n) × (x.now ≡ drop n text)
-    × (length x.now + n ≡ length text)) → option_map (λ x. x.now) r ≡ strip p text
-strip_from_prefix p text r h = grind (arith, strip_none, strip_at)
+-- ---- a prefix by its bytes
+
+pub prefix_short : (p text : List ℕ) → length text < length p → strip p text ≡ None
+prefix_short [] text h = absurd (omega (arith, h))
+prefix_short (p ∷ ps) [] h = refl
+prefix_short (p ∷ ps) (x ∷ xs) h = grind (arith, prefix_short ps xs)
+
+-- a prefix ends between two characters
+pub prefix_ends : (p text : List ℕ) → IsUtf8 p → IsUtf8 text → strip p text ≡ Some (drop (length p) text)
+    → IsCharBoundary text (length p)
+prefix_ends p text part whole e =
+    let joined = strip_found p text (drop (length p) text) e in
+    let le : length p ≤ length text = rw joined (omega (arith, length-append p (drop (length p) text))) in
+    let taken : take (length p) text ≡ p = rw joined (take-append_seam p (drop (length p) text)) in
+    IsCharBoundary-from_take text (length p) whole le (rw taken part)
 
 -- ---- a character that stands nowhere
 

@@ -1,6 +1,7 @@
 //! The parts of a line: what the readers of the crates above cut texts with.
 //!
-ghost use Rattle.std.specs.Prelude.{◌≡◌, not, option_map, ◌≤◌, length, MatchOption, IfSome};
+ghost use Rattle.std.specs.Bool.{MatchBool};
+ghost use Rattle.std.specs.Prelude.{◌≡◌, not, option_map, ◌≤◌, None, Some, drop, length, MatchOption, IfSome};
 ghost use Rattle.std.specs.Str.{str_eq_ignore_ascii_case};
 ghost use Rattle.str0m_values.specs.Cuts.{cut, before, strip, num, parts, lacks, IsFirstCutAt, LacksCutAt, IsWrittenAs, IsWrittenIn, IsTheOnly};
 ghost use Rattle.str0m_values.specs.CutsParts.{IsNumber, IsNumOr};
@@ -59,11 +60,33 @@ pub fn has(text: &str, at: Separator) -> bool
     cut(text, at).is_some()
 }
 
+/// Whether the bytes begin with the prefix. They are gone over one by one: prefixes are known where this is inlined, and most
+/// are told apart by few bytes.
+#[inline(always)]
+fn begins_with(bytes: &[u8], prefix: &[u8]) -> bool
+    ensures { MatchBool result (strip prefix.now bytes.now ≡ Some (drop (length prefix.now) bytes.now)) (strip prefix.now bytes.now ≡ None) }
+{
+    if bytes.len() < prefix.len() {
+        return false;
+    }
+    for i in 0..prefix.len() {
+        if bytes[i] != prefix[i] {
+            return false;
+        }
+    }
+    true
+}
+
 /// What follows the prefix; `None` where the text doesn't begin with it.
+#[inline(always)]
 pub fn strip<'a>(text: &'a str, prefix: &str) -> Option<&'a str>
     ensures { option_map (λ x. x.now) result ≡ strip prefix.now text.now }
 {
-    text.strip_prefix(prefix)
+    if begins_with(text.as_bytes(), prefix.as_bytes()) {
+        Some(&text[prefix.len()..])
+    } else {
+        None
+    }
 }
 
 /// The longest number of digits that 64 bits always hold.

@@ -18,6 +18,7 @@ pub(crate) fn word(text: &str) -> Option<(&str, &str)>
 }
 
 /// The word after a label, and what stands after it.
+#[inline(always)]
 pub(crate) fn labelled<'a>(text: &'a str, label: &str) -> Option<(&'a str, &'a str)>
     ensures { parts result ≡ labelled_read label.now text.now }
 {
@@ -25,6 +26,7 @@ pub(crate) fn labelled<'a>(text: &'a str, label: &str) -> Option<(&'a str, &'a s
 }
 
 /// The word after a label, or nothing where the label doesn't stand, and what stands after it.
+#[inline(always)]
 pub(crate) fn optional_labelled<'a>(
     text: &'a str,
     label: &str,

@@ -1,43 +1,13 @@
--- What stands at the front of lines: labels, and numbers before a space.
-use Rattle.str0m_signal.proofs.Common.{◌≡◌, ◌≢◌, ◌<◌, ◌≤◌, ◌+◌, ◌-◌, ℕ, zero, suc, List, [], ◌∷◌, length, take, drop, get_or, Option, Some}
-use Rattle.str0m_signal.proofs.Common.{None, ◌>>=◌, num}
-use Rattle.str0m_signal.proofs.Common.{refl, sym, ap, ◌∙◌, arith, eq-eqb, ne_eqb, length-append, take-append-drop, IsUtf8, IsCharBoundary}
-use Rattle.str0m_signal.proofs.Common.{IsCharBoundary-from_take, strip, cut, strip_found, strip_at, take-append_seam, AllDigits}
+-- Numbers at the front of lines, before a space.
+use Rattle.str0m_signal.proofs.Common.{◌≡◌, ◌≢◌, ◌<◌, ◌≤◌, ◌+◌, ◌-◌, ℕ, List, take, drop, get_or, Option, Some}
+use Rattle.str0m_signal.proofs.Common.{◌>>=◌, num}
+use Rattle.str0m_signal.proofs.Common.{refl, sym, ap, ◌∙◌, arith, take-append-drop}
+use Rattle.str0m_signal.proofs.Common.{strip, cut, strip_at, AllDigits}
 use Rattle.str0m_signal.proofs.Common.{digits_value}
 use Rattle.str0m_signal.specs.form.FormReading.{two_read}
 use Rattle.str0m_signal.specs.line.FrontReading.{number_and_rest_read, number_in_front_read}
 use Rattle.str0m_values.proofs.CutsNearLaws.{cut_first, cuts_written_fits, eighteen_digits}
 use Rattle.str0m_values.specs.Cuts.{IsFirstCutAt, IsWrittenAs, LacksCutAt}
-
--- ---- a label by its bytes
-
-pub label_short : (label text : List ℕ) → length text < length label → strip label text ≡ None
-label_short [] text h = absurd (omega (arith, h))
-label_short (p ∷ ps) [] h = refl
-label_short (p ∷ ps) (x ∷ xs) h = grind (arith, label_short ps xs)
-
-pub label_same_byte : (i : ℕ) (label text : List ℕ) → i < length label → i < length text → get_or text i 0 ≡ get_or label i 0
-    → strip (drop i label) (drop i text) ≡ strip (drop (suc i) label) (drop (suc i) text)
-label_same_byte i [] text h k e = absurd (omega (arith, h))
-label_same_byte i (p ∷ ps) [] h k e = absurd (omega (arith, k))
-label_same_byte zero (p ∷ ps) (x ∷ xs) h k e = rw (eq-eqb p x (sym e)) refl
-label_same_byte (suc i) (p ∷ ps) (x ∷ xs) h k e = label_same_byte i ps xs (omega (arith, h)) (omega (arith, k)) e
-
-pub label_other_byte : (i : ℕ) (label text : List ℕ) → i < length label → i < length text → get_or text i 0 ≢ get_or label i 0
-    → strip (drop i label) (drop i text) ≡ None
-label_other_byte i [] text h k e = absurd (omega (arith, h))
-label_other_byte i (p ∷ ps) [] h k e = absurd (omega (arith, k))
-label_other_byte zero (p ∷ ps) (x ∷ xs) h k e = rw (ne_eqb p x (λ same. e (sym same))) refl
-label_other_byte (suc i) (p ∷ ps) (x ∷ xs) h k e = label_other_byte i ps xs (omega (arith, h)) (omega (arith, k)) e
-
--- a label ends between two characters
-pub label_ends : (label text : List ℕ) → IsUtf8 label → IsUtf8 text → strip label text ≡ Some (drop (length label) text)
-    → IsCharBoundary text (length label)
-label_ends label text part whole e =
-    let joined = strip_found label text (drop (length label) text) e in
-    let le : length label ≤ length text = rw joined (omega (arith, length-append label (drop (length label) text))) in
-    let taken : take (length label) text ≡ label = rw joined (take-append_seam label (drop (length label) text)) in
-    IsCharBoundary-from_take text (length label) whole le (rw taken part)
 
 -- ---- a number before a space
 

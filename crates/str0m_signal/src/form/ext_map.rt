@@ -4,11 +4,10 @@ ghost use Rattle.str0m_signal.specs.Prelude.{cut, num, parts};
 ghost use Rattle.str0m_signal.specs.form.FormReading.{text_read, tailed_read};
 ghost use Rattle.str0m_signal.specs.form.MediaAttribute.{ext_map};
 
-use crate::line::front::behind_label;
 use memchr::memchr;
 use std::alloc::{AllocError, Global};
 use str0m_sdp::{MediaAttribute, label};
-use str0m_values::cuts::{cut, num_u8};
+use str0m_values::cuts::{cut, num_u8, strip};
 use str0m_values::{Extension, Separator};
 
 /// The number of the extension; a direction may stand after it.
@@ -54,7 +53,7 @@ fn uri(text: &str) -> Option<&str>
 pub(crate) fn ext_map(alloc: Global, text: &str) -> Result<Option<MediaAttribute>, AllocError>
     ensures { IfOk result (λ found. found ≡ ext_map.read text.now) }
 {
-    let Some(body) = behind_label(text, label::EXTMAP) else {
+    let Some(body) = strip(text, label::EXTMAP) else {
         return Ok(None);
     };
     let Some((number, rest)) = cut(body, Separator::Space) else {

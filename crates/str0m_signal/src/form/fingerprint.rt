@@ -3,13 +3,12 @@ ghost use Rattle.std.specs.Prelude.{◌≡◌, IfOk, IfSome, Some};
 ghost use Rattle.str0m_signal.specs.form.Fingerprint.{IsHashPairBefore, hash_read};
 ghost use Rattle.str0m_signal.specs.form.FormTransport.{fingerprint};
 
-use crate::line::front::behind_label;
 use crate::line::parts::parts;
 use crate::line::words::{hex_byte, hex_pair};
 use arrayvec::ArrayVec;
 use std::alloc::{AllocError, Global};
 use str0m_sdp::label;
-use str0m_values::cuts::cut;
+use str0m_values::cuts::{cut, strip};
 use str0m_values::{Fingerprint, Items, Separator, Text};
 
 /// The byte that two hex digits write before a `:`, and what follows that.
@@ -66,7 +65,7 @@ fn hash_bytes(alloc: Global, text: &str) -> Result<Option<Items<u8>>, AllocError
 pub(crate) fn fingerprint(alloc: Global, text: &str) -> Result<Option<Fingerprint>, AllocError>
     ensures { IfOk result (λ found. found ≡ fingerprint.read text.now) }
 {
-    let Some(body) = behind_label(text, label::FINGERPRINT) else {
+    let Some(body) = strip(text, label::FINGERPRINT) else {
         return Ok(None);
     };
     let Some((name, pairs)) = cut(body, Separator::Space) else {

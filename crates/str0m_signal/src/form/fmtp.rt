@@ -5,12 +5,13 @@ ghost use Rattle.str0m_signal.specs.form.FmtpReading.{pair_values_read, pairs_fo
 ghost use Rattle.str0m_signal.specs.form.MediaAttribute.{fmtp};
 
 use crate::line::bare_values::bare;
-use crate::line::front::{behind_label, number_in_front};
+use crate::line::front::number_in_front;
 use crate::line::pairs::{pair, pairs, skip_pair_blanks};
 use arrayvec::ArrayVec;
 use std::alloc::{AllocError, Global};
 use str0m_formats::FormatParam;
 use str0m_sdp::{MediaAttribute, label};
+use str0m_values::cuts::strip;
 use str0m_values::{Items, Pt};
 
 /// How many pairs are read in place, so that their list asks for no memory: most lines have no more.
@@ -57,7 +58,7 @@ fn many_values(alloc: Global, text: &str) -> Result<Option<Items<FormatParam>>, 
 fn pairs_form(alloc: Global, more: &str) -> Result<Option<Items<FormatParam>>, AllocError>
     ensures { IfOk result (λ found. found ≡ pairs_form_read more.now) }
 {
-    let Some(text) = behind_label(more, " ") else {
+    let Some(text) = strip(more, " ") else {
         return Ok(None);
     };
     let text = skip_pair_blanks(text);
@@ -85,7 +86,7 @@ fn fmtp_values(alloc: Global, more: &str) -> Result<Items<FormatParam>, AllocErr
 pub(crate) fn fmtp(alloc: Global, text: &str) -> Result<Option<MediaAttribute>, AllocError>
     ensures { IfOk result (λ found. found ≡ fmtp.read text.now) }
 {
-    let Some(body) = behind_label(text, label::FMTP) else {
+    let Some(body) = strip(text, label::FMTP) else {
         return Ok(None);
     };
     let Some((pt, more)) = number_in_front(body, 127) else {

@@ -18,11 +18,10 @@ use crate::form::simulcast::simulcast_line;
 use crate::form::sources::{rtcp_fb, ssrc, ssrc_group};
 use crate::line::attributes::{Attribute, attribute_run, taken, taken_attribute_result};
 use crate::line::fields::{both_texts_kept, kept_field, num_u64, role_field, short_field};
-use crate::line::front::behind_label;
 use std::alloc::{AllocError, Global};
 use str0m_sdp::{MediaAttribute, Msid, label};
 use str0m_values::candidate_text::candidate;
-use str0m_values::cuts::num_u16;
+use str0m_values::cuts::{num_u16, strip};
 use str0m_values::{Boxed, Items, Text};
 
 /// The attributes that are a label and a text.
@@ -73,7 +72,7 @@ fn rtcp(alloc: Global, text: &str) -> Result<Option<MediaAttribute>, AllocError>
 fn sctp_port(text: &str) -> Option<MediaAttribute>
     ensures { result ≡ sctp_port.read text.now }
 {
-    let body = behind_label(text, label::SCTP_PORT)?;
+    let body = strip(text, label::SCTP_PORT)?;
     Some(MediaAttribute::SctpPort(num_u16(body)?))
 }
 
@@ -91,7 +90,7 @@ fn sctp_init(alloc: Global, text: &str) -> Result<Option<MediaAttribute>, AllocE
 fn max_message_size(text: &str) -> Option<MediaAttribute>
     ensures { result ≡ max_message_size.read text.now }
 {
-    let body = behind_label(text, label::MAX_MESSAGE_SIZE)?;
+    let body = strip(text, label::MAX_MESSAGE_SIZE)?;
     Some(MediaAttribute::MaxMessageSize(num_u64(body)?))
 }
 
@@ -119,7 +118,7 @@ fn media_candidate(alloc: Global, text: &str) -> Result<Option<MediaAttribute>, 
 fn media_setup(text: &str) -> Option<MediaAttribute>
     ensures { result ≡ (setup Setup).read text.now }
 {
-    let word = behind_label(text, label::SETUP)?;
+    let word = strip(text, label::SETUP)?;
     Some(MediaAttribute::Setup(role_field(word)?))
 }
 
@@ -127,7 +126,7 @@ fn media_setup(text: &str) -> Option<MediaAttribute>
 fn mid(text: &str) -> Option<MediaAttribute>
     ensures { result ≡ mid.read text.now }
 {
-    let name = behind_label(text, label::MID)?;
+    let name = strip(text, label::MID)?;
     if name.is_empty() {
         return None;
     }

@@ -5,10 +5,10 @@ ghost use Rattle.str0m_signal.specs.Prelude.{codec_of, cut};
 ghost use Rattle.str0m_signal.specs.form.MediaAttribute.{rtpmap};
 ghost use Rattle.str0m_signal.specs.form.RtpMapReading.{frequency_read, clock_read, mapping_read};
 
-use crate::line::front::{behind_label, number_and_rest};
+use crate::line::front::number_and_rest;
 use str0m_formats::Codec;
 use str0m_sdp::{MediaAttribute, RtpMap, label};
-use str0m_values::cuts::{cut, num_u8, num_u32};
+use str0m_values::cuts::{cut, num_u8, num_u32, strip};
 use str0m_values::{Frequency, Pt, Separator};
 
 #[tactic(auto, using(str0m_formats::proofs::codec_read_only))]
@@ -58,7 +58,7 @@ fn mapping(text: &str) -> Option<RtpMap>
 pub(crate) fn rtp_map(text: &str) -> Option<MediaAttribute>
     ensures { result ≡ rtpmap.read text.now }
 {
-    let body = behind_label(text, label::RTPMAP)?;
+    let body = strip(text, label::RTPMAP)?;
     let (pt, mapped) = number_and_rest(body, 127)?;
     let value = mapping(mapped)?;
     Some(MediaAttribute::RtpMap {

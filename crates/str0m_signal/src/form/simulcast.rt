@@ -5,7 +5,6 @@ ghost use Rattle.str0m_signal.specs.form.MediaAttribute.{simulcast};
 ghost use Rattle.str0m_signal.specs.form.RidStreamName.{is_name_character, is_stream_name};
 ghost use Rattle.str0m_signal.specs.form.SimulcastReading.{simulcast_sides_of, alternative_read, first_name_read, layer_read, sides_read, layers_of, simulcast_fields_read};
 
-use crate::line::front::behind_label;
 use crate::line::parts::{Part, are_parts, parts};
 use std::alloc::{AllocError, Global};
 use str0m_sdp::{MediaAttribute, RestrictionId, Simulcast, SimulcastGroups, SimulcastLayer, label};
@@ -192,7 +191,7 @@ pub(crate) fn simulcast_line(
 ) -> Result<Option<MediaAttribute>, AllocError>
     ensures { IfOk result (λ found. found ≡ simulcast.read text.now) }
 {
-    let Some(body) = behind_label(text, label::SIMULCAST) else {
+    let Some(body) = strip(text, label::SIMULCAST) else {
         return Ok(None);
     };
     match simulcast_layers(alloc, body)? {

@@ -3,11 +3,11 @@ ghost use Rattle.std.specs.Prelude.{◌≡◌, IfOk};
 ghost use Rattle.str0m_signal.specs.form.MediaAttribute.{rtcp_fb, ssrc, ssrc_group};
 
 use crate::line::fields::two_texts;
-use crate::line::front::{behind_label, number_and_rest};
+use crate::line::front::number_and_rest;
 use crate::line::parts::parts;
 use std::alloc::{AllocError, Global};
 use str0m_sdp::{MediaAttribute, label};
-use str0m_values::cuts::{cut, num_u32};
+use str0m_values::cuts::{cut, num_u32, strip};
 use str0m_values::{Name, Pt, Separator, Ssrc, Text};
 
 /// The rtcp-fb line of the text after `a=`.
@@ -15,7 +15,7 @@ use str0m_values::{Name, Pt, Separator, Ssrc, Text};
 pub(crate) fn rtcp_fb(alloc: Global, text: &str) -> Result<Option<MediaAttribute>, AllocError>
     ensures { IfOk result (λ found. found ≡ rtcp_fb.read text.now) }
 {
-    let Some(body) = behind_label(text, label::RTCP_FB) else {
+    let Some(body) = strip(text, label::RTCP_FB) else {
         return Ok(None);
     };
     let Some((pt, value)) = number_and_rest(body, 127) else {
@@ -36,7 +36,7 @@ pub(crate) fn rtcp_fb(alloc: Global, text: &str) -> Result<Option<MediaAttribute
 pub(crate) fn ssrc(alloc: Global, text: &str) -> Result<Option<MediaAttribute>, AllocError>
     ensures { IfOk result (λ found. found ≡ ssrc.read text.now) }
 {
-    let Some(body) = behind_label(text, label::SSRC) else {
+    let Some(body) = strip(text, label::SSRC) else {
         return Ok(None);
     };
     let Some((number, more)) = cut(body, Separator::Space) else {
@@ -62,7 +62,7 @@ pub(crate) fn ssrc(alloc: Global, text: &str) -> Result<Option<MediaAttribute>, 
 pub(crate) fn ssrc_group(alloc: Global, text: &str) -> Result<Option<MediaAttribute>, AllocError>
     ensures { IfOk result (λ found. found ≡ ssrc_group.read text.now) }
 {
-    let Some(body) = behind_label(text, label::SSRC_GROUP) else {
+    let Some(body) = strip(text, label::SSRC_GROUP) else {
         return Ok(None);
     };
     let Some((word, sources)) = cut(body, Separator::Space) else {

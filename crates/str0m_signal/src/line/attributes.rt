@@ -4,10 +4,10 @@ ghost use Rattle.std.specs.Prelude.{◌≡◌, ℕ, List, Ok, Option, IfOk, opti
 ghost use Rattle.str0m_signal.specs.line.Lines.{Run};
 ghost use Rattle.str0m_signal.specs.line.LinesReading.{lines_of, line_read, read_attribute, lines_left, ReadsTo, TakesLast};
 
-use crate::line::front::behind_label;
 use crate::line::lines::{BYTES_OF_A_LINE, clean_line};
 use std::alloc::{AllocError, Global};
 use str0m_values::Items;
+use str0m_values::cuts::strip;
 
 /// What a line of `a=` and a text may say: the attributes of sessions are one such table of forms,
 /// those of sections another.
@@ -56,7 +56,7 @@ fn take_attribute_content<A: Attribute>(
 ) -> Result<bool, AllocError>
     ensures { IfOk result (TakesLast (read_attribute A.reading line.now) place.old.items place.new.items) }
 {
-    match behind_label(line, "a=") {
+    match strip(line, "a=") {
         Some(text) => A::take(alloc, text, place),
         None => Ok(false),
     }

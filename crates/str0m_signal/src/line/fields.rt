@@ -8,18 +8,17 @@ ghost use Rattle.str0m_signal.specs.form.MediaAttributeReading.{role_read};
 ghost use Rattle.str0m_signal.specs.line.LinesReading.{lines_of, line_read, both_lines_left};
 ghost use Rattle.str0m_signal.specs.session.SectionReading.{field_read};
 
-use crate::line::front::behind_label;
 use crate::line::lines::clean_line;
 use std::alloc::{AllocError, Global};
 use str0m_sdp::{SETUPS, Setup};
-use str0m_values::cuts::cut;
+use str0m_values::cuts::{cut, strip};
 use str0m_values::{Mid, Separator, Text, case_of};
 
 /// What follows `label`, where that is not nothing.
 pub(crate) fn field<'a>(line: &'a str, label: &str) -> Option<&'a str>
     ensures { option_map (λ x. x.now) result ≡ field_read label.now line.now }
 {
-    let text = behind_label(line, label)?;
+    let text = strip(line, label)?;
     if text.is_empty() { None } else { Some(text) }
 }
 
@@ -64,7 +63,7 @@ pub(crate) fn both_texts_kept(
 ) -> Result<Option<(Text, Text)>, AllocError>
     ensures { IfOk result (λ found. found ≡ behind label.now two_texts.read text.now) }
 {
-    let Some(body) = behind_label(text, label) else {
+    let Some(body) = strip(text, label) else {
         return Ok(None);
     };
     let Some((first, second)) = two_texts(body, Separator::Space) else {

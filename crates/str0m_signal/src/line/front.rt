@@ -1,42 +1,11 @@
-//! What stands at the front of lines: labels, and numbers before a space.
+//! Numbers at the front of lines, before a space.
 
-ghost use Rattle.std.specs.Bool.{MatchBool};
-ghost use Rattle.std.specs.Prelude.{◌≡◌, IfSome, None, Some, drop, length, option_map, take};
-ghost use Rattle.str0m_signal.specs.Prelude.{strip};
+ghost use Rattle.std.specs.Prelude.{◌≡◌, IfSome, option_map, take};
 ghost use Rattle.str0m_signal.specs.line.FrontReading.{number_and_rest_read, number_in_front_read};
 ghost use Rattle.str0m_values.specs.Cuts.{IsFirstCutAt, IsWrittenAs};
 
 use str0m_values::Separator;
 use str0m_values::cuts::{before, cut, num_u8, strip};
-
-/// Whether the bytes begin with the label. They are gone over one by one: labels are known where this is inlined, and most
-/// are told apart by few bytes.
-#[inline(always)]
-fn begins_with(bytes: &[u8], label: &[u8]) -> bool
-    ensures { MatchBool result (strip label.now bytes.now ≡ Some (drop (length label.now) bytes.now)) (strip label.now bytes.now ≡ None) }
-{
-    if bytes.len() < label.len() {
-        return false;
-    }
-    for i in 0..label.len() {
-        if bytes[i] != label[i] {
-            return false;
-        }
-    }
-    true
-}
-
-/// What follows the label; `None` where the text doesn't begin with it.
-#[inline(always)]
-pub(crate) fn behind_label<'a>(text: &'a str, label: &str) -> Option<&'a str>
-    ensures { option_map (λ x. x.now) result ≡ strip label.now text.now }
-{
-    if begins_with(text.as_bytes(), label.as_bytes()) {
-        Some(&text[label.len()..])
-    } else {
-        None
-    }
-}
 
 /// How many bytes are gone over for a number and the space behind it: payload types take three digits at most.
 const NEAR_SPACE: usize = 4;

@@ -4,7 +4,7 @@ ghost use Rattle.std.specs.Prelude.{◌≡◌, IfOk, IfSome, Some, codes, is_som
 ghost use Rattle.str0m_signal.specs.line.Heads.{head_kind_is, media_head};
 ghost use Rattle.str0m_signal.specs.session.SectionReading.{unknown_read, media_kind_read, numbers_read, proto_read, types_read, head_read};
 
-use crate::line::front::{behind_label, number_and_rest};
+use crate::line::front::number_and_rest;
 use crate::line::parts::parts;
 use crate::line::words::Number;
 use arrayvec::ArrayVec;
@@ -142,7 +142,7 @@ fn types(alloc: Global, text: &str) -> Result<Option<Items<Pt>>, AllocError>
 pub(crate) fn head(alloc: Global, line: &str) -> Result<Option<MediaHead>, AllocError>
     ensures { IfOk result (λ found. option_map media_head found ≡ head_read line.now) }
 {
-    let Some(body) = behind_label(line, "m=") else {
+    let Some(body) = strip(line, "m=") else {
         return Ok(None);
     };
     let Some((kind_text, body)) = cut(body, Separator::Space) else {

@@ -5,9 +5,9 @@ ghost use Rattle.std.specs.Prelude.{◌≡◌, ◌+◌, ◌++◌, ◌≤◌, IfS
 ghost use Rattle.str0m_signal.specs.Prelude.{Lacks};
 ghost use Rattle.str0m_signal.specs.line.LinesReading.{lines_of, clean_line, behind_end, IsAtEnd, both_lines_left};
 
-use crate::line::front::behind_label;
 use memchr::memchr2;
 use std::simd::prelude::*;
+use str0m_values::cuts::strip;
 
 /// How many bytes of text a line takes, as a guess that most lines don't pass.
 pub(crate) const BYTES_OF_A_LINE: usize = 48;
@@ -89,10 +89,10 @@ fn cut_at_end(text: &str) -> (&str, &str)
 fn behind_end(text: &str) -> Option<&str>
     ensures { option_map (λ x. x.now) result ≡ behind_end text.now }
 {
-    if let Some(rest) = behind_label(text, "\r\n") {
+    if let Some(rest) = strip(text, "\r\n") {
         return Some(rest);
     }
-    if let Some(rest) = behind_label(text, "\n") {
+    if let Some(rest) = strip(text, "\n") {
         return Some(rest);
     }
     if text.is_empty() { Some(text) } else { None }

@@ -6,17 +6,16 @@ ghost use Rattle.str0m_signal.specs.line.LinesReading.{lines_of, line_read, line
 ghost use Rattle.str0m_signal.specs.session.Section.{IsBandwidth};
 ghost use Rattle.str0m_signal.specs.session.SectionReading.{bandwidth_read};
 
-use crate::line::front::behind_label;
 use crate::line::lines::clean_line;
 use std::alloc::{AllocError, Global};
 use str0m_sdp::Bandwidth;
-use str0m_values::cuts::cut;
+use str0m_values::cuts::{cut, strip};
 use str0m_values::{Separator, Text};
 
 pub(crate) fn bandwidth(alloc: Global, line: &str) -> Result<Option<Bandwidth>, AllocError>
     ensures { IfOk result (λ found. found ≡ bandwidth_read line.now) }
 {
-    let Some(body) = behind_label(line, "b=") else {
+    let Some(body) = strip(line, "b=") else {
         return Ok(None);
     };
     let Some((typ, val)) = cut(body, Separator::Colon) else {
