@@ -12,6 +12,10 @@ import re
 
 from edit import BLOCK, FUNCTION
 
+# A clause of a contract by its first line, and where each answer of a file begins.
+CLAUSE = re.compile(r"\s*(?P<kind>requires|ensures|ghost)\b\*? ?(?P<label>\w*)")
+ANSWER = re.compile(r"^(?=pub \S+ : )", re.M)
+
 
 def lines_of(text, offset):
     """Where the function whose body stands at the offset begins, with its attributes, where its own line stands, and where it ends."""
@@ -30,10 +34,6 @@ def block_round(lines, at):
     if head is None or "}" in lines[head:at] or BLOCK.match(lines[head])["trait"]:
         return None
     return [lines[head], *[it for it in lines[head:at] if it.startswith("    ghost use ")]]
-
-
-CLAUSE = re.compile(r"\s*(?P<kind>requires|ensures|ghost)\b\*? ?(?P<label>\w*)")
-ANSWER = re.compile(r"^(?=pub \S+ : )", re.M)
 
 
 def owing(lines, clause):
