@@ -68,7 +68,7 @@ impl<'a> SaidBySection<'a> {
             MediaAttribute::Inactive => self.direction = Some(label::INACTIVE),
             MediaAttribute::MaxMessageSize(size) => self.max_message_size = Some(*size),
             MediaAttribute::Mid(mid) => self.mid = Some(mid.as_str()),
-            MediaAttribute::Msid(msid) => self.msid = Some(msid.get()),
+            MediaAttribute::Msid(msid) => self.msid = Some(msid),
             MediaAttribute::Rtcp(text) => self.rtcp = Some(text.as_str()),
             MediaAttribute::RtcpMux => self.rtcp_mux = Some(label::RTCP_MUX),
             MediaAttribute::RtcpMuxOnly => self.rtcp_mux_only = Some(label::RTCP_MUX_ONLY),

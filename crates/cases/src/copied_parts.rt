@@ -62,11 +62,11 @@ fn show_copied_type(answer: &mut Answer, typ: &MediaType) {
 
 fn show_copied_msid(answer: &mut Answer, msid: &Msid) {
     show_copy(answer, "msid", &msid.clone());
-    show_copied_text(answer, &msid.stream_id);
+    show_copied_text(answer, &msid.track_id);
 }
 
 fn show_copied_text(answer: &mut Answer, text: &Text) {
-    show_copy(answer, "stream", &text.clone());
+    show_copy(answer, "track", &text.clone());
 }
 
 fn of_media_attribute(answer: &mut Answer, attribute: &MediaAttribute) {

@@ -90,17 +90,17 @@ fn held_in_stream(answer: &mut Answer, field: &str, text: &str) -> MediaAttribut
 }
 
 fn held_msid(answer: &mut Answer, stream_id: &str, track_id: &str) -> MediaAttribute {
-    let msid = Msid {
-        stream_id: text_of(answer, stream_id),
-        track_id: text_of(answer, track_id),
-    };
-    let made = made_msid(answer.alloc(), msid);
+    let made = made_msid(answer.alloc(), stream_id, track_id);
     answer.kept(made, MediaAttribute::SendRecv)
 }
 
-fn made_msid(alloc: Global, msid: Msid) -> Result<MediaAttribute, AllocError> {
-    let msid = Boxed::new(alloc, msid)?;
-    Ok(MediaAttribute::Msid(msid))
+fn made_msid(alloc: Global, stream_id: &str, track_id: &str) -> Result<MediaAttribute, AllocError> {
+    let stream_id = Name::from_str(alloc, stream_id)?;
+    let track_id = Text::from_str(alloc, track_id)?;
+    Ok(MediaAttribute::Msid(Msid {
+        stream_id,
+        track_id,
+    }))
 }
 
 fn held_source_group(answer: &mut Answer, semantics: &str) -> MediaAttribute {

@@ -120,7 +120,7 @@ pub enum MediaAttribute {
     /// `a=inactive` (RFC 8866, section 6.7.4).
     Inactive,
     /// `a=msid:` (RFC 8830, section 2).
-    Msid(Boxed<Msid>),
+    Msid(Msid),
     /// `a=rtcp-mux` (RFC 5761, section 5.1.1).
     RtcpMux,
     /// `a=rtcp-mux-only` (RFC 8858, section 3).
@@ -366,7 +366,7 @@ fn write_media_value<W: fmt::Write>(
         MediaAttribute::Mid(mid) => write_labelled(f, label::MID, mid),
         MediaAttribute::SctpPort(port) => write_labelled(f, label::SCTP_PORT, port),
         MediaAttribute::MaxMessageSize(size) => write_labelled(f, label::MAX_MESSAGE_SIZE, size),
-        MediaAttribute::Msid(msid) => write_labelled(f, label::MSID, msid.get()),
+        MediaAttribute::Msid(msid) => write_labelled(f, label::MSID, msid),
         MediaAttribute::Candidate(candidate) => {
             let candidate = candidate.get();
             write!(f, "a={candidate}\r\n")

@@ -1,5 +1,6 @@
 -- What a cut at a character, and what follows a prefix, are.
 use Rattle.std.proofs.lemmas.Str.Pattern.{IsSplitOnceResult, split_parts}
+use Rattle.std.specs.Borrow.{Bor}
 use Rattle.str0m_values.proofs.Common.{◌≡◌, ◌≢◌, ℕ, suc, inl, inr, ◌<◌, ◌≤◌, ◌+◌, true, not, List, [], ◌∷◌, ◌++◌, length, get_or, drop}
 use Rattle.str0m_values.proofs.Common.{take, Option, Some, None, refl, sym, ap, ◌∙◌, arith, append-nil, is_some, eq-eqb, ne_eqb}
 use Rattle.str0m_values.proofs.Common.{cases_eq, both_ways, and_parts, some_pair_parts, none-some, drop-append_seam, take-append_seam}

@@ -35,6 +35,14 @@ impl<T> Boxed<T> {
     {
         self.0.as_ref()
     }
+
+    /// Puts a value in the place of another, which is returned. Takes no memory.
+    pub fn replace(&mut self, value: T) -> T
+        ensures new { self.new ≡ value }
+        ensures old { result ≡ self.old }
+    {
+        Box::replace(&mut self.0, value)
+    }
 }
 
 /// What the value can be asked, it can be asked, too.

@@ -58,6 +58,16 @@ impl Name {
         Ok(Name { letters })
     }
 
+    /// The name of a text, in room that was asked for before: so it takes no memory, however long it is. The text that lay there is
+    /// dropped.
+    pub fn in_room(mut room: Boxed<Text>, text: Text) -> Name
+        ensures { result ≡ text }
+    {
+        let _ = room.replace(text);
+        let letters = NameLetters::Long(room);
+        Name { letters }
+    }
+
     /// The name as a `str`.
     pub fn as_str(&self) -> &str
         ensures value { result.now ≡ self.now }

@@ -8,8 +8,8 @@ use crate::section::repeated_lines::{is_repeated, push_repeated};
 use crate::state::own_side::{DataChannels, OwnSide};
 use std::alloc::{AllocError, Global};
 use str0m_signal::{
-    AsMediaAttrs, Boxed, Direction, Items, MediaAttribute, MediaLine, Mid, Msid, PayloadParams, Pt,
-    Sdp, Setup, Text,
+    AsMediaAttrs, Boxed, Direction, Items, MediaAttribute, MediaLine, Mid, Msid, Name,
+    PayloadParams, Pt, Sdp, Setup, Text,
 };
 
 /// The header extension that tells of each packet which layer it is of (RFC 8852, section 3.3).
@@ -89,14 +89,14 @@ pub(crate) fn push_msid(
     if !direction.sends() {
         return Ok(());
     }
-    let stream_id = own.stream_id.clone()?;
     let alloc = *lines.allocator();
+    let stream_id = Name::from_str(alloc, own.stream_id.as_str())?;
     let track_id = track_id(alloc, mid)?;
     let msid = Msid {
         stream_id,
         track_id,
     };
-    lines.push(MediaAttribute::Msid(Boxed::new(alloc, msid)?))?;
+    lines.push(MediaAttribute::Msid(msid))?;
     Ok(())
 }
 

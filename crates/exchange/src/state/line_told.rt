@@ -193,7 +193,7 @@ pub(crate) fn is_line_told(attr: &MediaAttribute) -> bool
         MediaAttribute::IcePwd(text) => is_password_told(text.as_str()),
         MediaAttribute::IceOptions(text) => are_options_told(text.as_str()),
         MediaAttribute::Mid(mid) => is_mid_told(*mid),
-        MediaAttribute::Msid(msid) => is_stream_told(msid.get()),
+        MediaAttribute::Msid(msid) => is_stream_told(msid),
         MediaAttribute::Setup(role) => is_role_told(*role),
         MediaAttribute::Fingerprint(hash) => is_fingerprint_told(hash),
         MediaAttribute::SctpPort(port) => is_port_told(*port),

@@ -6,13 +6,13 @@ ghost use Rattle.str0m_sdp.specs.attribute.Msid.{msid_text};
 use crate::form::printed::Printed;
 use std::alloc::AllocError;
 use std::fmt;
-use str0m_values::Text;
+use str0m_values::{Name, Text};
 
 /// The ids of a stream and of a track in it (RFC 8830, section 2). Any texts can be held.
 #[derive(Clone, Debug, PartialEq, Eq, Drop)]
 pub struct Msid {
     /// The id of the stream; `-` where there is none.
-    pub stream_id: Text,
+    pub stream_id: Name,
     /// The id of the track.
     pub track_id: Text,
 }

@@ -5,7 +5,7 @@ ghost use Rattle.str0m_sdp.specs.attribute.RandomMsid.{after_msid_drawn_words, m
 use crate::attribute::msid::Msid;
 use rand_core::Rng;
 use std::alloc::{AllocError, Global};
-use str0m_values::Text;
+use str0m_values::{Boxed, Name, Text};
 
 const MSID_LETTERS: [u8; 62] = *b"0123456789ABCDEFGHIJKLMNOPQRSTUVWXYZabcdefghijklmnopqrstuvwxyz";
 
@@ -47,13 +47,14 @@ impl Msid {
         ensures stream { OnOk result (R.stream rng.new ≡ after_msid_drawn_words 60 (R.stream rng.old)) }
         ensures refused { OnErr result (rng.new ≡ rng.old) }
     {
-        // Room for both comes first, so that no word is lost to a refusal.
+        // Room for all comes first, so that no word is lost to a refusal.
         let mut stream_id = String::with_capacity(alloc, MSID_ID_LENGTH)?;
         let mut track_id = String::with_capacity(alloc, MSID_ID_LENGTH)?;
+        let room = Boxed::new(alloc, Text::empty())?;
         draw_msid_id(&mut stream_id, rng);
         draw_msid_id(&mut track_id, rng);
         Ok(Msid {
-            stream_id: Text::from(stream_id),
+            stream_id: Name::in_room(room, Text::from(stream_id)),
             track_id: Text::from(track_id),
         })
     }

@@ -85,7 +85,7 @@ impl MediaAttribute {
         ensures { option_copied result ≡ msid_of self.now }
     {
         match self {
-            MediaAttribute::Msid(msid) => Some(msid.get()),
+            MediaAttribute::Msid(msid) => Some(msid),
             _ => None,
         }
     }

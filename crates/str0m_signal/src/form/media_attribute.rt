@@ -17,12 +17,12 @@ use crate::form::rtp_map::rtp_map;
 use crate::form::simulcast::simulcast_line;
 use crate::form::sources::{rtcp_fb, ssrc, ssrc_group};
 use crate::line::attributes::{Attribute, attribute_run, taken, taken_attribute_result};
-use crate::line::fields::{both_texts_kept, kept_field, num_u64, role_field, short_field};
+use crate::line::fields::{both_texts, kept_field, num_u64, role_field, short_field};
 use std::alloc::{AllocError, Global};
 use str0m_sdp::{MediaAttribute, Msid, label};
 use str0m_values::candidate_text::candidate;
 use str0m_values::cuts::{num_u16, strip};
-use str0m_values::{Boxed, Items, Text};
+use str0m_values::{Boxed, Items, Name, Text};
 
 /// The attributes that are a label and a text.
 #[inline(never)]
@@ -46,16 +46,15 @@ fn media_text(alloc: Global, text: &str) -> Result<Option<MediaAttribute>, Alloc
 fn media_pair(alloc: Global, text: &str) -> Result<Option<MediaAttribute>, AllocError>
     ensures { IfOk result (λ found. found ≡ (pair_forms media_pairs).read text.now) }
 {
-    match both_texts_kept(alloc, text, label::MSID)? {
-        Some((stream_id, track_id)) => {
-            let msid = Msid {
-                stream_id,
-                track_id,
-            };
-            Ok(Some(MediaAttribute::Msid(Boxed::new(alloc, msid)?)))
-        }
-        None => Ok(None),
-    }
+    let Some((stream_id, track_id)) = both_texts(text, label::MSID) else {
+        return Ok(None);
+    };
+    let stream_id = Name::from_str(alloc, stream_id)?;
+    let track_id = Text::from_str(alloc, track_id)?;
+    Ok(Some(MediaAttribute::Msid(Msid {
+        stream_id,
+        track_id,
+    })))
 }
 
 #[inline(never)]

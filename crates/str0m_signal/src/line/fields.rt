@@ -54,24 +54,12 @@ pub(crate) fn two_texts(text: &str, at: Separator) -> Option<(&str, &str)>
     Some((first, second))
 }
 
-/// Copies of the two texts that follow `label` with a space between them, where neither is nothing.
+/// The two texts that follow `label` with a space between them, where neither is nothing.
 #[inline(always)]
-pub(crate) fn both_texts_kept(
-    alloc: Global,
-    text: &str,
-    label: &str,
-) -> Result<Option<(Text, Text)>, AllocError>
-    ensures { IfOk result (λ found. found ≡ behind label.now two_texts.read text.now) }
+pub(crate) fn both_texts<'a>(text: &'a str, label: &str) -> Option<(&'a str, &'a str)>
+    ensures { parts result ≡ behind label.now two_texts.read text.now }
 {
-    let Some(body) = strip(text, label) else {
-        return Ok(None);
-    };
-    let Some((first, second)) = two_texts(body, Separator::Space) else {
-        return Ok(None);
-    };
-    let first = Text::from_str(alloc, first)?;
-    let second = Text::from_str(alloc, second)?;
-    Ok(Some((first, second)))
+    two_texts(strip(text, label)?, Separator::Space)
 }
 
 /// The number of 64 bits that std reads in decimal.
