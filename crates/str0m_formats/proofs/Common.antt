@@ -12,7 +12,7 @@ pub use Rattle.std.proofs.Math.Bool.{or-false, or-true, or_assoc, and-false, and
 pub use Rattle.std.proofs.Output.{has_written_append, has_written_of_eq}
 pub use Rattle.std.proofs.lemmas.Bool.{and_parts, cases_Bool, cases_lt, cases_order, eq-eqb, eqb-true, false_from_ne_true, false≢true}
 pub use Rattle.std.proofs.lemmas.Bool.{le-leb, le-ltb, leb-true, lt-ltb, ltb-true, ne_eqb, not-true, or_cases, or_left, or_parts, or_right}
-pub use Rattle.std.proofs.lemmas.Bool.{true≢false, ltb-false, cases_eq, and_from}
+pub use Rattle.std.proofs.lemmas.Bool.{true≢false, leb-false, ltb-false, cases_eq, and_from}
 pub use Rattle.std.proofs.lemmas.Bool.Decides.{Decides-like, eqb_tells, nat_tests, Decides-and}
 pub use Rattle.std.proofs.lemmas.Fmt.{decimal_is_IsNumeral, digits_is_IsNumeral, decimal_nonempty}
 pub use Rattle.std.proofs.lemmas.Grind.{drop_more_same, flat_map-append}

@@ -1,3 +1,4 @@
+pub mod ChoiceFromBack
 pub mod ChoiceSteps
 pub mod ChoicesAsked
 pub mod ClaimMaskBits
@@ -6,6 +7,7 @@ pub mod ClaimedRanges
 pub mod ClaimedSets
 pub mod ClaimedTimes
 pub mod FirstPass
+pub mod MatchScoreBound
 pub mod MatchScoreLaws
 pub mod MatchScoreRules
 pub mod NarrowingLevels

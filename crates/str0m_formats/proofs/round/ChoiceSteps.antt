@@ -52,7 +52,7 @@ no_choice_so_far : (points : PayloadParams → Option ℕ) (rows : List PayloadP
 no_choice_so_far points rows n c = grind arith
 
 -- no row so far has a greater score
-choice_at_most_so_far : (points : PayloadParams → Option ℕ) (rows : List PayloadParams) (best : PayloadParams) (n : ℕ)
+pub choice_at_most_so_far : (points : PayloadParams → Option ℕ) (rows : List PayloadParams) (best : PayloadParams) (n : ℕ)
     (it : IsBestChoice points rows best)
     → it.most ≤ n → All (λ r. IfSome (points r) (λ k. k ≤ n)) rows
 choice_at_most_so_far points rows best n it m =

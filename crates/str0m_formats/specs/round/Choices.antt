@@ -1,6 +1,6 @@
 -- Which row of a list is chosen, and which remote row a row is matched with.
 use Rattle.std.specs.Borrow.{Bor}
-use Rattle.std.specs.Prelude.{◌≡◌, ◌==◌, ◌<◌, ◌≤◌, ℕ, Bool, true, false, ◌&&◌, not, Option, Some, None, List, [], ◌∷◌, ◌++◌, if◌then◌else◌, IfSome, All, find, nat_lt, option_map}
+use Rattle.std.specs.Prelude.{◌≡◌, ◌==◌, ◌<◌, ◌≤◌, ℕ, Bool, true, false, ◌&&◌, not, Option, Some, None, List, [], ◌∷◌, ◌++◌, if◌then◌else◌, IfSome, All, find, nat_le, nat_lt, option_map}
 use Rattle.str0m_formats.specs.codec.Codec.{CodecContent, codec_content, events, is_amr_wb}
 use Rattle.str0m_formats.specs.declared.row.payload_params.PayloadParams.{PayloadParams}
 use Rattle.str0m_formats.specs.round.Claimed.{TypeSet}
@@ -31,6 +31,12 @@ abbrev pub better_row : Option (PayloadParams × ℕ) → PayloadParams → Opti
 better_row so_far row None = so_far
 better_row None row (Some n) = Some (row, n)
 better_row (Some (best, most)) row (Some n) = if nat_lt n most then Some (best, most) else Some (row, n)
+
+-- the same once one row more was seen that stands before the others: it goes before one of less score alone
+abbrev pub earlier_row : Option (PayloadParams × ℕ) → PayloadParams → Option ℕ → Option (PayloadParams × ℕ)
+earlier_row so_far row None = so_far
+earlier_row None row (Some n) = Some (row, n)
+earlier_row (Some (best, most)) row (Some n) = if nat_le n most then Some (best, most) else Some (row, n)
 
 -- the score of a row with another
 abbrev pub choice_points_with : PayloadParams → PayloadParams → Option ℕ

@@ -7,8 +7,9 @@ ghost use Rattle.str0m_formats.specs.round.Claimed.{with_type, claimed_with_opti
 ghost use Rattle.str0m_formats.specs.round.Rounds.{role_type, own_or_free_claim, rtx_type, red_type, round_red_of_audio};
 
 use crate::codec::Codec;
-use crate::round::choices::better_row;
+use crate::round::choices::earlier_row;
 use crate::round::claimed::Claimed;
+use crate::round::match_score::FULL_SCORE;
 use crate::round::negotiation_error::NegotiationError;
 use crate::row::payload_params::PayloadParams;
 use str0m_values::Pt;
@@ -46,7 +47,7 @@ impl<C: Claimed> Claims<C> {
         if is_left_aside { None } else { Some(points) }
     }
 
-    /// The last of the remote rows of greatest score.
+    /// The last of the remote rows of greatest score: they are gone over from the last one on, and no further than one that fits in full.
     pub(crate) fn choice<'a>(
         &self,
         row: &PayloadParams,
@@ -55,8 +56,15 @@ impl<C: Claimed> Claims<C> {
         ensures { IsChoice (choice_points_for (C.holds self.now.claimed) self.now.receives row.now) remote.now (option_copied result) }
     {
         let mut best = None;
-        for theirs in remote {
-            best = better_row(best, theirs, self.points(row, theirs));
+        let mut rest = remote;
+        while let Some((theirs, front)) = rest.split_last() {
+            let points = self.points(row, theirs);
+            // None of those in front of it has more.
+            if let Some(FULL_SCORE) = points {
+                return Some(theirs);
+            }
+            best = earlier_row(best, theirs, points);
+            rest = front;
         }
         match best {
             Some((theirs, _)) => Some(theirs),

@@ -8,7 +8,7 @@ use crate::format::format_params::FormatParams;
 use str0m_values::{H264ProfileLevel, Leveled, Numbered, ProfileTierLevel};
 
 /// The score of what fits in full.
-const FULL_SCORE: usize = 100;
+pub(crate) const FULL_SCORE: usize = 100;
 
 /// The score of formats of which no more than the profiles are known to be the same.
 const SAME_PROFILE: usize = 90;
