@@ -155,7 +155,7 @@ impl fmt::Display for Candidate {
 
     ghost output = { λ c. Some (candidate_text c) };
 
-    // Piece by piece: `write!` takes a third longer, and offers have tens of candidates.
+    // Piece by piece: `write!` takes an eighth more, and offers have tens of candidates.
     fn fmt<W: fmt::Write>(&self, f: &mut fmt::Formatter<W>) -> fmt::Result {
         CandidateParts(self).fmt(f)?;
         CandidateRelated(self.raddr).fmt(f)?;
