@@ -12,8 +12,8 @@ use crate::command::command;
 use crate::fault::Fault;
 use crate::own::own_side;
 use crate::session::{offer, take_session_step};
-use clap::ArgMatches;
 use clap::error::ErrorKind;
+use clap::{ArgMatches, Error};
 use exchange::Exchange;
 use std::io::Write;
 use std::process::ExitCode;
@@ -61,11 +61,25 @@ fn exchange_said_last(
     Ok(said)
 }
 
-/// What a session of this side comes to, as text. The configuration is made first: to drop it takes less proof than to drop the side.
-fn exchange_session_text(rt: &HostRuntime, matches: &ArgMatches<'_>) -> Result<String, Fault> {
+/// This side, before anything is said. The configuration is made first: to drop it takes less proof than to drop the side.
+fn exchange_of_options(rt: &HostRuntime, matches: &ArgMatches<'_>) -> Result<Exchange, Fault> {
     let config = configured_codecs(rt.alloc(), matches)?;
-    let mut exchange = Exchange::new(own_side(rt.alloc(), matches)?, config);
+    Ok(Exchange::new(own_side(rt.alloc(), matches)?, config))
+}
+
+/// What a session of this side comes to, as text.
+fn exchange_session_text(rt: &HostRuntime, matches: &ArgMatches<'_>) -> Result<String, Fault> {
+    let mut exchange = exchange_of_options(rt, matches)?;
     exchange_said_last(rt, matches, &mut exchange)
+}
+
+/// Writes what a session of this side comes to.
+fn write_exchange_session(rt: &HostRuntime, matches: &ArgMatches<'_>) -> Result<(), Fault> {
+    let said = exchange_session_text(rt, matches)?;
+    let mut output = rt.stdout();
+    output.write_all(said.as_bytes())?;
+    output.flush()?;
+    Ok(())
 }
 
 fn arguments(rt: &HostRuntime) -> io::Result<Vec<String>> {
@@ -76,26 +90,27 @@ fn arguments(rt: &HostRuntime) -> io::Result<Vec<String>> {
     Ok(words)
 }
 
+/// Says why the arguments are refused, or what `--help` and `--version` ask for; answers the exit status.
+fn refuse_exchange_arguments(rt: &HostRuntime, error: Error) -> Result<u8, Fault> {
+    if let ErrorKind::OutOfMemory = error.kind() {
+        return Err(Fault::Memory);
+    }
+    error.print(rt)?;
+    // (--help and --version end with 0)
+    Ok(if error.use_stderr() { 2 } else { 0 })
+}
+
 /// Runs the program; answers its exit status.
 fn run(rt: &HostRuntime) -> Result<u8, Fault> {
     let words = arguments(rt)?;
     let command = command(rt.alloc())?;
-    let matches = match command.try_get_matches_from(words.as_slice()) {
-        Ok(matches) => matches,
-        Err(error) => {
-            if let ErrorKind::OutOfMemory = error.kind() {
-                return Err(Fault::Memory);
-            }
-            error.print(rt)?;
-            // (--help and --version end with 0)
-            return Ok(if error.use_stderr() { 2 } else { 0 });
+    match command.try_get_matches_from(words.as_slice()) {
+        Ok(matches) => {
+            write_exchange_session(rt, &matches)?;
+            Ok(0)
         }
-    };
-    let said = exchange_session_text(rt, &matches)?;
-    let mut output = rt.stdout();
-    output.write_all(said.as_bytes())?;
-    output.flush()?;
-    Ok(0)
+        Err(error) => refuse_exchange_arguments(rt, error),
+    }
 }
 
 fn main(rt: HostRuntime) -> ExitCode {

@@ -44,10 +44,14 @@ fn own_option_texts(
     let mut texts = Items::empty(alloc);
     if let Some(values) = matches.get_strs(name) {
         for text in values {
-            texts.push(Text::from_str(alloc, text)?)?;
+            add_own_text(alloc, &mut texts, text)?;
         }
     }
     Ok(texts)
+}
+
+fn add_own_text(alloc: Global, texts: &mut Items<Text>, text: &str) -> Result<(), AllocError> {
+    texts.push(Text::from_str(alloc, text)?)
 }
 
 /// The candidate of a line, as `candidate:1 1 udp 2130706431 192.0.2.1 9999 typ host`.
@@ -66,10 +70,19 @@ fn own_candidates(alloc: Global, matches: &ArgMatches<'_>) -> Result<Items<Candi
     let mut candidates = Items::empty(alloc);
     if let Some(lines) = matches.get_strs("candidate") {
         for line in lines {
-            candidates.push(own_candidate(alloc, line)?)?;
+            add_own_candidate(alloc, &mut candidates, line)?;
         }
     }
     Ok(candidates)
+}
+
+fn add_own_candidate(
+    alloc: Global,
+    candidates: &mut Items<Candidate>,
+    line: &str,
+) -> Result<(), Fault> {
+    candidates.push(own_candidate(alloc, line)?)?;
+    Ok(())
 }
 
 fn own_channels(matches: &ArgMatches<'_>) -> Option<DataChannels> {
@@ -107,19 +120,35 @@ pub(crate) fn restarted_answer(
     })
 }
 
-/// What the options say of this side.
-pub(crate) fn own_side(alloc: Global, matches: &ArgMatches<'_>) -> Result<OwnSide, Fault> {
-    Ok(OwnSide {
+/// What the options say of this side, but for its stream, extensions and candidates.
+fn bare_own_side(
+    alloc: Global,
+    matches: &ArgMatches<'_>,
+    creds: IceCreds,
+    fingerprint: Fingerprint,
+) -> OwnSide {
+    OwnSide {
         session_id: SessionId::from(matches.get_one::<u64>("session-id").unwrap_or(1)),
-        creds: own_creds(alloc, matches)?,
-        fingerprint: own_fingerprint(alloc, matches)?,
+        creds,
+        fingerprint,
         audio: own_media_direction(matches, "audio"),
         video: own_media_direction(matches, "video"),
-        stream_id: Text::from_str(alloc, command_value(matches, "stream"))?,
-        extensions: own_option_texts(alloc, matches, "extension")?,
-        candidates: own_candidates(alloc, matches)?,
+        stream_id: Text::empty(),
+        extensions: Items::empty(alloc),
+        candidates: Items::empty(alloc),
         channels: own_channels(matches),
         directions: Items::empty(alloc),
         receives_simulcast: !matches.get_flag("no-simulcast"),
-    })
+    }
+}
+
+/// What the options say of this side.
+pub(crate) fn own_side(alloc: Global, matches: &ArgMatches<'_>) -> Result<OwnSide, Fault> {
+    let creds = own_creds(alloc, matches)?;
+    let fingerprint = own_fingerprint(alloc, matches)?;
+    let mut side = bare_own_side(alloc, matches, creds, fingerprint);
+    side.stream_id = Text::from_str(alloc, command_value(matches, "stream"))?;
+    side.extensions = own_option_texts(alloc, matches, "extension")?;
+    side.candidates = own_candidates(alloc, matches)?;
+    Ok(side)
 }

@@ -49,13 +49,22 @@ fn answer_to(
     number: usize,
     file: &str,
 ) -> Result<String, Fault> {
-    let alloc = rt.alloc();
     let text = read_session_file(rt, file)?;
     // An answer to a restart says credentials of its own (RFC 8839, section 4.4.3.1).
-    if session_restarts_ice(alloc, exchange, text.as_str())? {
-        exchange.restart_ice(restarted_answer(alloc, matches, number)?);
+    if session_restarts_ice(rt.alloc(), exchange, text.as_str())? {
+        exchange.restart_ice(restarted_answer(rt.alloc(), matches, number)?);
     }
-    match exchange.accept_offer(text.as_str()) {
+    answer_to_text(rt.alloc(), exchange, file, text.as_str())
+}
+
+/// Answers an offer of the other side, the text of a file; the answer as text.
+fn answer_to_text(
+    alloc: Global,
+    exchange: &mut Exchange,
+    file: &str,
+    text: &str,
+) -> Result<String, Fault> {
+    match exchange.accept_offer(text) {
         Ok(answer) => Ok(answer.to_string(alloc)?),
         Err(error) => Err(Fault::of_text(alloc, file, error)),
     }
