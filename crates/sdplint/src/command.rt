@@ -47,9 +47,8 @@ fn bare_command<'a>(alloc: Global) -> Result<Command<'a>, AllocError> {
         .arg(files)
 }
 
-/// The program's arguments. Each option is made where no other waits: what waits is dropped on each way out, and proved there.
-pub(crate) fn command<'a>(alloc: Global) -> Result<Command<'a>, AllocError> {
-    let against_default = command_against_default(alloc)?;
+/// The program with the options of what is written.
+fn command_that_writes<'a>(alloc: Global) -> Result<Command<'a>, AllocError> {
     bare_command(alloc)?
         .arg(option(alloc, "format", "text", "how findings are written").value_parser(
             COMMAND_FORMATS.as_slice(),
@@ -60,20 +59,31 @@ pub(crate) fn command<'a>(alloc: Global) -> Result<Command<'a>, AllocError> {
             "note",
             "the least severity that is shown, and counts for the status",
         )
-        .value_parser(LEVELS.as_slice()))?
+        .value_parser(LEVELS.as_slice()))
+}
+
+/// The program with the options of what is written, and those of rounds. What waits is dropped on each way out, and proved there: an
+/// option waits for the program, and no program for an option.
+fn command_with_rounds<'a>(alloc: Global) -> Result<Command<'a>, AllocError> {
+    let against_default = command_against_default(alloc)?;
+    command_that_writes(alloc)?
         .arg(bare_option(
             alloc,
             "against",
             "FILE",
             "say what would come of rounds with each file as the other side, against the rows of this description",
         ))?
-        .arg(against_default)?
-        .arg(bare_option(
-            alloc,
-            "explain",
-            "CODE",
-            "say what a code means, where it comes from and what to do, with an example",
-        ))
+        .arg(against_default)
+}
+
+/// The program's arguments.
+pub(crate) fn command<'a>(alloc: Global) -> Result<Command<'a>, AllocError> {
+    command_with_rounds(alloc)?.arg(bare_option(
+        alloc,
+        "explain",
+        "CODE",
+        "say what a code means, where it comes from and what to do, with an example",
+    ))
 }
 
 /// The value of an option; empty where it isn't given.

@@ -13,8 +13,8 @@ use crate::command::{command, command_value};
 use crate::explain::explanation;
 use crate::fault::Fault;
 use crate::output::{Output, OutputFormat};
-use clap::ArgMatches;
 use clap::error::ErrorKind;
+use clap::{ArgMatches, Error};
 use lint::{Report, findings, rounds};
 use std::alloc::AllocError;
 use std::env::VarError;
@@ -123,27 +123,34 @@ fn arguments(rt: &HostRuntime) -> io::Result<Vec<String>> {
     Ok(words)
 }
 
+/// Says why the arguments are refused, or what `--help` and `--version` ask for; answers the exit status.
+fn refuse_lint_arguments(rt: &HostRuntime, error: Error) -> Result<u8, Fault> {
+    if let ErrorKind::OutOfMemory = error.kind() {
+        return Err(Fault::Memory);
+    }
+    error.print(rt)?;
+    // (--help and --version end with 0)
+    Ok(if error.use_stderr() { 2 } else { 0 })
+}
+
+/// Says what a code means, or what is found in all files; answers the exit status.
+fn lint_as_asked(rt: &HostRuntime, matches: &ArgMatches<'_>) -> Result<u8, Fault> {
+    if matches.contains_id("explain") {
+        let text = explanation(rt.alloc(), command_value(matches, "explain"))?;
+        write_lint_text(rt, text.as_str())?;
+        return Ok(0);
+    }
+    lint(rt, matches)
+}
+
 /// Runs the program; answers its exit status.
 fn run(rt: &HostRuntime) -> Result<u8, Fault> {
     let words = arguments(rt)?;
     let command = command(rt.alloc())?;
-    let matches = match command.try_get_matches_from(words.as_slice()) {
-        Ok(matches) => matches,
-        Err(error) => {
-            if let ErrorKind::OutOfMemory = error.kind() {
-                return Err(Fault::Memory);
-            }
-            error.print(rt)?;
-            // (--help and --version end with 0)
-            return Ok(if error.use_stderr() { 2 } else { 0 });
-        }
-    };
-    if matches.contains_id("explain") {
-        let text = explanation(rt.alloc(), command_value(&matches, "explain"))?;
-        write_lint_text(rt, text.as_str())?;
-        return Ok(0);
+    match command.try_get_matches_from(words.as_slice()) {
+        Ok(matches) => lint_as_asked(rt, &matches),
+        Err(error) => refuse_lint_arguments(rt, error),
     }
-    lint(rt, &matches)
 }
 
 fn main(rt: HostRuntime) -> ExitCode {

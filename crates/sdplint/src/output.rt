@@ -49,6 +49,22 @@ pub(crate) struct Output {
     values: Vec<Value>,
 }
 
+impl OutputCounts {
+    /// The line of the counts, which ends a text.
+    fn line(self, alloc: Global) -> Result<String, AllocError> {
+        let errors = output_count(alloc, self.errors, "error")?;
+        let warnings = output_count(alloc, self.warnings, "warning")?;
+        let notes = output_count(alloc, self.notes, "note")?;
+        format!(in alloc; "{errors}, {warnings}, {notes}\n")
+    }
+
+    /// The text with the line of the counts behind it.
+    fn end(self, alloc: Global, mut text: String) -> Result<String, AllocError> {
+        text.push_str(self.line(alloc)?.as_str())?;
+        Ok(text)
+    }
+}
+
 /// The severity of a word of `--level`.
 fn output_level(word: &str) -> Severity {
     match word {
@@ -161,25 +177,20 @@ impl Output {
             format,
             level: _,
             counts,
-            mut text,
+            text,
             values,
         } = self;
         match format {
-            OutputFormat::Text | OutputFormat::Coloured => {
-                let errors = output_count(alloc, counts.errors, "error")?;
-                let warnings = output_count(alloc, counts.warnings, "warning")?;
-                let notes = output_count(alloc, counts.notes, "note")?;
-                writeln!(text, "{errors}, {warnings}, {notes}")?;
-            }
-            OutputFormat::Json => {
-                let list = Value::Array(values).to_string(alloc)?;
-                writeln!(text, "{list}")?;
-            }
-            OutputFormat::Sarif => {
-                let log = sarif_log(alloc, values)?.to_string(alloc)?;
-                writeln!(text, "{log}")?;
-            }
+            OutputFormat::Text | OutputFormat::Coloured => counts.end(alloc, text),
+            OutputFormat::Json => output_json_line(alloc, &Value::Array(values)),
+            OutputFormat::Sarif => output_json_line(alloc, &sarif_log(alloc, values)?),
         }
-        Ok(text)
     }
+}
+
+/// A value of JSON on a line.
+fn output_json_line(alloc: Global, value: &Value) -> Result<String, AllocError> {
+    let mut line = value.to_string(alloc)?;
+    line.push('\n')?;
+    Ok(line)
 }

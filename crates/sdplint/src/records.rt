@@ -22,26 +22,30 @@ fn sarif_uri(alloc: Global, file: &str) -> Result<String, AllocError> {
     Ok(uri)
 }
 
+/// Where a finding stands (section 3.29).
+fn sarif_location(alloc: Global, file: &str, finding: &Finding) -> Result<Value, AllocError> {
+    let (line, column) = (finding.line as u64, finding.column as u64);
+    let uri = sarif_uri(alloc, file)?;
+    json!(in alloc; {
+        "artifactLocation": {"uri": uri},
+        "region": {"startLine": line, "startColumn": column}
+    })
+}
+
 /// A finding as a result of SARIF (section 3.27).
 pub(crate) fn sarif_result(
     alloc: Global,
     file: &str,
     finding: &Finding,
 ) -> Result<Value, AllocError> {
-    let (line, column) = (finding.line as u64, finding.column as u64);
     let level = finding.code.severity().word();
     let (code, message) = (finding.code.entry().name, finding.sentence.as_str());
-    let uri = sarif_uri(alloc, file)?;
+    let location = sarif_location(alloc, file, finding)?;
     json!(in alloc; {
         "ruleId": code,
         "level": level,
         "message": {"text": message},
-        "locations": [{
-            "physicalLocation": {
-                "artifactLocation": {"uri": uri},
-                "region": {"startLine": line, "startColumn": column}
-            }
-        }]
+        "locations": [{"physicalLocation": location}]
     })
 }
 
