@@ -1,3 +1,0 @@
-module zaxmonth
-
-go 1.19

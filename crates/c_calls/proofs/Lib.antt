@@ -1,4 +1,0 @@
-pub mod LineTextsPassed
-pub mod LineTextsRid
-pub mod OfferCallsFilled
-pub mod SaidPutting

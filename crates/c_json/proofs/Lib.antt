@@ -1,2 +1,0 @@
-pub mod DescriptionWritten
-pub mod JsonWriterLaws

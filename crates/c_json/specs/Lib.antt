@@ -1,2 +1,0 @@
-pub mod Description
-pub mod JsonWriter

@@ -1,9 +1,0 @@
-pub mod ConfigHandleAsBox
-pub mod ExchangeHandleAsBox
-pub mod PartsCrossing
-pub mod PartsFullness
-pub mod PartsSteps
-pub mod ReadingRefusals
-pub mod SessionHandleAsBox
-pub mod SideListed
-pub mod SourceGroupCounting

@@ -1,9 +1,0 @@
-use Rattle.exchange.proofs.Common.{arith, common_steps, map_more}
-use Rattle.exchange.proofs.answer.rows.answers_under.Goals as goal
-use Rattle.exchange.specs.answer.Rows.{answer_under}
-
-pub loop-pt-preserved : goal.loop-pt-preserved
-loop-pt-preserved c =
-    let more = map_more (answer_under c.args.own.now c.args.section.now c.args.offered.now) c.args.listed.now c.loop-pt.pt-index
-    c.pt-item.result c.loop-pt-test.true c.pt-item.is in
-    grind (arith, common_steps, more)

@@ -1,7 +1,0 @@
-pub mod FitsLaws
-pub mod FreshNamesLaws
-pub mod OfferFollows
-pub mod OfferNameLaws
-pub mod OfferRuleLaws
-pub mod OwnNameLaws
-pub mod RuleLaws

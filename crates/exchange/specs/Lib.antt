@@ -1,5 +1,0 @@
-pub mod Prelude
-pub mod answer
-pub mod offer
-pub mod section
-pub mod state

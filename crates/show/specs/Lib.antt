@@ -1,4 +1,0 @@
-pub mod Faults
-pub mod NegotiationLines
-pub mod RowLines
-pub mod Run

@@ -1,3 +1,0 @@
-pub mod CodecLookup
-pub mod CodecNames
-pub mod CodecSpecStatic

@@ -1,5 +1,0 @@
-pub mod Prelude
-pub mod codec
-pub mod format
-pub mod round
-pub mod row

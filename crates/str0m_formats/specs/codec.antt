@@ -1,2 +1,0 @@
-pub mod Codec
-pub mod CodecSpec

@@ -1,9 +1,0 @@
-use Rattle.str0m_sdp.proofs.Common.{ap, filter_map, ◌∙◌}
-use Rattle.str0m_sdp.proofs.section.media_line.MediaLine.fingerprint.Goals as goal
-use Rattle.str0m_sdp.proofs.session.PreferredFingerprintLaws.{preferred_copied}
-use Rattle.str0m_sdp.specs.session.PreferredFingerprint.{preferred}
-use Rattle.str0m_sdp.specs.session.Transport.{media_fingerprint}
-
-pub returns : goal.returns
-returns c = preferred_copied c.copied_fingerprint.result _ _ c.copied_fingerprint.ensures
-    (c.preferred.ensures ∙ ap (λ attrs. preferred (filter_map media_fingerprint attrs)) c.as_slice.ensures)

@@ -1,8 +1,0 @@
-use Rattle.str0m_sdp.proofs.Common.{rules, tests, YieldsList-from_slice}
-use Rattle.str0m_sdp.proofs.section.SectionAccessorsFinding.{first_from_find_map}
-use Rattle.str0m_sdp.proofs.section.media_line.MediaLine.sctp_init.Goals as goal
-use Rattle.str0m_sdp.specs.section.SectionAccessors.{sctp_init_of}
-
-pub returns : goal.returns
-returns c = first_from_find_map (λ text. text.now) sctp_init_of (YieldsList-from_slice c.args.self.now.attrs cc)
-    (λ x r q k. search (rules, tests)) c.find_map.result c.find_map.ensures.runs

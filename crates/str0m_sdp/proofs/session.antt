@@ -1,9 +1,0 @@
-pub mod CandidateEqual
-pub mod CandidateKeyLaws
-pub mod DistinctCandidatesLaws
-pub mod FaultLaws
-pub mod OrderedMids
-pub mod PreferredFingerprintLaws
-pub mod SessionFaultLaws
-pub mod SessionLaws
-pub mod SessionVersion

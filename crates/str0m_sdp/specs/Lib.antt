@@ -1,6 +1,0 @@
-pub mod Common
-pub mod Prelude
-pub mod attribute
-pub mod form
-pub mod section
-pub mod session

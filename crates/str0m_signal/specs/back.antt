@@ -1,3 +1,0 @@
-pub mod ReadBack
-pub mod Writable
-pub mod WritableAgain

@@ -1,3 +1,0 @@
-pub mod Answer
-pub mod LaterRound
-pub mod OwnSection
