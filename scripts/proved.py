@@ -68,6 +68,11 @@ def mark(name):
     (folder() / f"{name}.proved").touch()
 
 
+def count():
+    """How many crates are proved in the copy."""
+    return len(list(folder().glob("*.proved")))
+
+
 def end(is_proved):
     """Says in the copy that the gate has ended, and whether it has passed over these sources."""
     folder().mkdir(mode=0o700, exist_ok=True)
