@@ -62,8 +62,8 @@ fn command_that_writes<'a>(alloc: Global) -> Result<Command<'a>, AllocError> {
         .value_parser(LEVELS.as_slice()))
 }
 
-/// The program with the options of what is written, and those of rounds. What waits is dropped on each way out, and proved there: an
-/// option waits for the program, and no program for an option.
+/// The program with the options of what is written, and those of rounds. What may fail for want of memory is made first, so that it leaves
+/// no half-made program to drop.
 fn command_with_rounds<'a>(alloc: Global) -> Result<Command<'a>, AllocError> {
     let against_default = command_against_default(alloc)?;
     command_that_writes(alloc)?

@@ -38,17 +38,6 @@ struct OutputCounts {
     notes: usize,
 }
 
-/// What is written of all files.
-#[derive(Drop)]
-pub(crate) struct Output {
-    alloc: Global,
-    format: OutputFormat,
-    level: Severity,
-    counts: OutputCounts,
-    text: String,
-    values: Vec<Value>,
-}
-
 impl OutputCounts {
     /// The line of the counts, which ends a text.
     fn line(self, alloc: Global) -> Result<String, AllocError> {
@@ -63,6 +52,17 @@ impl OutputCounts {
         text.push_str(self.line(alloc)?.as_str())?;
         Ok(text)
     }
+}
+
+/// What is written of all files.
+#[derive(Drop)]
+pub(crate) struct Output {
+    alloc: Global,
+    format: OutputFormat,
+    level: Severity,
+    counts: OutputCounts,
+    text: String,
+    values: Vec<Value>,
 }
 
 /// The severity of a word of `--level`.
