@@ -112,17 +112,13 @@ fn short_number(digits: &[u8]) -> Option<u64>
 }
 
 /// The number that std reads in decimal, where it is at most `limit`. Most are digits alone, which are read in place.
-fn number(text: &str, limit: u32) -> Option<u32>
+fn number(text: &str, limit: u64) -> Option<u64>
     ensures value { result ≡ num limit text.now }
     ensures within { IfSome result (λ n. n ≤ limit) }
 {
     match short_number(text.as_bytes()) {
-        Some(number) => if number <= u64::from(limit) {
-            Some(number as u32)
-        } else {
-            None
-        },
-        None => match text.parse::<u32>() {
+        Some(number) => if number <= limit { Some(number) } else { None },
+        None => match text.parse::<u64>() {
             Ok(number) if number <= limit => Some(number),
             _ => None,
         },
@@ -134,7 +130,7 @@ fn number(text: &str, limit: u32) -> Option<u32>
 pub fn num_u8(text: &str, limit: u8) -> Option<u8>
     ensures { result ≡ num limit text.now }
 {
-    match number(text, u32::from(limit)) {
+    match number(text, u64::from(limit)) {
         Some(number) => Some(number as u8),
         None => None,
     }
@@ -155,7 +151,7 @@ pub fn num_u8_or(text: Option<&str>, default: u8) -> Option<u8>
 pub fn num_u16(text: &str) -> Option<u16>
     ensures { result ≡ num 65535 text.now }
 {
-    match number(text, u32::from(u16::MAX)) {
+    match number(text, u64::from(u16::MAX)) {
         Some(number) => Some(number as u16),
         None => None,
     }
@@ -165,7 +161,17 @@ pub fn num_u16(text: &str) -> Option<u16>
 pub fn num_u32(text: &str) -> Option<u32>
     ensures { result ≡ num 4294967295 text.now }
 {
-    number(text, u32::MAX)
+    match number(text, u64::from(u32::MAX)) {
+        Some(number) => Some(number as u32),
+        None => None,
+    }
+}
+
+/// The number of 64 bits that std reads in decimal; `None` where it reads none.
+pub fn num_u64(text: &str) -> Option<u64>
+    ensures { result ≡ num 18446744073709551615 text.now }
+{
+    number(text, u64::MAX)
 }
 
 /// The byte that std reads in the text in hexadecimal: a leading plus and leading zeros are allowed. `None` where it reads

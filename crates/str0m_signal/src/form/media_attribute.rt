@@ -17,11 +17,11 @@ use crate::form::rtp_map::rtp_map;
 use crate::form::simulcast::simulcast_line;
 use crate::form::sources::{rtcp_fb, ssrc, ssrc_group};
 use crate::line::attributes::{Attribute, attribute_run, taken, taken_attribute_result};
-use crate::line::fields::{both_texts, kept_field, num_u64, role_field, short_field};
+use crate::line::fields::{both_texts, kept_field, role_field, short_field};
 use std::alloc::{AllocError, Global};
 use str0m_sdp::{MediaAttribute, Msid, label};
 use str0m_values::candidate_text::candidate;
-use str0m_values::cuts::{num_u16, strip};
+use str0m_values::cuts::{num_u16, num_u64, strip};
 use str0m_values::{Boxed, Items, Name, Text};
 
 /// The attributes that are a label and a text.

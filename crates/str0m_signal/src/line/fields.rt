@@ -1,7 +1,7 @@
 //! What fields of several lines share.
 
 ghost use Rattle.std.specs.Prelude.{◌≡◌, IfOk, option_map};
-ghost use Rattle.str0m_signal.specs.Prelude.{text_beginning_of, code, num, parts};
+ghost use Rattle.str0m_signal.specs.Prelude.{text_beginning_of, code, parts};
 ghost use Rattle.str0m_signal.specs.form.FormReading.{behind, text_read, two_read};
 ghost use Rattle.str0m_signal.specs.form.FormTable.{two_texts};
 ghost use Rattle.str0m_signal.specs.form.MediaAttributeReading.{role_read};
@@ -60,13 +60,6 @@ pub(crate) fn both_texts<'a>(text: &'a str, label: &str) -> Option<(&'a str, &'a
     ensures { parts result ≡ behind label.now two_texts.read text.now }
 {
     two_texts(strip(text, label)?, Separator::Space)
-}
-
-/// The number of 64 bits that std reads in decimal.
-pub(crate) fn num_u64(text: &str) -> Option<u64>
-    ensures { result ≡ num 18446744073709551615 text.now }
-{
-    text.parse::<u64>().ok()
 }
 
 /// A name, as far as it is kept.

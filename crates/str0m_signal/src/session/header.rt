@@ -9,12 +9,12 @@ ghost use Rattle.str0m_signal.specs.session.Header.{IsHeaderInfo, IsHeader};
 ghost use Rattle.str0m_signal.specs.session.HeaderReading.{exact_read, origin_read, info_read, opening_read};
 ghost use Rattle.str0m_signal.specs.session.Section.{IsSessionField};
 
-use crate::line::fields::{field, num_u64, read_field};
+use crate::line::fields::{field, read_field};
 use crate::line::lines::clean_line;
 use crate::session::bandwidth::take_bandwidth;
 use std::alloc::{AllocError, Global};
 use str0m_sdp::Bandwidth;
-use str0m_values::cuts::{cut, strip};
+use str0m_values::cuts::{cut, num_u64, strip};
 use str0m_values::{Separator, SessionId};
 
 /// What a header says.
