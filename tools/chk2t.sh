@@ -1,0 +1,14 @@
+#!/bin/bash
+# chk2.sh TREE CRATE JOBS --only FN..: rattle check of a crate over what gate2 has proved
+T=$1; C=$2; J=$3; shift 3
+P=${PP:-/work/tmpb/sdp-proved-0-69484a50208b}
+ext=""; L=""
+deps=$(grep "^$C\b" $T/crates.txt | sed 's/[^:]*://')
+for d in $deps; do
+  if [ -d $P/crates/$d/out/rlib/$d.rlib ]; then ext="$ext --extern $d=$P/crates/$d/out/rlib/$d.rlib"
+  else ext="$ext --extern $d=/opt/rattle/rlibs/$d.rlib"; fi
+done
+for d in str0m_values str0m_formats str0m_sdp str0m_signal exchange lint show format_cases uses c_parts c_json; do [ -d $P/crates/$d/out/rlib ] && L="$L -L dependency=$P/crates/$d/out/rlib"; done
+K=/work/t/kept2-$C; mkdir -p $K
+cd /work/t/cct
+exec /opt/rattle/bin/rattle check --crate-name $C src/lib.rt --extern std=/opt/rattle/rlibs/std.rlib $ext -L dependency=/opt/rattle/rlibs $L --antt-project /opt/rattle/rattle/logic/antt-project.json --logic-built /opt/rattle/logic_built --incremental $K --jobs $J "$@"

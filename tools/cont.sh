@@ -1,0 +1,3 @@
+# cont.sh N : N copies side by side of a proof from nothing
+cd /work/main/crates/str0m_values
+for i in $(seq 1 $1); do ( rm -rf /work/t/ck$i; mkdir -p /work/t/ck$i; /usr/bin/time -f "%U %S %e" /opt/rattle/bin/rattle check --crate-name str0m_values src/lib.rt --extern std=/opt/rattle/rlibs/std.rlib --extern arrayvec=/opt/rattle/rlibs/arrayvec.rlib --extern thiserror=/opt/rattle/rlibs/thiserror.rlib -L dependency=/opt/rattle/rlibs --antt-project /opt/rattle/rattle/logic/antt-project.json --logic-built /opt/rattle/logic_built --incremental /work/t/ck$i --links str0m_values= --jobs 1 --only h264 > /work/t/ck$i.log 2> /work/t/ck$i.err; tail -1 /work/t/ck$i.err; rm -rf /work/t/ck$i ) & done; wait

@@ -1,0 +1,3 @@
+cd /work/t/gate/crates/str0m_values
+rm -rf /work/t/gk; mkdir -p /work/t/gk
+/usr/bin/time -f "%U user %S sys %e clock" /opt/rattle/bin/rattle check --crate-name str0m_values src/lib.rt --extern std=/opt/rattle/rlibs/std.rlib --extern arrayvec=/opt/rattle/rlibs/arrayvec.rlib --extern thiserror=/opt/rattle/rlibs/thiserror.rlib -L dependency=/opt/rattle/rlibs --antt-project /opt/rattle/rattle/logic/antt-project.json --logic-built /opt/rattle/logic_built --incremental /work/t/gk --links str0m_values= --jobs 1 --only h264 --only candidate --only text > /work/t/gp.log 2> /work/t/gp.err; tail -1 /work/t/gp.log; tail -1 /work/t/gp.err

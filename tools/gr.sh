@@ -1,0 +1,3 @@
+cd /work/main/crates/str0m_values
+rm -rf /work/t/gk$1; mkdir -p /work/t/gk$1
+/usr/bin/time -f "$1 %U %S %e %M %R" /opt/rattle/bin/rattle check --crate-name str0m_values src/lib.rt --extern std=/opt/rattle/rlibs/std.rlib --extern arrayvec=/opt/rattle/rlibs/arrayvec.rlib --extern thiserror=/opt/rattle/rlibs/thiserror.rlib -L dependency=/opt/rattle/rlibs --antt-project /opt/rattle/rattle/logic/antt-project.json --logic-built /opt/rattle/logic_built --incremental /work/t/gk$1 --links str0m_values= --jobs 1 --only h264 > /work/t/gp$1.log 2> /work/t/gp$1.err; tail -1 /work/t/gp$1.err >> /work/t/gr.out

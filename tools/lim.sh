@@ -1,0 +1,1 @@
+for r in 1 2 3; do echo "run $r $(date +%T)"; for f in chromium-all-answer chromium-simulcast-offer firefox-audio-video-offer firefox-audio-video-answer chromium-audio-offer chromium-video-answer firefox-audio-data-channel-offer chromium-data-channel-offer; do echo "$f $(taskset -c 0 python3 /work/tools/limits.py ./driver /work/main/examples/$f.sdp ${1:-8} ${2:-5})"; done; done
