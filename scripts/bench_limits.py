@@ -26,7 +26,7 @@ class Asked:
     limit: float
 
     def __str__(self):
-        digits = 2 if isinstance(self.found, float) else 0
+        digits = 3 if isinstance(self.found, float) else 0
         return f"{self.found:.{digits}f} of {self.limit:.{digits}f}"
 
 
@@ -38,7 +38,7 @@ class Example:
     turns: list = field(default_factory=list)
 
     def others(self):
-        """What the other library took of it in each turn."""
+        """What the other library took in each turn."""
         return [it[OTHER].nanoseconds for it in self.turns]
 
     def times(self, call):
@@ -46,21 +46,19 @@ class Example:
         before = ("rows", "defaults") if call == "rounds" else ()
         return [it[call].nanoseconds - sum(it[earlier].nanoseconds for earlier in before) for it in self.turns]
 
-    def beside(self, others):
-        """How many times as long as so many times, one a turn, the other library takes of it."""
-        return statistics.median(own / of for own, of in zip(self.others(), others))
-
     def asked(self, whole):
-        """All that is asked of it, beside the whole example."""
-        part, scale, first = self.size / whole.size, OF_OTHER * self.beside(whole.others()), self.turns[0]["read"]
-        asked = [Asked(call, scale * self.of_other(call), limit * part) for call, limit in LIMITS.items()]
+        """All that is asked of it. Its times are told by the other library's of the same text, and that one's by its time of the whole example."""
+        part, scale = self.size / whole.size, OF_OTHER * middle_ratio(self.others(), whole.others())
+        asked = [Asked(call, scale * middle_ratio(self.times(call), self.others()), limit * part) for call, limit in LIMITS.items()]
+        first = self.turns[0]["read"]
         asked.append(Asked("held", first.held / self.size, HELD))
         # (the last allocation is the driver's own)
         return asked + [Asked("allocations", first.allocations - 1, ALLOCATIONS)] * (self is whole)
 
-    def of_other(self, call):
-        """What a call takes of what the other library takes."""
-        return statistics.median(own / of for own, of in zip(self.times(call), self.others()))
+
+def middle_ratio(times, others):
+    """The middle of what times take of others, turn by turn."""
+    return statistics.median(time / other for time, other in zip(times, others))
 
 
 def timed(driver, files, count):
