@@ -88,7 +88,7 @@ pub use Rattle.str0m_values.proofs.CutLaws.{strip_at, strip_found, cut_before_la
 pub use Rattle.str0m_values.proofs.CutsBothWays.{cuts_bind_some, cuts_if_some, cuts_or_some, cuts_reads_first, cuts_some_is, IsSoundCut}
 pub use Rattle.str0m_values.proofs.CutsBothWays.{sound_cut_or, cuts_reads_either, Reads}
 pub use Rattle.str0m_values.proofs.CutsBothWays.{cuts_one_value, cuts_none_reads, cuts_reads_none}
-pub use Rattle.str0m_values.proofs.CutsNumLaws.{digits_lack, num_found, num_reads, number_lacks, cuts_parsed_whole, num_rest_true}
+pub use Rattle.str0m_values.proofs.CutsNumLaws.{digits_lack, num_found, num_reads, number_lacks, num_rest_true}
 pub use Rattle.str0m_values.proofs.CutsNumLaws.{cuts_when_some}
 pub use Rattle.str0m_values.proofs.CutsNumLaws.{num_when_true}
 pub use Rattle.str0m_values.proofs.FingerprintPairs.{hash_glyph_value}

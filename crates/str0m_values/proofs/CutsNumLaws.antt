@@ -1,8 +1,8 @@
 -- What the reading of a number gives.
-use Rattle.str0m_values.proofs.Common.{◌≡◌, ℕ, ◌<◌, ◌≤◌, ◌+◌, ◌^◌, Bool, true, List, [], ◌∷◌, length, Some, None, Result, Ok, Err, refl}
+use Rattle.str0m_values.proofs.Common.{◌≡◌, ℕ, ◌<◌, ◌≤◌, ◌^◌, Bool, true, List, [], ◌∷◌, length, Some, None, refl}
 use Rattle.str0m_values.proofs.Common.{sym, arith, IsNumeral, AllDigits, digits_value, without_leading_plus, ltb-true, lt-ltb, le-leb}
-use Rattle.str0m_values.proofs.Common.{leb-true, and_parts, numerals_by_value, ◌≢◌, digit_value, eq-eqb, ne_eqb, cases_eq, result_ok}
-use Rattle.str0m_values.proofs.Common.{all_ascii_digits, ParsesUnsigned, and_from, IsNumeralModel, tells_all_ascii_digits}
+use Rattle.str0m_values.proofs.Common.{leb-true, and_parts, numerals_by_value, ◌≢◌, digit_value, eq-eqb, ne_eqb, cases_eq}
+use Rattle.str0m_values.proofs.Common.{all_ascii_digits, and_from, IsNumeralModel, tells_all_ascii_digits}
 use Rattle.str0m_values.specs.Cuts.{IsTheOnly, is_rest, is_numeral, num, when}
 use Rattle.str0m_values.specs.CutsParts.{IsNum, Lacks, IsRest}
 
@@ -45,11 +45,6 @@ pub cuts_parsed_err : (k limit : ℕ) (text : List ℕ)
     → ((IsNumeral 10 (without_leading_plus text) × (digits_value 10 (without_leading_plus text) < 2 ^ k)) → ⊥) → limit < 2 ^ k
     → None ≡ num limit text
 cuts_parsed_err k limit text h lt = sym (num_none limit text (λ n is. h (is.numeral, omega (arith, is.fits, is.value))))
-
-pub cuts_parsed_whole : {E : Type 0} (k limit : ℕ) (text : List ℕ) (r : Result ℕ E) → ParsesUnsigned k 10 text r → limit + 1 ≡ 2 ^ k
-    → result_ok r ≡ num limit text
-cuts_parsed_whole k limit text (Ok x) h whole = cuts_parsed_ok k limit text x h (omega (arith, h.0.1, h.1))
-cuts_parsed_whole k limit text (Err e) h whole = cuts_parsed_err k limit text h (omega arith)
 
 -- ---- what a number lacks
 
