@@ -1,3 +1,4 @@
+pub mod HeaderFirstLetters
 pub mod HeaderLaws
 pub mod LockedPicked
 pub mod NegotiationLaws

@@ -29,9 +29,14 @@ pub(crate) fn bandwidth(alloc: Global, line: &str) -> Result<Option<Bandwidth>, 
     Ok(Some(Bandwidth { typ, val }))
 }
 
+/// The bandwidth of the first line, and what follows that line. Most texts go on with another line, whose end isn't looked for.
+#[tactic(auto, using(crate::proofs::session::HeaderFirstLetters::no_bandwidth_there))]
 fn read_bandwidth(alloc: Global, text: &str) -> Result<Option<(Bandwidth, &str)>, AllocError>
     ensures { IfOk result (λ found. option_map lines_left found ≡ line_read bandwidth_read (lines_of text.now)) }
 {
+    if strip(text, "b").is_none() {
+        return Ok(None);
+    }
     let Some((line, rest)) = clean_line(text) else {
         return Ok(None);
     };

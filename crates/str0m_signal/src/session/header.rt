@@ -8,6 +8,7 @@ ghost use Rattle.str0m_signal.specs.line.LinesReading.{lines_of, line_read, line
 ghost use Rattle.str0m_signal.specs.session.Header.{IsHeaderInfo, IsHeader};
 ghost use Rattle.str0m_signal.specs.session.HeaderReading.{exact_read, origin_read, info_read, opening_read};
 ghost use Rattle.str0m_signal.specs.session.Section.{IsSessionField};
+ghost use Rattle.str0m_signal.specs.session.SectionReading.{field_read};
 
 use crate::line::fields::{field, read_field};
 use crate::line::lines::clean_line;
@@ -97,9 +98,14 @@ fn header_info(line: &str) -> Option<&str>
     field(line, "k=")
 }
 
+/// The information of the first line, and what follows that line. Most headers go on with their times, whose line's end isn't looked for.
+#[tactic(auto, using(crate::proofs::session::HeaderFirstLetters::no_info_there))]
 fn read_info(text: &str) -> Option<(&str, &str)>
     ensures { option_map both_lines_left result ≡ line_read info_read (lines_of text.now) }
 {
+    if strip(text, "t").is_some() {
+        return None;
+    }
     let (line, rest) = clean_line(text)?;
     Some((header_info(line)?, rest))
 }
@@ -114,11 +120,22 @@ fn skip_header_infos(text: &str) -> &str
     rest
 }
 
+/// The repeat times of the first line, and what follows that line. Few headers have some: no other line's end is looked for.
+#[tactic(auto, using(crate::proofs::session::HeaderFirstLetters::no_repeat_there))]
+fn read_repeat(text: &str) -> Option<(&str, &str)>
+    ensures { option_map both_lines_left result ≡ line_read (field_read (codes "r=")) (lines_of text.now) }
+{
+    if strip(text, "r").is_none() {
+        return None;
+    }
+    read_field(text, "r=")
+}
+
 fn skip_header_repeats(text: &str) -> &str
     ensures { (repeats : List (List ℕ)) × Run (OneLine (IsSessionField (codes "r="))) (lines_of text.now) repeats (lines_of result.now) }
 {
     let mut rest = text;
-    while let Some((_, after)) = read_field(rest, "r=") {
+    while let Some((_, after)) = read_repeat(rest) {
         rest = after;
     }
     rest
