@@ -52,7 +52,9 @@ impl ShortText {
         ensures fits { length self.now ≤ 16 }
         ensures utf8 { IsUtf8 self.now }
     {
-        str::from_utf8(&self.bytes[..self.len]).unwrap()
+        let text = &self.bytes[..self.len];
+        // SAFETY: that it is UTF-8 is a part of the invariant.
+        unsafe { str::from_utf8_unchecked(text) }
     }
 }
 
