@@ -67,16 +67,47 @@ impl fmt::Display for IpAddr {
 
     fn fmt<W: fmt::Write>(&self, f: &mut fmt::Formatter<W>) -> fmt::Result {
         match *self {
-            IpAddr::V4(octets) => {
-                let v4 = net::Ipv4Addr::from_octets(octets);
-                write!(f, "{v4}")
-            }
+            IpAddr::V4(octets) => Octets(octets).fmt(f),
             IpAddr::V6(groups) => {
                 let v6 = net::Ipv6Addr::from_segments(groups);
                 let groups = v6.hex_groups();
                 write!(f, "{groups}")
             }
         }
+    }
+}
+
+/// The octets of a V4 address in decimal, parted by dots.
+#[derive(Drop)]
+struct Octets([u8; 4]);
+
+impl fmt::Display for Octets {
+    ghost use Rattle.str0m_values.specs.Address.{v4_text};
+
+    ghost output = { λ octets. Some (v4_text octets.0) };
+
+    // Part by part, since std's Display of an address asks the options of the formatter anew for each.
+    fn fmt<W: fmt::Write>(&self, f: &mut fmt::Formatter<W>) -> fmt::Result {
+        let [first, second, third, fourth] = self.0;
+        f.write(first)?;
+        FurtherOctet(second).fmt(f)?;
+        FurtherOctet(third).fmt(f)?;
+        FurtherOctet(fourth).fmt(f)
+    }
+}
+
+/// An octet in decimal, after its dot.
+#[derive(Drop)]
+struct FurtherOctet(u8);
+
+impl fmt::Display for FurtherOctet {
+    ghost use Rattle.std.specs.Prelude.{◌++◌, codes, decimal};
+
+    ghost output = { λ octet. Some (codes "." ++ decimal octet.0) };
+
+    fn fmt<W: fmt::Write>(&self, f: &mut fmt::Formatter<W>) -> fmt::Result {
+        f.write_str(".")?;
+        f.write(self.0)
     }
 }
 

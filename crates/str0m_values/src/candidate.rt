@@ -198,10 +198,11 @@ impl fmt::Display for CandidateOpenedBy {
     ghost output = { λ it. Some (optional_text candidate_label.TCP_TYPE.now tcp_type_text it.0) };
 
     fn fmt<W: fmt::Write>(&self, f: &mut fmt::Formatter<W>) -> fmt::Result {
-        match self.0 {
-            Some(tcptype) => write!(f, "{}{tcptype}", candidate_label::TCP_TYPE),
-            None => Ok(()),
-        }
+        let Some(tcptype) = self.0 else {
+            return Ok(());
+        };
+        f.write_str(candidate_label::TCP_TYPE)?;
+        tcptype.fmt(f)
     }
 }
 
@@ -216,10 +217,11 @@ impl<'a> fmt::Display for CandidateFragment<'a> {
     ghost output = { λ it. Some (optional_text candidate_label.UFRAG.now (λ t. t) it.0.now) };
 
     fn fmt<W: fmt::Write>(&self, f: &mut fmt::Formatter<W>) -> fmt::Result {
-        match self.0 {
-            Some(ufrag) => write!(f, "{}{ufrag}", candidate_label::UFRAG),
-            None => Ok(()),
-        }
+        let Some(ufrag) = self.0 else {
+            return Ok(());
+        };
+        f.write_str(candidate_label::UFRAG)?;
+        ufrag.fmt(f)
     }
 }
 

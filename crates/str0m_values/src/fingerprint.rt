@@ -211,9 +211,9 @@ impl fmt::Display for Fingerprint {
     ghost output = { λ f. Some (fingerprint_text f) };
 
     fn fmt<W: fmt::Write>(&self, f: &mut fmt::Formatter<W>) -> fmt::Result {
-        let name = self.hash_func.as_str();
-        let bytes = FingerprintFmt(self.bytes.as_slice());
-        write!(f, "{name} {bytes}")
+        f.write_str(self.hash_func.as_str())?;
+        f.write_str(" ")?;
+        FingerprintFmt(self.bytes.as_slice()).fmt(f)
     }
 }
 

@@ -7,4 +7,4 @@ pub returns-in-V6-clause-writes : goal.returns-in-V6-clause-writes
 returns-in-V6-clause-writes g c = λ plain ok.
     let groups = ap ipv6_segments c.hex_groups-groups.ensures ∙ c.from_segments-v6.ensures in
     let text = ap hex_groups_text groups ∙ same_v6 c.in-V6.groups ∙ ap ip_text (sym c.in-V6.is) in
-    has_written_of_eq _ _ _ _ _ text (c.write-in-V6.ensures.writes plain ok)
+    has_written_of_eq _ _ _ _ _ text (c.write.ensures.writes plain ok)
