@@ -15,7 +15,7 @@ use crate::attribute::setup::Setup;
 use crate::attribute::simulcast::{RestrictionId, Simulcast, SimulcastLine};
 use crate::attribute::source::write_source;
 use crate::attribute::ssrc_group::SsrcGroupLine;
-use crate::form::printed::{Printed, write_alone, write_labelled};
+use crate::form::printed::{Printed, write_alone, write_labelled, write_value};
 use crate::form::word::Word;
 use crate::label;
 use std::alloc::AllocError;
@@ -294,10 +294,7 @@ impl fmt::Display for SessionAttribute {
             } => MsidSemanticLine { semantic, ids }.fmt(f),
             SessionAttribute::Fingerprint(hash) => write_labelled(f, label::FINGERPRINT, hash),
             SessionAttribute::Setup(setup) => write_labelled(f, label::SETUP, setup),
-            SessionAttribute::Candidate(found) => {
-                let found = found.get();
-                write!(f, "a={found}\r\n")
-            }
+            SessionAttribute::Candidate(found) => write_value(f, found.get()),
             _ => write_session_text(f, self),
         }
     }
@@ -367,10 +364,7 @@ fn write_media_value<W: fmt::Write>(
         MediaAttribute::SctpPort(port) => write_labelled(f, label::SCTP_PORT, port),
         MediaAttribute::MaxMessageSize(size) => write_labelled(f, label::MAX_MESSAGE_SIZE, size),
         MediaAttribute::Msid(msid) => write_labelled(f, label::MSID, msid),
-        MediaAttribute::Candidate(candidate) => {
-            let candidate = candidate.get();
-            write!(f, "a={candidate}\r\n")
-        }
+        MediaAttribute::Candidate(candidate) => write_value(f, candidate.get()),
         _ => write_media_text(f, attribute),
     }
 }

@@ -71,8 +71,9 @@ impl fmt::Display for Origin {
     ghost output = { λ origin. Some (origin_line origin.0) };
 
     fn fmt<W: fmt::Write>(&self, f: &mut fmt::Formatter<W>) -> fmt::Result {
-        let id = self.0;
-        write!(f, "o=str0m-0.25.0 {id} 2 IN IP4 0.0.0.0\r\n")
+        f.write_str("o=str0m-0.25.0 ")?;
+        self.0.fmt(f)?;
+        f.write_str(" 2 IN IP4 0.0.0.0\r\n")
     }
 }
 
@@ -117,11 +118,12 @@ impl<'a, O: Printed> fmt::Display for SessionLines<'a, O> {
 
     #[inline(always)]
     fn fmt<W: fmt::Write>(&self, f: &mut fmt::Formatter<W>) -> fmt::Result {
-        let bw = BandwidthLine(&self.session.bw);
-        let attrs = PrintedEach(self.session.attrs.as_slice());
         f.write_str("v=0\r\n")?;
         self.origin.fmt(f)?;
-        write!(f, "s=-\r\n{bw}t=0 0\r\n{attrs}")
+        f.write_str("s=-\r\n")?;
+        BandwidthLine(&self.session.bw).fmt(f)?;
+        f.write_str("t=0 0\r\n")?;
+        PrintedEach(self.session.attrs.as_slice()).fmt(f)
     }
 }
 
@@ -142,9 +144,8 @@ impl fmt::Display for Sdp {
     ghost output = { λ sdp. Some (sdp_text sdp) };
 
     fn fmt<W: fmt::Write>(&self, f: &mut fmt::Formatter<W>) -> fmt::Result {
-        let session = &self.session;
-        let media_lines = PrintedEach(self.media_lines.as_slice());
-        write!(f, "{session}{media_lines}")
+        self.session.fmt(f)?;
+        PrintedEach(self.media_lines.as_slice()).fmt(f)
     }
 }
 

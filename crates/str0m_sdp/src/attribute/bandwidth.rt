@@ -45,7 +45,7 @@ impl<'a> fmt::Display for BandwidthLine<'a> {
     fn fmt<W: fmt::Write>(&self, f: &mut fmt::Formatter<W>) -> fmt::Result {
         match self.0 {
             None => Ok(()),
-            Some(bw) => write!(f, "{bw}"),
+            Some(bw) => bw.fmt(f),
         }
     }
 }

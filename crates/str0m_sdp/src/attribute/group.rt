@@ -2,7 +2,7 @@
 ghost use Rattle.std.specs.Prelude.{Some};
 ghost use Rattle.str0m_sdp.specs.attribute.Group.{group_text, msid_semantic_text};
 
-use crate::form::printed::{PrintedLed, printed_spaced, write_paired};
+use crate::form::printed::{PrintedLed, printed_spaced, write_end, write_paired};
 use crate::label;
 use std::fmt;
 use str0m_values::{Items, Mid, Text};
@@ -18,12 +18,15 @@ impl<'a> fmt::Display for GroupLine<'a> {
     ghost output = { λ line. Some (group_text line.typ.now line.mids.now) };
 
     fn fmt<W: fmt::Write>(&self, f: &mut fmt::Formatter<W>) -> fmt::Result {
-        let typ = self.typ;
         let mids = PrintedLed {
             items: self.mids.as_slice(),
             lead: " ",
         };
-        write!(f, "a={}{typ}{mids}\r\n", label::GROUP)
+        f.write_str("a=")?;
+        f.write_str(label::GROUP)?;
+        self.typ.fmt(f)?;
+        mids.fmt(f)?;
+        write_end(f)
     }
 }
 

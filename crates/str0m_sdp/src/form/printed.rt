@@ -2,11 +2,11 @@
 ghost use Rattle.std.specs.Fmt.{WritesOnOk};
 ghost use Rattle.std.specs.List.{join_by};
 ghost use Rattle.std.specs.Prelude.{◌≡◌, ◌++◌, IsTrue, List, ℕ, Some, codes, refl, decimal, flat_map, length};
-ghost use Rattle.str0m_sdp.specs.Prelude.{fingerprint_text};
+ghost use Rattle.str0m_sdp.specs.Prelude.{candidate_text, fingerprint_text};
 ghost use Rattle.str0m_sdp.specs.form.Printed.{are_spaced_from, attribute_line, labelled_line, printed_line_end};
 
 use std::fmt;
-use str0m_values::{Fingerprint, Mid, Pt, Ssrc, Text};
+use str0m_values::{Candidate, Fingerprint, Mid, Pt, Ssrc, Text};
 
 /// What prints one text, whatever writes it: `text` says which.
 pub(crate) trait Printed: fmt::Display {
@@ -47,6 +47,12 @@ impl Printed for Text {
 
 impl Printed for Mid {
     ghost text = { λ mid. mid };
+
+    ghost prints = { λ _. refl };
+}
+
+impl Printed for Candidate {
+    ghost text = { candidate_text };
 
     ghost prints = { λ _. refl };
 }
@@ -190,7 +196,7 @@ impl<'a, A: Printed, B: Printed> Printed for PrintedPair<'a, A, B> {
     ghost prints = { λ _. refl };
 }
 
-/// Writes the end of a line. It and the next two aren't inlined: behind many `?` the compiler takes a write for a rare one, and makes
+/// Writes the end of a line. It and the next three aren't inlined: behind many `?` the compiler takes a write for a rare one, and makes
 /// it a call that copies byte by byte what here is written in place.
 #[inline(never)]
 pub(crate) fn write_end<W: fmt::Write>(f: &mut fmt::Formatter<W>) -> fmt::Result
@@ -206,6 +212,19 @@ pub(crate) fn write_alone<W: fmt::Write>(f: &mut fmt::Formatter<W>, text: &str) 
 {
     f.write_str("a=")?;
     f.write_str(text)?;
+    write_end(f)
+}
+
+/// Writes the `a=` line of a value alone, with its end.
+#[inline(never)]
+pub(crate) fn write_value<W: fmt::Write, T: Printed>(
+    f: &mut fmt::Formatter<W>,
+    content: &T,
+) -> fmt::Result
+    ensures { WritesOnOk W.write_str_gives f.old result (attribute_line (T.text content.now)) f.new }
+{
+    f.write_str("a=")?;
+    content.fmt(f)?;
     write_end(f)
 }
 
