@@ -1,4 +1,5 @@
 // Times calls on texts, in one process:   driver BATCHES CALL,CALL.. FILE..
+// Makes so many calls and times none, for a program that counts their instructions:   driver =CALLS CALL,CALL.. FILE..
 //
 // The first line says how many nanoseconds a step of a fixed loop takes. Behind it stands a line for each file and call: the
 // file, the call, nanoseconds, allocations, bytes held when the last of them was made, and the most bytes held at once; 'refused'
@@ -122,6 +123,12 @@ static double loop(void)
     return best;
 }
 
+// Makes so many calls, which aren't timed.
+static void make(const struct call *call, struct text text, uint32_t calls)
+{
+    kept = call->run(text.bytes, text.length, calls);
+}
+
 static void show(const char *path, const struct call *call, struct text text)
 {
     count_begin();
@@ -149,20 +156,28 @@ static int is_listed(const char *name, const char *list)
 int main(int count, char **words)
 {
     if (count < 3) {
-        fprintf(stderr, "usage: driver BATCHES CALL,CALL.. FILE..\n");
+        fprintf(stderr, "usage: driver BATCHES|=CALLS CALL,CALL.. FILE..\n");
         return 2;
     }
     // What is freed stays with the process. Else a text that is large enough for malloc to give its pages back each time takes
     // some times as long as a smaller one, since each page is asked of the system and filled with zeros again.
     mallopt(M_MMAP_MAX, 0);
     mallopt(M_TRIM_THRESHOLD, -1);
-    batches = atoi(words[1]);
-    printf("loop\t%.3f\n", loop());
+    uint32_t untimed = words[1][0] == '=' ? atoi(words[1] + 1) : 0;
+    if (untimed == 0) {
+        batches = atoi(words[1]);
+        printf("loop\t%.3f\n", loop());
+    }
     for (int i = 3; i < count; i++) {
         struct text text = text_of(words[i]);
-        for (size_t j = 0; j < sizeof CALLS / sizeof *CALLS; j++)
-            if (is_listed(CALLS[j].name, words[2]))
+        for (size_t j = 0; j < sizeof CALLS / sizeof *CALLS; j++) {
+            if (!is_listed(CALLS[j].name, words[2]))
+                continue;
+            if (untimed > 0)
+                make(&CALLS[j], text, untimed);
+            else
                 show(words[i], &CALLS[j], text);
+        }
         free(text.bytes);
     }
     return 0;
