@@ -1,6 +1,6 @@
 -- From the lanes of one load to the first line feed or carriage return.
 use Rattle.memchr.specs.Find.{Nowhere, Passes, is_byte2}
-use Rattle.std.proofs.Common.{◌≡◌, drop, ℕ, ◌<◌, ◌≤◌, ◌+◌, ◌%◌, ◌^◌, Bool, true, false, not, List, length, map, take, cond, eqb, leb}
+use Rattle.std.proofs.Common.{◌≡◌, drop, ℕ, ◌<◌, ◌≤◌, ◌+◌, ◌%◌, ◌^◌, Bool, false, not, List, length, map, take, cond, eqb, leb}
 use Rattle.std.proofs.Common.{replicate, w8, sym, ap, ◌∙◌, arith, inl, inr}
 use Rattle.std.proofs.lemmas.Bool.{cases_eq, cases_lt, eq-eqb, ne_eqb, cond-true, cond-false, leb-false, false≢true}
 use Rattle.std.proofs.lemmas.Simd.{bitmask_splat, first_set_mask_l, length-chunk, run_in_chunk_fails, run_in_chunk_le}
