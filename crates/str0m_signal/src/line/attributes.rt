@@ -1,10 +1,11 @@
 //! Attribute lines, and runs of them.
 
-ghost use Rattle.std.specs.Prelude.{◌≡◌, ℕ, List, Ok, Option, IfOk, option_map};
+ghost use Rattle.std.specs.Prelude.{◌≡◌, ℕ, List, Ok, Option, IfOk, codes, option_map};
+ghost use Rattle.str0m_signal.specs.Prelude.{strip};
 ghost use Rattle.str0m_signal.specs.line.Lines.{Run};
-ghost use Rattle.str0m_signal.specs.line.LinesReading.{lines_of, line_read, read_attribute, lines_left, ReadsTo, TakesLast};
+ghost use Rattle.str0m_signal.specs.line.LinesReading.{both_lines_left, lines_of, line_read, read_attribute, lines_left, ReadsTo, TakesLast};
 
-use crate::line::lines::{BYTES_OF_A_LINE, clean_line};
+use crate::line::lines::{BYTES_OF_A_LINE, behind_end, clean_line, cut_at_end};
 use std::alloc::{AllocError, Global};
 use str0m_values::Items;
 use str0m_values::cuts::strip;
@@ -47,8 +48,23 @@ pub(crate) fn taken_attribute_result<A: Drop>(
     taken(answer?, place)
 }
 
-/// Puts the attribute of the line behind the others, where it is one; whether it is.
+/// What the first line says after `a=`, and what follows that line. Where the text begins otherwise, as behind a run of such lines, the
+/// line's end isn't looked for.
 #[inline(always)]
+fn attribute_content(text: &str) -> Option<(&str, &str)>
+    ensures { option_map both_lines_left result ≡ line_read (strip (codes "a=")) (lines_of text.now) }
+{
+    let Some(body) = strip(text, "a=") else {
+        return None;
+    };
+    let (content, end) = cut_at_end(body);
+    match behind_end(end) {
+        Some(rest) => Some((content, rest)),
+        None => None,
+    }
+}
+
+/// Puts the attribute of the line behind the others, where it is one; whether it is.
 fn take_attribute_content<A: Attribute>(
     alloc: Global,
     line: &str,
@@ -112,8 +128,8 @@ pub(crate) fn attribute_run<A: Attribute>(
     let likely = text.len() / BYTES_OF_A_LINE;
     let mut attributes = Vec::with_capacity(alloc, likely.min(usual))?;
     let mut rest = text;
-    while let Some((content, after)) = clean_line(rest) {
-        if !take_attribute_content(alloc, content, &mut attributes)? {
+    while let Some((content, after)) = attribute_content(rest) {
+        if !A::take(alloc, content, &mut attributes)? {
             break;
         }
         rest = after;

@@ -72,7 +72,7 @@ fn line_end(bytes: &[u8]) -> Option<usize>
 }
 
 /// The text before its first line feed or carriage return, and the text from there on.
-fn cut_at_end(text: &str) -> (&str, &str)
+pub(crate) fn cut_at_end(text: &str) -> (&str, &str)
     ensures whole { text.now ≡ result.0.now ++ result.1.now }
     ensures no_feed { Lacks 10 result.0.now }
     ensures no_return { Lacks 13 result.0.now }
@@ -86,7 +86,7 @@ fn cut_at_end(text: &str) -> (&str, &str)
 
 /// What follows the line's end that the text begins with; at the end of the text there is none. A carriage return alone
 /// ends no line.
-fn behind_end(text: &str) -> Option<&str>
+pub(crate) fn behind_end(text: &str) -> Option<&str>
     ensures { option_map (λ x. x.now) result ≡ behind_end text.now }
 {
     if let Some(rest) = strip(text, "\r\n") {
