@@ -1,5 +1,5 @@
 // Times calls on texts, in one process:   driver BATCHES CALL,CALL.. FILE..
-// Makes so many calls and times none, for a program that counts their instructions:   driver =CALLS CALL,CALL.. FILE..
+// Makes so many calls and times none, where something else counts their instructions:   driver =CALLS CALL,CALL.. FILE..
 //
 // The first line says how many nanoseconds a step of a fixed loop takes. Behind it stands a line for each file and call: the
 // file, the call, nanoseconds, allocations, bytes held when the last of them was made, and the most bytes held at once; 'refused'
@@ -123,12 +123,6 @@ static double loop(void)
     return best;
 }
 
-// Makes so many calls, which aren't timed.
-static void make(const struct call *call, struct text text, uint32_t calls)
-{
-    kept = call->run(text.bytes, text.length, calls);
-}
-
 static void show(const char *path, const struct call *call, struct text text)
 {
     count_begin();
@@ -155,7 +149,9 @@ static int is_listed(const char *name, const char *list)
 
 int main(int count, char **words)
 {
-    if (count < 3) {
+    int is_untimed = count > 1 && words[1][0] == '=';
+    int asked = count > 1 ? atoi(words[1] + is_untimed) : 0;
+    if (count < 3 || asked < 1) {
         fprintf(stderr, "usage: driver BATCHES|=CALLS CALL,CALL.. FILE..\n");
         return 2;
     }
@@ -163,9 +159,8 @@ int main(int count, char **words)
     // some times as long as a smaller one, since each page is asked of the system and filled with zeros again.
     mallopt(M_MMAP_MAX, 0);
     mallopt(M_TRIM_THRESHOLD, -1);
-    uint32_t untimed = words[1][0] == '=' ? atoi(words[1] + 1) : 0;
-    if (untimed == 0) {
-        batches = atoi(words[1]);
+    if (!is_untimed) {
+        batches = asked;
         printf("loop\t%.3f\n", loop());
     }
     for (int i = 3; i < count; i++) {
@@ -173,8 +168,8 @@ int main(int count, char **words)
         for (size_t j = 0; j < sizeof CALLS / sizeof *CALLS; j++) {
             if (!is_listed(CALLS[j].name, words[2]))
                 continue;
-            if (untimed > 0)
-                make(&CALLS[j], text, untimed);
+            if (is_untimed)
+                kept = CALLS[j].run(text.bytes, text.length, asked);
             else
                 show(words[i], &CALLS[j], text);
         }
