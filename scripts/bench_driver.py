@@ -70,6 +70,14 @@ def build():
     return to, [it for it, _ in found]
 
 
+def build_readings():
+    """Builds the program that reads a text so many times, of which no allocation is counted; returns its path."""
+    kit, calls = static_library.kit(), static_library.built("bench_calls", BUILD)
+    to = BUILD / "readings"
+    run(["cc", compiled("readings", []), calls, kit / "c" / "liblibc_c.a", "-o", to])
+    return to
+
+
 def timed(driver, calls, files, batches):
     """What the driver says, by file and call, None where the text was refused; and nanoseconds of a step of its loop."""
     loop, *lines = run([driver, str(batches), ",".join(calls), *files]).splitlines()

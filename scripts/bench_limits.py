@@ -17,7 +17,7 @@ CALLS = ("read", "rows", "defaults", "rounds", "print")
 LIMITS = {"read": 12.0, "rows": 2.4, "rounds": 1.6, "print": 5.5}  # microseconds, of the whole example
 INSTRUCTIONS = 100_000  # of its reading
 EITHER = ("read", "instructions")  # one of these may be over its limit
-COUNTED = (10, 30)  # readings whose instructions are counted: what the driver does besides is taken off
+COUNTED = (10, 30)  # readings whose instructions are counted: what is done once is taken off
 HELD = 2.7  # bytes that a reading may hold for a byte of any text
 ALLOCATIONS = 60  # that reading the whole example may make
 BATCHES = 1  # of a turn
@@ -80,24 +80,24 @@ def beyond(asked):
     return [it for it in over if is_reading_over or it.what not in EITHER]
 
 
-def instructions(driver, file):
+def instructions(readings, file):
     """The instructions of a reading; None where valgrind isn't installed."""
     if not shutil.which("valgrind"):
         return None
-    few, many = (collected(driver, file, count) for count in COUNTED)
+    few, many = (collected(readings, file, count) for count in COUNTED)
     return round((many - few) / (COUNTED[1] - COUNTED[0]))
 
 
-def collected(driver, file, count):
-    """The instructions of a run of the driver that reads a file so many times more."""
+def collected(readings, file, count):
+    """The instructions of so many readings, and of what is done once."""
     counting = ["valgrind", "--tool=callgrind", "--callgrind-out-file=/dev/null"]
-    done = subprocess.run([*counting, driver, f"={count}", "read", file], stdin=subprocess.DEVNULL, capture_output=True, text=True, check=True)
+    done = subprocess.run([*counting, readings, str(count), file], stdin=subprocess.DEVNULL, capture_output=True, text=True, check=True)
     return int(re.search(r"Collected : (\d+)", done.stderr)[1])
 
 
-def timed(driver, files, count):
+def timed(driver, readings, files, count):
     """What is asked of the examples, by their files, after so many turns."""
-    examples = {it: Example(it.stat().st_size, instructions(driver, it)) for it in files}
+    examples = {it: Example(it.stat().st_size, instructions(readings, it)) for it in files}
     for _ in range(count):
         told, _ = bench_driver.timed(driver, [*CALLS, OTHER], files, BATCHES)
         for file, example in examples.items():

@@ -1,5 +1,4 @@
 // Times calls on texts, in one process:   driver BATCHES CALL,CALL.. FILE..
-// Makes so many calls and times none, where something else counts their instructions:   driver =CALLS CALL,CALL.. FILE..
 //
 // The first line says how many nanoseconds a step of a fixed loop takes. Behind it stands a line for each file and call: the
 // file, the call, nanoseconds, allocations, bytes held when the last of them was made, and the most bytes held at once; 'refused'
@@ -149,30 +148,21 @@ static int is_listed(const char *name, const char *list)
 
 int main(int count, char **words)
 {
-    int is_untimed = count > 1 && words[1][0] == '=';
-    int asked = count > 1 ? atoi(words[1] + is_untimed) : 0;
-    if (count < 3 || asked < 1) {
-        fprintf(stderr, "usage: driver BATCHES|=CALLS CALL,CALL.. FILE..\n");
+    if (count < 3) {
+        fprintf(stderr, "usage: driver BATCHES CALL,CALL.. FILE..\n");
         return 2;
     }
     // What is freed stays with the process. Else a text that is large enough for malloc to give its pages back each time takes
     // some times as long as a smaller one, since each page is asked of the system and filled with zeros again.
     mallopt(M_MMAP_MAX, 0);
     mallopt(M_TRIM_THRESHOLD, -1);
-    if (!is_untimed) {
-        batches = asked;
-        printf("loop\t%.3f\n", loop());
-    }
+    batches = atoi(words[1]);
+    printf("loop\t%.3f\n", loop());
     for (int i = 3; i < count; i++) {
         struct text text = text_of(words[i]);
-        for (size_t j = 0; j < sizeof CALLS / sizeof *CALLS; j++) {
-            if (!is_listed(CALLS[j].name, words[2]))
-                continue;
-            if (is_untimed)
-                kept = CALLS[j].run(text.bytes, text.length, asked);
-            else
+        for (size_t j = 0; j < sizeof CALLS / sizeof *CALLS; j++)
+            if (is_listed(CALLS[j].name, words[2]))
                 show(words[i], &CALLS[j], text);
-        }
         free(text.bytes);
     }
     return 0;
